@@ -1,0 +1,1 @@
+// The table in place: one array of eight cells for each process.

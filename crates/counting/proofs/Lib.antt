@@ -1,0 +1,6 @@
+-- Laws of sums, counts and sets.
+pub mod SumLaws
+pub mod CountLaws
+pub mod SetLaws
+pub mod SizeLaws
+pub mod BitLaws

@@ -1,0 +1,1 @@
+// Sums, counts and sets of process numbers: definitions in specs/, laws in proofs/. No code.

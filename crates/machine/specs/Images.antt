@@ -1,0 +1,221 @@
+-- Images: a table as 32-bit words, its serialized state (document 01, "Images").
+--
+--   slots n       ==   what each word of an image of n processes after the first stands for, in order.
+--   imageOf t     ==   the image of a table: 5N words.
+--   readImage ws  ==   the table that an image is of, or the refusal 1 to 5 with its place.
+--   writtenOf t l ==   lent words l after the image of t was written into them: 6, 7, then 13, or the first 5N set.
+--
+-- A kind of word is stated once: where its fields stand (bodyOf, spareBody), its ranges (inRange). Assumes nothing.
+use Prim.Native.Nat.{ℕ, zero, suc, _+_, _-_, _*_, _/_, _%_, _^_, min}
+use mathlib.Core.Bool.{Bool, true, false, cond, _&&_, _||_, not}
+use mathlib.Core.List.{List, [], _∷_, _++_, map}
+use lib.Dec.{eqb, leb, ltb}
+use lib.ListN.{length, getD, drop}
+use Rattle.machine.specs.Refusals.{accepted, noHeader, wrongLength, malformed, outOfRange, levelMisfit, tooFewLent}
+use Rattle.machine.specs.Tables.{Table, row, locations, levelFits, tableRefusal, handed}
+use Rattle.machine.specs.declared.Row.{Row}
+use Rattle.machine.specs.declared.NewTable.{NewTable}
+
+-- ---- the layout
+
+-- a word's kind, in bits 31 to 28, and its number, in bits 23 to 16: a process, or the k of turn[k]
+pub record Slot : Type 0 where
+  pub kind : ℕ
+  pub number : ℕ
+
+abbrev pub slot : ℕ → ℕ → Slot
+slot k q = record { kind = k; number = q }
+
+-- the kinds: location with act, bb and level; the three sets; turn
+abbrev pub STATE : ℕ
+STATE = 9
+
+abbrev pub EST : ℕ
+EST = 10
+
+abbrev pub LIS : ℕ
+LIS = 11
+
+abbrev pub AHEAD : ℕ
+AHEAD = 12
+
+abbrev pub TURN : ℕ
+TURN = 13
+
+-- four words for each of m processes, from process q on
+unfoldable pub rowSlots : ℕ → ℕ → List Slot
+rowSlots q zero = []
+rowSlots q (suc m) = slot STATE q ∷ slot EST q ∷ slot LIS q ∷ slot AHEAD q ∷ rowSlots (suc q) m
+
+-- a word for each of m turn cells, from turn[k] on
+unfoldable pub turnSlots : ℕ → ℕ → List Slot
+turnSlots k zero = []
+turnSlots k (suc m) = slot TURN k ∷ turnSlots (suc k) m
+
+unfoldable pub slots : ℕ → List Slot
+unfolding rowSlots turnSlots
+slots n = rowSlots 0 n ++ turnSlots 1 (n - 1)
+
+-- how many words the image of n processes has
+abbrev pub imageLength : ℕ → ℕ
+imageLength n = 5 * n
+
+-- the first word: bit 31 and the number of processes
+abbrev pub headerOf : ℕ → ℕ
+headerOf n = 2 ^ 31 + n
+
+-- how many processes a first word names, and whether it is a header
+abbrev pub sizeIn : ℕ → ℕ
+sizeIn w = w - 2 ^ 31
+
+abbrev pub isHeader : ℕ → Bool
+isHeader w = leb (headerOf 2) w && leb w (headerOf 16)
+
+-- ---- the fields of a word's lower half, for each kind
+
+-- the code of a location: its place among the eight
+abbrev pub placeIn : ℕ → List ℕ → ℕ
+placeIn x [] = 0
+placeIn x (v ∷ vs) = cond (eqb x v) 0 (suc (placeIn x vs))
+
+abbrev pub codeOf : ℕ → ℕ
+codeOf l = placeIn l locations
+
+-- a word of kind STATE: code in bits 15 to 12, act in bit 9, bb in bit 8, level in bits 7 to 0
+abbrev pub codeIn : ℕ → ℕ
+codeIn b = b / 2 ^ 12 % 2 ^ 4
+
+abbrev pub actIn : ℕ → ℕ
+actIn b = b / 2 ^ 9 % 2
+
+abbrev pub bbIn : ℕ → ℕ
+bbIn b = b / 2 ^ 8 % 2
+
+abbrev pub levelIn : ℕ → ℕ
+levelIn b = b % 2 ^ 8
+
+abbrev pub locationIn : ℕ → ℕ
+locationIn b = getD locations (codeIn b) 0
+
+-- a word of kind EST, LIS or AHEAD: the set in bits 15 to 0
+abbrev pub setIn : ℕ → ℕ
+setIn b = b % 2 ^ 16
+
+-- a word of kind TURN: the process in bits 7 to 0
+abbrev pub turnIn : ℕ → ℕ
+turnIn b = b % 2 ^ 8
+
+-- the lower half of a word of kind k for a row
+unfoldable pub bodyOf : ℕ → Row → ℕ
+bodyOf k r =
+    cond (eqb k STATE) (codeOf (r .location) * 2 ^ 12 + r .act * 2 ^ 9 + r .bb * 2 ^ 8 + r .level)
+    (cond (eqb k EST) (r .est)
+    (cond (eqb k LIS) (r .lis)
+    (cond (eqb k AHEAD) (r .ahead) (r .turn))))
+
+-- the bits of the lower half that no field of kind k has are 0
+unfoldable pub spareBody : ℕ → ℕ → Bool
+spareBody k w =
+    cond (eqb k STATE) (eqb (w / 2 ^ 10 % 2 ^ 2) 0)
+    (cond (eqb k TURN) (eqb (w / 2 ^ 8 % 2 ^ 8) 0) true)
+
+-- the fields of kind k are in range for n processes
+unfoldable pub inRange : ℕ → ℕ → ℕ → Bool
+inRange n k w =
+    cond (eqb k STATE) (ltb (codeIn w) 8 && ltb (levelIn w) n)
+    (cond (eqb k TURN) (ltb (turnIn w) n) (ltb (setIn w) (2 ^ n)))
+
+-- ---- writing
+
+-- the word of a slot
+unfoldable pub wordIn : Table → Slot → ℕ
+unfolding bodyOf
+wordIn t s = s .kind * 2 ^ 28 + s .number * 2 ^ 16 + bodyOf (s .kind) (row t (s .number))
+
+unfoldable pub imageOf : Table → List ℕ
+unfolding wordIn slots
+imageOf t = headerOf (length t) ∷ map (wordIn t) (slots (length t))
+
+-- what writing leaves in lent words
+pub record Written : Type 0 where
+  pub refusal : ℕ
+  pub words : List ℕ
+
+unfoldable pub writtenOf : Table → List ℕ → Written
+unfolding tableRefusal imageOf
+writtenOf t l =
+    let n = imageLength (length t) in
+    cond (not (eqb (tableRefusal t) accepted)) (record { refusal = tableRefusal t; words = l })
+    (cond (not (leb n (length l))) (record { refusal = tooFewLent; words = l })
+    (record { refusal = accepted; words = imageOf t ++ drop n l }))
+
+-- ---- reading
+
+-- kind, number and spare bits of a word are those of its slot
+abbrev pub fitsSlot : Slot → ℕ → Bool
+fitsSlot s w =
+    eqb (w / 2 ^ 28) (s .kind) && eqb (w / 2 ^ 24 % 2 ^ 4) 0 && eqb (w / 2 ^ 16 % 2 ^ 8) (s .number) && spareBody (s .kind) w
+
+-- 0, or the first refusal of a word at its slot
+unfoldable pub slotRefusal : ℕ → Slot → ℕ → ℕ
+unfolding spareBody inRange
+slotRefusal n s w =
+    cond (not (fitsSlot s w)) malformed
+    (cond (not (inRange n (s .kind) w)) outOfRange
+    (cond (eqb (s .kind) STATE && not (levelFits (locationIn w) (levelIn w))) levelMisfit accepted))
+
+-- a refusal and its place
+pub record Found : Type 0 where
+  pub refusal : ℕ
+  pub place : ℕ
+
+-- the first refusal of the words at their slots, the first of which stands at place i; place 0 where there is none
+unfoldable pub firstRefusal : ℕ → ℕ → List Slot → List ℕ → Found
+unfolding slotRefusal
+firstRefusal n i [] ws = record { refusal = accepted; place = 0 }
+firstRefusal n i (s ∷ ss) [] = record { refusal = accepted; place = 0 }
+firstRefusal n i (s ∷ ss) (w ∷ ws) =
+    elim (eqb (slotRefusal n s w) accepted) [ true ↦ firstRefusal n (suc i) ss ws | false ↦ record { refusal = slotRefusal n s w; place = i } ]
+
+-- process q's row of an image of n processes; row 0 holds turn 0
+abbrev pub rowIn : ℕ → List ℕ → ℕ → Row
+rowIn n ws q =
+    let b = getD ws (4 * q + 1) 0 in
+    record {
+      location = locationIn b;
+      act = actIn b;
+      bb = bbIn b;
+      level = levelIn b;
+      est = setIn (getD ws (4 * q + 2) 0);
+      lis = setIn (getD ws (4 * q + 3) 0);
+      ahead = setIn (getD ws (4 * q + 4) 0);
+      turn = cond (eqb q 0) 0 (turnIn (getD ws (4 * n + q) 0));
+    }
+
+-- the rows of m processes from q on
+unfoldable pub rowsIn : ℕ → List ℕ → ℕ → ℕ → Table
+rowsIn n ws q zero = []
+rowsIn n ws q (suc m) = rowIn n ws q ∷ rowsIn n ws (suc q) m
+
+-- what is wrong with an image: 1, then 2, then the first of 3, 4 and 5 in the order of the words
+unfoldable pub imageRefusal : List ℕ → Found
+unfolding firstRefusal slots
+imageRefusal ws =
+    let n = sizeIn (getD ws 0 0) in
+    let first = firstRefusal n 1 (slots n) (drop 1 ws) in
+    let all = imageLength n in
+    elim (isHeader (getD ws 0 0)) [
+      | false ↦ record { refusal = noHeader; place = 0 }
+      | true ↦ elim (eqb (length ws) all) [ false ↦ record { refusal = wrongLength; place = min (length ws) all } | true ↦ first ]
+    ]
+
+unfoldable pub tableIn : List ℕ → Table
+unfolding rowsIn
+tableIn ws = let n = sizeIn (getD ws 0 0) in rowsIn n ws 0 n
+
+-- what reading hands back
+unfoldable pub readImage : List ℕ → NewTable
+unfolding imageRefusal tableIn
+readImage ws =
+    let f = imageRefusal ws in
+    elim (eqb (f .refusal) accepted) [ true ↦ handed accepted 0 (tableIn ws) | false ↦ handed (f .refusal) (f .place) [] ]

@@ -1,0 +1,54 @@
+-- A run, an execution of the system by a list of words up to the first that is refused, and its tally (document 01, "Runs").
+--
+--   counted e h      ==  the tally h after an accepted word with event e.
+--   runFrom t h ws   ==  the words in order from table t with tally h, up to the first refused one.
+--   runOf t ws       ==  a run: 6, 7, then 12 for more than 8,192 words, before any is taken.
+--
+-- How many words a run took is what its tally says, which is zero at the start. Assumes nothing.
+use Prim.Native.Nat.{ℕ, _+_}
+use mathlib.Core.Bool.{Bool, true, false, cond, not}
+use mathlib.Core.List.{List, [], _∷_}
+use lib.Dec.{eqb, leb}
+use lib.ListN.{length}
+use Rattle.machine.specs.Refusals.{accepted, tooManyWords}
+use Rattle.machine.specs.Tables.{Table, tableRefusal}
+use Rattle.machine.specs.Steps.{refusalOf, afterWord, eventOf}
+use Rattle.machine.specs.declared.Event.{Event}
+use Rattle.machine.specs.declared.Event.the-variants.{Quiet, Come, Arrival}
+use Rattle.machine.specs.declared.Tally.{Tally}
+use Rattle.machine.specs.declared.Ran.{Ran}
+
+-- the most words of a run
+abbrev pub limit : ℕ
+limit = 8192
+
+abbrev pub zeroTally : Tally
+zeroTally = record { words = 0; comes = 0; arrivals = 0 }
+
+abbrev pub counted : Event → Tally → Tally
+counted Quiet h = record { words = h .words + 1; comes = h .comes; arrivals = h .arrivals }
+counted Come h = record { words = h .words + 1; comes = h .comes + 1; arrivals = h .arrivals }
+counted Arrival h = record { words = h .words + 1; comes = h .comes; arrivals = h .arrivals + 1 }
+
+-- the table, the tally and the refusal at the end of a run
+pub record Outcome : Type 0 where
+  pub table : Table
+  pub tally : Tally
+  pub refusal : ℕ
+
+-- what a run answers: how many words were taken, and the refusal or 0
+abbrev pub ranOf : Outcome → Ran
+ranOf o = record { taken = o .tally .words; refusal = o .refusal }
+
+unfoldable pub runFrom : Table → Tally → List ℕ → Outcome
+unfolding refusalOf afterWord eventOf
+runFrom t h [] = record { table = t; tally = h; refusal = accepted }
+runFrom t h (w ∷ ws) =
+    elim (eqb (refusalOf t w) accepted) [ true ↦ runFrom (afterWord t w) (counted (eventOf t w) h) ws | false ↦ record { table = t; tally = h; refusal = refusalOf t w } ]
+
+unfoldable pub runOf : Table → List ℕ → Outcome
+unfolding tableRefusal runFrom
+runOf t ws =
+    let taken = runFrom t zeroTally ws in
+    cond (not (eqb (tableRefusal t) accepted)) (record { table = t; tally = zeroTally; refusal = tableRefusal t })
+    (cond (not (leb (length ws) limit)) (record { table = t; tally = zeroTally; refusal = tooManyWords }) taken)

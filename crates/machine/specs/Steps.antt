@@ -1,0 +1,152 @@
+-- One step of one process, with the ahead sets (document 01, "One step" and "Ahead").
+--
+--   goRow n p c v r  ==  row r of process p after GO; c is the set of those that compete, v what turn[level] holds.
+--   moved t k p a    ==  the table after kind k, process p and argument a, where they are allowed.
+--   wordRefusal t w  ==  the first of 8 to 11 that applies to a word, or 0.
+--   refusalOf t w    ==  the step's refusal: 6, 7, then the word's, or 0.
+--   afterWord t w    ==  the table after the step; the one given where the step refuses.
+--   afterWords t ws  ==  the table after a list of words, given one by one; a refused word is passed over.
+--   answerOf t w     ==  the step's answer: the event of an accepted word, or the number of the refusal.
+--
+-- Assumes nothing.
+use Prim.Native.Nat.{ℕ, _-_}
+use mathlib.Core.Bool.{Bool, false, cond, _&&_, _||_, not}
+use mathlib.Core.List.{List, [], _∷_, map}
+use lib.Dec.{eqb, leb, ltb}
+use lib.ListN.{length, set}
+use Rattle.counting.specs.Sets.{has, size, without, others}
+use Rattle.machine.specs.Refusals.{accepted, badKind, noProcess, notAllowed, badArgument}
+use Rattle.machine.specs.Rows.{withLocation, withAct, withBb, withLevel, withEst, withLis, withAhead, withTurn}
+use Rattle.machine.specs.Tables.{Table, row, oneOf, tableRefusal, competitors}
+use Rattle.machine.specs.Words.{STAY, COME, FLICKER, GO, LOOK, kindOf, processOf, argumentOf, formed}
+use Rattle.machine.specs.declared.Row.{Row}
+use Rattle.machine.specs.declared.Event.{Event}
+use Rattle.machine.specs.declared.Stepped.{Stepped}
+
+-- ---- the row of the process that moves
+
+-- GO at 20: act 1, level n - 1, est all but p, to 21; ahead becomes c, those that compete
+unfoldable pub entered : ℕ → ℕ → ℕ → Row → Row
+entered n p c r = withLocation 21 (withAct 1 (withLevel (n - 1) (withEst (others n p) (withAhead c r))))
+
+-- GO at 21: with a level above 0 lis becomes est, to 22; else to 30
+unfoldable pub passed : Row → Row
+passed r = cond (ltb 0 (r .level)) (withLocation 22 (withLis (r .est) r)) (withLocation 30 r)
+
+-- LOOK at q, whose act is v: q leaves lis, and est too where v is 0
+unfoldable pub looked : ℕ → ℕ → Row → Row
+looked q v r = withLis (without (r .lis) q) (withEst (cond (eqb v 0) (without (r .est) q) (r .est)) r)
+
+-- GO at 23, the first that applies: est has fewer members than level; bb is 0; turn[level], which is v, is not p; else
+unfoldable pub reconsidered : ℕ → ℕ → Row → Row
+reconsidered p v r =
+    cond (ltb (size (r .est)) (r .level)) (withLocation 21 (withBb 0 (withLevel (size (r .est)) r)))
+    (cond (eqb (r .bb) 0) (withLocation 24 r)
+    (cond (not (eqb v p)) (withLocation 21 (withBb 0 (withLevel (r .level - 1) r)))
+    (withLocation 21 r)))
+
+-- GO at 24, but for the turn cell: bb 1, est all but p, to 21; ahead becomes c, those that compete, less p
+unfoldable pub pushed : ℕ → ℕ → ℕ → Row → Row
+pushed n p c r = withLocation 21 (withBb 1 (withEst (others n p) (withAhead (without c p) r)))
+
+-- GO, the row of p
+unfoldable pub goRow : ℕ → ℕ → ℕ → ℕ → Row → Row
+goRow n p c v r =
+    cond (eqb (r .location) 20) (entered n p c r)
+    (cond (eqb (r .location) 21) (passed r)
+    (cond (eqb (r .location) 22) (withLocation 23 r)
+    (cond (eqb (r .location) 23) (reconsidered p v r)
+    (cond (eqb (r .location) 24) (pushed n p c r)
+    (cond (eqb (r .location) 30) (withLocation 40 r)
+    (withLocation 10 (withAct 0 r)))))))
+
+-- ---- the table
+
+-- turn[k] becomes v
+unfoldable pub turned : ℕ → ℕ → Table → Table
+turned k v t = set t k (withTurn v (row t k))
+
+-- GO at 30, each row: p leaves ahead
+unfoldable pub forgets : ℕ → Row → Row
+forgets p r = withAhead (without (r .ahead) p) r
+
+-- FLICKER: at 24 turn[level] becomes a, elsewhere act of p
+unfoldable pub flickered : Table → ℕ → ℕ → Table
+flickered t p a =
+    cond (eqb (row t p .location) 24) (turned (row t p .level) a t) (set t p (withAct a (row t p)))
+
+-- GO: the row of p; then at 24 turn[level] becomes p, and at 30 p leaves every ahead set
+unfoldable pub gone : Table → ℕ → Table
+gone t p =
+    let r = row t p in
+    let u = set t p (goRow (length t) p (competitors t) (row t (r .level) .turn) r) in
+    cond (eqb (r .location) 24) (turned (r .level) p u) (cond (eqb (r .location) 30) (map (forgets p) u) u)
+
+-- every kind
+unfoldable pub moved : Table → ℕ → ℕ → ℕ → Table
+moved t k p a =
+    let came = set t p (withLocation 20 (row t p)) in
+    let seen = set t p (looked a (row t a .act) (row t p)) in
+    cond (eqb k STAY) t
+    (cond (eqb k COME) came
+    (cond (eqb k FLICKER) (flickered t p a)
+    (cond (eqb k GO) (gone t p) seen)))
+
+-- ---- what refuses a word
+
+-- kind k is allowed at a row
+unfoldable pub allowed : ℕ → Row → Bool
+allowed k r =
+    let l = r .location in
+    cond (eqb k STAY) (eqb l 10)
+    (cond (eqb k COME) (eqb l 10)
+    (cond (eqb k FLICKER) (oneOf l (20 ∷ 40 ∷ 24 ∷ []))
+    (cond (eqb k GO) (oneOf l (20 ∷ 21 ∷ 23 ∷ 24 ∷ 30 ∷ 40 ∷ []) || (eqb l 22 && eqb (r .lis) 0))
+    (cond (eqb k LOOK) (eqb l 22 && not (eqb (r .lis) 0))
+    false))))
+
+-- a is an argument of kind k at a row, of n processes
+unfoldable pub argumentFits : ℕ → ℕ → Row → ℕ → Bool
+argumentFits n k r a =
+    cond (eqb k FLICKER) (cond (eqb (r .location) 24) (ltb a n) (ltb a 2))
+    (cond (eqb k LOOK) (has (r .lis) a) (eqb a 0))
+
+-- 0, or the first refusal of a word; a table has at most 16 processes, so one over 15 is not below its length
+unfoldable pub wordRefusal : Table → ℕ → ℕ
+wordRefusal t w =
+    let r = row t (processOf w) in
+    cond (not (formed w)) badKind
+    (cond (not (ltb (processOf w) (length t))) noProcess
+    (cond (not (allowed (kindOf w) r)) notAllowed
+    (cond (not (argumentFits (length t) (kindOf w) r (argumentOf w))) badArgument accepted)))
+
+-- ---- the step
+
+unfoldable pub refusalOf : Table → ℕ → ℕ
+unfolding tableRefusal wordRefusal
+refusalOf t w = cond (eqb (tableRefusal t) accepted) (wordRefusal t w) (tableRefusal t)
+
+unfoldable pub afterWord : Table → ℕ → Table
+unfolding refusalOf moved
+afterWord t w =
+    let u = moved t (kindOf w) (processOf w) (argumentOf w) in
+    cond (eqb (refusalOf t w) accepted) u t
+
+unfoldable pub afterWords : Table → List ℕ → Table
+unfolding afterWord
+afterWords t [] = t
+afterWords t (w ∷ ws) = afterWords (afterWord t w) ws
+
+-- the event of an accepted word: a COME; a process that was elsewhere is at 30 now; neither
+unfoldable pub eventOf : Table → ℕ → Event
+unfolding afterWord
+eventOf t w =
+    let before = row t (processOf w) .location in
+    let after = row (afterWord t w) (processOf w) .location in
+    cond (eqb (kindOf w) COME) Event.Come
+    (cond (not (eqb before 30) && eqb after 30) Event.Arrival Event.Quiet)
+
+unfoldable pub answerOf : Table → ℕ → Stepped
+unfolding refusalOf eventOf
+answerOf t w =
+    cond (eqb (refusalOf t w) accepted) (Stepped.Moved (eventOf t w)) (Stepped.Refused (refusalOf t w))

@@ -1,0 +1,82 @@
+-- The system QmxC of section 3.2 of document 004, with the history sets lwb of section 3.4, as a relation on tables.
+--
+--   Step t p u  <=>  process p, by one alternative of the numbered statement at which it is, goes from t to u.
+--
+-- A second reading of the paper: one constructor for each alternative, its guards as premises and its assignments in the
+-- paper's order, by the cell setters and the set operations alone; the step of Steps.antt is not used. pc is `location`,
+-- lwb is `ahead`, Process is the set of numbers below N, and a flickering write is the choice (4) of section 3.1: any
+-- value of the cell's type and the same location again, or the value with the rest of the statement.
+-- Assumes nothing.
+use Prim.Native.Nat.{ℕ, _-_, _≤_, _<_}
+use mathlib.Core.Path.{_≡_}
+use mathlib.Core.Bool.{true, _&&_}
+use mathlib.Core.List.{map}
+use lib.Dec.{leb}
+use lib.ListN.{length, set}
+use Rattle.counting.specs.Sets.{has, setOf, size, without, others}
+use Rattle.machine.specs.Rows.{withLocation, withAct, withBb, withLevel, withEst, withLis, withAhead, withTurn}
+use Rattle.machine.specs.Tables.{Table, row}
+use Rattle.machine.specs.declared.Row.{Row}
+
+-- the assignment of private variables of p, and of act[p]
+abbrev pub assigned : Table → ℕ → (Row → Row) → Table
+assigned t p f = set t p (f (row t p))
+
+-- the assignment turn[k] := v
+abbrev pub turnAssigned : Table → ℕ → ℕ → Table
+turnAssigned t k v = set t k (withTurn v (row t k))
+
+-- the set of competitors, those with pc from 21 to 30
+abbrev pub Cp : Table → ℕ
+Cp t = setOf (λ q. leb 21 (row t q .location) && leb (row t q .location) 30) (length t)
+
+pub data Step (t : Table) (p : ℕ) : Table → Type 0 where
+  -- 10: NCS; goto 10 or 20
+  rests : row t p .location ≡ 10 → Step t p t
+  comes : row t p .location ≡ 10 → Step t p (assigned t p (withLocation 20))
+  -- 20: (flickering) act[p] := true; level := N - 1; est := Process \ {p}; goto 21. With entry: lwb[p] := Cp
+  flickers-20 : (a : ℕ) → row t p .location ≡ 20 → a < 2 → Step t p (assigned t p (withAct a))
+  enters :
+      row t p .location ≡ 20
+      → Step t p (assigned t p (λ r. withLocation 21 (withEst (others (length t) p) (withLevel (length t - 1) (withAct 1 (withAhead (Cp t) r))))))
+  -- 21: if level > 0 then lis := est; goto 22 else goto 30
+  starts-pass : row t p .location ≡ 21 → 0 < row t p .level → Step t p (assigned t p (λ r. withLocation 22 (withLis (r .est) r)))
+  wins : row t p .location ≡ 21 → row t p .level ≡ 0 → Step t p (assigned t p (withLocation 30))
+  -- 22: if nonempty(lis) then extract some q from lis; if not act[q] then remove q from est; goto 22 else goto 23
+  discards :
+      (q : ℕ) → row t p .location ≡ 22 → has (row t p .lis) q ≡ true → row t q .act ≡ 0
+      → Step t p (assigned t p (λ r. withEst (without (r .est) q) (withLis (without (r .lis) q) r)))
+  keeps :
+      (q : ℕ) → row t p .location ≡ 22 → has (row t p .lis) q ≡ true → (row t q .act ≡ 0 → ⊥)
+      → Step t p (assigned t p (λ r. withLis (without (r .lis) q) r))
+  ends-pass : row t p .location ≡ 22 → row t p .lis ≡ 0 → Step t p (assigned t p (withLocation 23))
+  -- 23: if #est < level then level := #est; bb := false
+  lowers :
+      row t p .location ≡ 23 → size (row t p .est) < row t p .level
+      → Step t p (assigned t p (λ r. withLocation 21 (withBb 0 (withLevel (size (r .est)) r))))
+  --     elsif not bb then goto 24
+  to-push :
+      row t p .location ≡ 23 → row t p .level ≤ size (row t p .est) → row t p .bb ≡ 0
+      → Step t p (assigned t p (withLocation 24))
+  --     elsif turn[level] /= p then level--; bb := false
+  waits :
+      row t p .location ≡ 23 → row t p .level ≤ size (row t p .est) → (row t p .bb ≡ 0 → ⊥)
+      → (row t (row t p .level) .turn ≡ p → ⊥)
+      → Step t p (assigned t p (λ r. withLocation 21 (withBb 0 (withLevel (r .level - 1) r))))
+  --     else skip; goto 21
+  skips :
+      row t p .location ≡ 23 → row t p .level ≤ size (row t p .est) → (row t p .bb ≡ 0 → ⊥)
+      → row t (row t p .level) .turn ≡ p
+      → Step t p (assigned t p (withLocation 21))
+  -- 24: (flickering) turn[level] := p; bb := true; est := Process \ {p}; goto 21. With push: lwb[p] := Cp \ {p}
+  flickers-24 : (a : ℕ) → row t p .location ≡ 24 → a < length t → Step t p (turnAssigned t (row t p .level) a)
+  pushes :
+      row t p .location ≡ 24
+      → Step t p (assigned (turnAssigned t (row t p .level) p) p (λ r. withLocation 21 (withAhead (without (Cp t) p) (withEst (others (length t) p) (withBb 1 r)))))
+  -- 30: CS; goto 40. With exit: for all q remove p from lwb[q]
+  exits :
+      row t p .location ≡ 30
+      → Step t p (assigned (map (λ r. withAhead (without (r .ahead) p) r) t) p (withLocation 40))
+  -- 40: (flickering) act[p] := false; goto 10
+  flickers-40 : (a : ℕ) → row t p .location ≡ 40 → a < 2 → Step t p (assigned t p (withAct a))
+  leaves : row t p .location ≡ 40 → Step t p (assigned t p (λ r. withLocation 10 (withAct 0 r)))

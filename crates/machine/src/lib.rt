@@ -1,0 +1,110 @@
+// The declared types and constants of the engine. What they mean is said in specs/.
+
+// One process: its location (program counter), its shared flag act, its private variables, its
+// history set ahead, and the shared cell turn[k] in the row of process k.
+#[repr(C)]
+pub struct Row {
+    pub location: u16,
+    pub act: u16,
+    pub bb: u16,
+    pub level: u16,
+    pub est: u16,
+    pub lis: u16,
+    pub ahead: u16,
+    pub turn: u16,
+}
+
+impl Row {
+    // A process that rests, with every variable 0.
+    pub const IDLE: Row = Row {
+        location: 10,
+        act: 0,
+        bb: 0,
+        level: 0,
+        est: 0,
+        lis: 0,
+        ahead: 0,
+        turn: 0,
+    };
+}
+
+// The eight locations, by their codes 0 to 7 in an image.
+pub const LOCATIONS: [u16; 8] = [10, 20, 21, 22, 23, 24, 30, 40];
+
+// The kinds of word allowed at each of LOCATIONS, as a set: bit k stands for kind k.
+pub const ALLOWED: [u16; 8] = [6, 24, 16, 48, 16, 24, 16, 24];
+
+// The parts of an event word.
+pub struct Parts {
+    pub kind: u16,
+    pub process: u16,
+    pub argument: u16,
+}
+
+// A word taken apart: its parts, or the number of the refusal.
+pub enum Apart {
+    Word(Parts),
+    Refused(u16),
+}
+
+// Parts put together: the word, or the number of the refusal.
+pub enum Together {
+    Word(u32),
+    Refused(u16),
+}
+
+// What a tally counts of an accepted word.
+pub enum Event {
+    Quiet,
+    Come,
+    Arrival,
+}
+
+// The answer of a step: the event of an accepted word, or the number of the refusal.
+pub enum Stepped {
+    Moved(Event),
+    Refused(u16),
+}
+
+// What went along with a run: words taken, COMEs, arrivals at 30.
+#[repr(C)]
+pub struct Tally {
+    pub words: u32,
+    pub comes: u32,
+    pub arrivals: u32,
+}
+
+impl Tally {
+    pub const ZERO: Tally = Tally {
+        words: 0,
+        comes: 0,
+        arrivals: 0,
+    };
+}
+
+// The answer of a run: how many words were taken, and the refusal or 0.
+#[repr(C)]
+pub struct Ran {
+    pub taken: u32,
+    pub refusal: u32,
+}
+
+// The figures of a table, for each k from 0 to N; what stands past N is 0. Where the table is
+// refused there are no figures: all are 0.
+#[repr(C)]
+pub struct Census {
+    pub refusal: u16,
+    pub critical: u16,
+    pub waiting: u16,
+    pub below: [u16; 17],
+    pub held: [u16; 17],
+}
+
+// A whole new table handed back: its rows are the first `size` of `rows`. A refusal, with the
+// place of the word that it is about, hands back no table: the size is 0.
+pub struct NewTable {
+    pub refusal: u16,
+    pub place: u16,
+    pub size: u16,
+    pub rows: [Row; 16],
+}
