@@ -1,0 +1,31 @@
+# make run     build the printing program and run it on the example, or on INPUT=file
+# make test    prove every crate, try every must-fail edit, run every test; last line: N passed, 0 failed
+# make lib     target/staticlib/libzaguypo.a, for C; include/zaguypo.h declares it
+# make bench   ns a word, a step, an image, .. beside a plain Rust engine, with ratios
+# make fuzz    compare with the Rust engine until SECONDS=600 have passed
+# make fmt     lay out every .rt and .antt file
+
+INPUT ?=
+SECONDS ?= 600
+
+.PHONY: run test lib bench fuzz fmt
+
+run:
+	@tests/run-example $(INPUT)
+
+test:
+	@tests/all
+
+lib:
+	@tests/need rt
+	@rt staticlib zaguypo
+
+bench:
+	@tests/compare bench
+
+fuzz:
+	@tests/compare fuzz $(SECONDS)
+
+fmt:
+	@tests/need rt
+	@rt fmt
