@@ -6,25 +6,27 @@
 --   one-shl         `1 << i` is 2 ^ i where the width holds it
 --   others-is       all but p is `(1 << n) - 1 - (1 << p)`
 --   and-without     `s & !(1 << q)` is s less q
---   gather-fits, gather-in, gather-out    a loop that gathers a set, one number a turn
+--   gather-fits, gather-in, gather-out, gather-digit    a loop that gathers a set, one number a turn
 --
 -- Assumes nothing.
 use Prim.Native.Nat.{ℕ, zero, suc, _+_, _-_, _*_, _/_, _%_, _^_, _≤_, _<_}
 use mathlib.Core.Path.{_≡_, refl, sym, ap, ap₂, _∙_, subst}
 use mathlib.Core.Bool.{Bool, true, false, _&&_, not}
-use native.Mathlib.Nat.{lt-of-le-of-lt, mod-eq-of-lt, mod-lt, mod-one, add-comm, pow-suc, div-one, le-of-suc-le-suc, not-suc-le-zero}
+use native.Mathlib.Nat.{lt-of-le-of-lt, le-of-suc-le-suc, not-suc-le-zero, mul-le-mul-right}
+use native.Mathlib.Nat.{mod-eq-of-lt, mod-lt, mod-one, div-one, add-comm, pow-suc}
 use native.Mathlib.Numerals.{add-one, one-add}
 use native.Mathlib.Decide.{ℕ-discrete}
 use native.Mathlib.Omega.{arith}
 use lib.Dec.{eqb}
 use lib.Bits.{bitAnd, and-le-l, and-shr, and-mod}
 use lib.Count.{ones, ones-cat, trailingZeros, under}
-use lib.Pow.{pow-lt, pow-pos, pow-mono, mod-pow-add, shr-shr}
+use lib.Pow.{pow-pos, pow-mono, mod-pow-add, shr-shr, shl-exact}
 use borrow.Author.Tests.{eq-eqb, ne-eqb}
 use Rattle.counting.specs.Sums.{bit, count}
 use Rattle.counting.specs.Sets.{has, setOf, size, without, others}
-use Rattle.counting.proofs.CountLaws.{count-zero, count-suc}
-use Rattle.counting.proofs.SetLaws.{bit-has, setOf-zero, setOf-suc, setOf-cong, setOf-lt, set-ext, has-others, has-without, without-lt}
+use Rattle.counting.proofs.CountLaws.{bit-le-one, count-zero, count-suc}
+use Rattle.counting.proofs.SetLaws.{bit-has, setOf-zero, setOf-suc, setOf-cong, setOf-lt, set-ext}
+use Rattle.counting.proofs.SetLaws.{has-others, has-without, without-lt}
 
 -- ---- members of both
 
@@ -98,13 +100,15 @@ lowest-step n s q zero e ih h =
     record { within = omega arith; member = has-rest s q ∙ l .member; least = least-suc s q e (l .least) }
 lowest-step n s q (suc d) e ih h =
     let one : s % 2 ≡ 1 = let m : s % 2 < 2 = omega arith in omega arith in
-    record { within = omega arith; member = has-first s ∙ ap (λ (x : ℕ). eqb x 1) one; least = λ r l. absurd (not-suc-le-zero l) }
+    let none : (r : ℕ) → r < 0 → has s r ≡ false = λ r l. absurd (not-suc-le-zero l) in
+    record { within = omega arith; member = has-first s ∙ ap (λ (x : ℕ). eqb x 1) one; least = none }
 
 zeros-low : (n s : ℕ) → 0 < s % 2 ^ n → IsLowest n s (trailingZeros n s)
 unfolding trailingZeros
 zeros-low zero s h = let z = mod-one s in absurd (omega arith)
 zeros-low (suc n) s h =
-    let e : s % 2 ^ suc n ≡ s / 2 % 2 ^ n * 2 + s % 2 = ap (λ (m : ℕ). s % 2 ^ m) (sym (add-one n)) ∙ mod-pow-add s n 1 in
+    let e : s % 2 ^ suc n ≡ s / 2 % 2 ^ n * 2 + s % 2 =
+    ap (λ (m : ℕ). s % 2 ^ m) (sym (add-one n)) ∙ mod-pow-add s n 1 in
     lowest-step n s (trailingZeros n (s / 2)) (s % 2) refl (zeros-low n (s / 2)) (subst (λ (m : ℕ). 0 < m) e h)
 
 pub zeros-lowest : (s : ℕ) → s < 2 ^ 16 → 0 < s → IsLowest 16 s (trailingZeros 16 s)
@@ -114,7 +118,7 @@ zeros-lowest s h l = zeros-low 16 s (subst (λ (x : ℕ). 0 < x) (sym (mod-eq-of
 
 -- `1 << i` at w bits
 pub one-shl : (w i : ℕ) → i < w → 1 * 2 ^ i % 2 ^ w ≡ 2 ^ i
-one-shl w i l = ap (λ (x : ℕ). x % 2 ^ w) {x = 1 * 2 ^ i} {y = 2 ^ i} (omega arith) ∙ mod-eq-of-lt (pow-lt {i = i} {j = w} l)
+one-shl w i l = let e = shl-exact {a = 1} 1 i w (omega arith) (omega arith) in e ∙ omega arith
 
 -- all of n processes are 2 ^ n - 1
 pub all-is : (n : ℕ) → setOf (λ q. true) n + 1 ≡ 2 ^ n
@@ -146,21 +150,34 @@ and-without s q h l =
     let o : 65535 - 1 * 2 ^ q % 65536 ≡ others 16 q = let m = one-shl 16 q l in omega (arith, others-is 16 q l) in
     rw o
     (set-ext 16 (bitAnd s (others 16 q)) (without s q) (lt-of-le-of-lt (and-le-l s (others 16 q)) h) (without-lt s q)
-    (λ r k. has-and s (others 16 q) r ∙ ap (λ (b : Bool). has s r && b) (has-others 16 q r k) ∙ sym (has-without s q r k)))
+    (λ r k.
+    has-and s (others 16 q) r ∙ ap (λ (b : Bool). has s r && b) (has-others 16 q r k) ∙ sym (has-without s q r k)))
 
--- ---- a loop that gathers a set at 16 bits, one number a turn
+-- ---- a loop that gathers a set at 16 bits, one number a turn: the digit d of i, shifted to its place, is added
 
 module _ (P : ℕ → Bool) (i : ℕ) (l : i < 16) where
+  gather-shl : (d : ℕ) → d < 2 → d * 2 ^ i % 65536 ≡ d * 2 ^ i
+  gather-shl d h = shl-exact 1 i 16 h (omega arith)
+
+  pub gather-digit : (d : ℕ) → d ≡ bit (P i) → setOf P i + d * 2 ^ i % 65536 ≡ setOf P (i + 1)
+  gather-digit d h =
+      let small : d < 2 = omega (arith, bit-le-one (P i)) in
+      rw (add-one i, setOf-suc P i, gather-shl d small, h) refl
+
+  pub gather-fits-digit : (d : ℕ) → d < 2 → setOf P i + d * 2 ^ i % 65536 < 65536
+  gather-fits-digit d h =
+      let most = mul-le-mul-right (2 ^ i) (le-of-suc-le-suc h) in
+      let exact = gather-shl d h in
+      let end : 2 ^ suc i ≤ 2 ^ 16 = pow-mono {i = suc i} {j = 16} l in
+      let double = pow-suc 2 i in
+      omega (arith, setOf-lt P i)
+
+  -- the same where the code branches, and adds `1 << i` or nothing
   pub gather-fits : setOf P i + 1 * 2 ^ i % 65536 < 65536
-  gather-fits =
-      let a = setOf-lt P i in
-      let b = one-shl 16 i l in
-      let d : 2 ^ suc i ≤ 2 ^ 16 = pow-mono {i = suc i} {j = 16} l in
-      let e = pow-suc 2 i in
-      omega arith
+  gather-fits = gather-fits-digit 1 (omega arith)
 
   pub gather-in : P i ≡ true → setOf P i + 1 * 2 ^ i % 65536 ≡ setOf P (i + 1)
-  gather-in h = rw (add-one i, setOf-suc P i, one-shl 16 i l, h) (omega arith)
+  gather-in h = gather-digit 1 (sym (ap bit h))
 
   pub gather-out : P i ≡ false → setOf P i ≡ setOf P (i + 1)
   gather-out h = rw (add-one i, setOf-suc P i, h) (omega arith)

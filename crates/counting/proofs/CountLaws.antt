@@ -1,20 +1,21 @@
 -- Laws of `count`: how many numbers below n have P. Each comes from the law of `sum` of the same name.
 --
---   count-zero, count-suc     none below 0, and what a new last number adds
+--   count-zero, count-suc, count-next    none below 0, and what a new last number adds (`suc n`, and `n + 1` of a loop)
 --   count-suc-in, -out        the same where the last number has P, and where it has not
 --   count-cong, count-mono    the same numbers, and some of the numbers
 --   count-strict, count-one   fewer by one number p, and more by at most one number p
 --   count-same-but            counts that agree but at p
 --   count-le, count-none, count-all, count-pos   at most n; 0 where none has P; n where all have; over 0 where one has
---   count-find                a number below n that has P, or none
+--   count-find, count-witness    a number below n that has P, or none; and one, where the count is over 0
 --   count-up, count-over      more numbers, and more numbers without P
 --
 -- Assumes nothing.
-use Prim.Native.Nat.{ℕ, zero, suc, _+_, _*_, _≤_, _<_}
+use Prim.Native.Nat.{ℕ, zero, suc, _+_, _≤_, _<_}
 use mathlib.Core.Path.{_≡_, refl, sym, ap, _∙_, subst}
 use mathlib.Core.Logic.{_⊎_, inl, inr}
-use mathlib.Core.Bool.{Bool, true, false, _&&_, not}
+use mathlib.Core.Bool.{Bool, true, false}
 use native.Mathlib.Nat.{le-refl, mul-one}
+use native.Mathlib.Numerals.{add-one}
 use native.Mathlib.Decide.{ℕ-discrete, decLt}
 use native.Mathlib.Omega.{arith}
 use Rattle.counting.specs.Sums.{bit, sum, count}
@@ -40,6 +41,9 @@ count-zero P = refl
 pub count-suc : (P : ℕ → Bool) (n : ℕ) → count P (suc n) ≡ count P n + bit (P n)
 unfolding count sum
 count-suc P n = refl
+
+pub count-next : (P : ℕ → Bool) (n : ℕ) → count P (n + 1) ≡ count P n + bit (P n)
+count-next P n = rw (add-one n) (count-suc P n)
 
 pub count-suc-in : (P : ℕ → Bool) (n : ℕ) → P n ≡ true → count P (suc n) ≡ count P n + 1
 count-suc-in P n h = count-suc P n ∙ ap (λ (b : Bool). count P n + bit b) h
@@ -117,7 +121,8 @@ unfolding count
 count-strict P Q n p h l hp hq =
     let a = ap bit hp in
     let b = ap bit hq in
-    omega (arith, sum-strict (λ q. bit (P q)) (λ q. bit (Q q)) n p (λ q k. bit-mono (P q) (Q q) (h q k)) l (omega arith))
+    let le : (q : ℕ) → q < n → bit (P q) ≤ bit (Q q) = λ q k. bit-mono (P q) (Q q) (h q k) in
+    omega (arith, sum-strict (λ q. bit (P q)) (λ q. bit (Q q)) n p le l (omega arith))
 
 pub count-pos : (P : ℕ → Bool) (n p : ℕ) → p < n → P p ≡ true → 1 ≤ count P n
 count-pos P n p l h =

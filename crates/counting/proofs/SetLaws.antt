@@ -4,10 +4,11 @@
 --   setOf-cong, setOf-lt         the same set, and a bound
 --   has-setOf, setOf-has         members of a set that was made; a set made of its own members
 --   has-over, has-zero           no member past the bound, none in the empty set
---   set-ext                      sets with the same members are equal
+--   set-ext, set-empty           sets with the same members are equal; a set with no member is 0
 --   has-without, has-others      members of a set less p, and of all but p
 --   without-lt, others-lt        their bounds
---   without-same, without-other, others-same, others-other    the same at p, and elsewhere
+--   without-same, without-other, without-sub, without-none    at p, elsewhere, in s, and where p is no member
+--   others-same, others-other    at p, and elsewhere
 --   without-injective            members a and b whose removal leaves the same are the same
 --
 -- Assumes nothing.
@@ -19,11 +20,12 @@ use native.Mathlib.Numerals.{one-add}
 use native.Mathlib.Decide.{ℕ-discrete, decLt}
 use native.Mathlib.Omega.{arith}
 use lib.Dec.{eqb}
-use lib.Pow.{pow-mono, mod-pow-add, high, low, field, mod-mod-pow}
+use lib.Pow.{pow-pos, pow-mono, mod-pow-add, high, low, field, mod-mod-pow}
 use borrow.Author.Tests.{eq-eqb, ne-eqb}
 use Rattle.counting.specs.Sums.{bit, sum}
 use Rattle.counting.specs.Sets.{has, setOf, without, others}
 use Rattle.counting.proofs.SumLaws.{sum-cong}
+use Rattle.counting.proofs.LessLaws.{less, less-same, less-other, less-implies}
 
 -- ---- the set of the numbers that have P
 
@@ -82,7 +84,9 @@ has-low s n q l =
 module _ (x n : ℕ) (b : Bool) (l : x < 2 ^ n) where
   pub has-top : has (x + bit b * 2 ^ n) n ≡ b
   unfolding has
-  has-top = ap (λ (y : ℕ). eqb (y % 2) 1) (ap (λ (y : ℕ). y / 2 ^ n) (add-comm x (bit b * 2 ^ n)) ∙ high (bit b) n l) ∙ two b
+  has-top =
+      ap (λ (y : ℕ). eqb (y % 2) 1) (ap (λ (y : ℕ). y / 2 ^ n) (add-comm x (bit b * 2 ^ n)) ∙ high (bit b) n l)
+      ∙ two b
     where
       two : (b : Bool) → eqb (bit b % 2) 1 ≡ b
       two true = refl
@@ -100,7 +104,8 @@ has-setOf P (suc n) q l = rw (setOf-suc P n) (go (ℕ-discrete q n) (has-setOf P
   where
     go : Dec (q ≡ n) → (q < n → has (setOf P n) q ≡ P q) → has (setOf P n + bit (P n) * 2 ^ n) q ≡ P q
     go (yes e) ih =
-        subst (λ (x : ℕ). has (setOf P n + bit (P n) * 2 ^ n) x ≡ P x) (sym e) (has-top (setOf P n) n (P n) (setOf-lt P n))
+        let top = has-top (setOf P n) n (P n) (setOf-lt P n) in
+        subst (λ (x : ℕ). has (setOf P n + bit (P n) * 2 ^ n) x ≡ P x) (sym e) top
     go (no ne) ih = let k : q < n = omega (arith, ne) in has-below (setOf P n) n (P n) (setOf-lt P n) q k ∙ ih k
 
 -- the members of s below n are s's lowest n digits
@@ -120,46 +125,34 @@ set-ext n a b ha hb h = sym (setOf-has a n ha) ∙ setOf-cong (has a) (has b) n 
 
 -- a set without members is 0
 pub set-empty : (n s : ℕ) → s < 2 ^ n → ((q : ℕ) → q < n → has s q ≡ false) → s ≡ 0
-set-empty n s l h = set-ext n s 0 l (omega (arith, lib.Pow.pow-pos n)) (λ q k. h q k ∙ sym (has-zero q))
+set-empty n s l h = set-ext n s 0 l (pow-pos n) (λ q k. h q k ∙ sym (has-zero q))
 
 -- ---- a set less p, and all but p
-
-and-false : (b : Bool) → (b && false) ≡ false
-and-false true = refl
-and-false false = refl
-
-and-true : (b : Bool) → (b && true) ≡ b
-and-true true = refl
-and-true false = refl
 
 module _ (s p : ℕ) where
   pub has-without : (q : ℕ) → q < 16 → has (without s p) q ≡ (has s q && not (eqb q p))
   unfolding without
-  has-without q l = has-setOf (λ x. has s x && not (eqb x p)) 16 q l
+  has-without q l = has-setOf (less (has s) p) 16 q l
 
   pub without-lt : without s p < 2 ^ 16
   unfolding without
-  without-lt = setOf-lt (λ q. has s q && not (eqb q p)) 16
+  without-lt = setOf-lt (less (has s) p) 16
 
   -- p is no member any more
   pub without-same : has (without s p) p ≡ false
   without-same = go (decLt p 16)
     where
       go : Dec (p < 16) → has (without s p) p ≡ false
-      go (yes l) = has-without p l ∙ ap (λ (b : Bool). has s p && not b) (eq-eqb p p refl) ∙ and-false (has s p)
+      go (yes l) = has-without p l ∙ less-same (has s) p
       go (no nl) = has-over (without s p) 16 p without-lt (omega (arith, nl))
 
   -- any other number is a member as before
   pub without-other : (q : ℕ) → q < 16 → (q ≡ p → ⊥) → has (without s p) q ≡ has s q
-  without-other q l ne = has-without q l ∙ ap (λ (b : Bool). has s q && not b) (ne-eqb q p ne) ∙ and-true (has s q)
+  without-other q l ne = has-without q l ∙ less-other (has s) p q ne
 
   -- what is left was a member
   pub without-sub : (q : ℕ) → q < 16 → has (without s p) q ≡ true → has s q ≡ true
-  without-sub q l h = left (has s q) (not (eqb q p)) (sym (has-without q l) ∙ h)
-    where
-      left : (a b : Bool) → (a && b) ≡ true → a ≡ true
-      left true b e = refl
-      left false b e = e
+  without-sub q l h = less-implies (has s) p q (sym (has-without q l) ∙ h)
 
   -- nothing changes where p is no member
   pub without-none : s < 2 ^ 16 → has s p ≡ false → without s p ≡ s

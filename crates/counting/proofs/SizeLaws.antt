@@ -8,18 +8,18 @@
 --   size-pos, size-member         a member makes the size at least 1, and a size of at least 1 has a member
 --
 -- Assumes nothing.
-use Prim.Native.Nat.{ℕ, zero, suc, _+_, _^_, _≤_, _<_}
+use Prim.Native.Nat.{ℕ, _+_, _^_, _≤_, _<_}
 use mathlib.Core.Path.{_≡_, refl, sym, ap, _∙_}
-use mathlib.Core.Bool.{Bool, true, false, not}
-use native.Mathlib.Nat.{lt-of-lt-of-le}
+use mathlib.Core.Bool.{Bool, true, not}
 use native.Mathlib.Omega.{arith}
 use lib.Dec.{eqb}
-use lib.Pow.{pow-mono}
 use borrow.Author.Tests.{eq-eqb, ne-eqb}
 use Rattle.counting.specs.Sums.{bit, count}
 use Rattle.counting.specs.Sets.{has, setOf, size, without, others}
-use Rattle.counting.proofs.CountLaws.{count-cong, count-mono, count-le, count-all, count-none, count-over, count-one, count-same-but, count-pos, count-witness, Implies}
-use Rattle.counting.proofs.SetLaws.{setOf-lt, has-setOf, has-over, has-zero, without-same, without-other, without-sub}
+use Rattle.counting.proofs.CountLaws.{Implies, count-cong, count-mono, count-le, count-all, count-none}
+use Rattle.counting.proofs.CountLaws.{count-over, count-one, count-same-but, count-pos, count-witness}
+use Rattle.counting.proofs.SetLaws.{setOf-lt, has-setOf, has-over, has-zero}
+use Rattle.counting.proofs.SetLaws.{without-same, without-other, without-sub}
 
 -- the members of a set of processes below n are counted below n
 pub size-count : (s n : ℕ) → s < 2 ^ n → n ≤ 16 → size s ≡ count (has s) n

@@ -1,6 +1,6 @@
 -- Laws of `sum`, the one recursion that counts and sets are made of.
 --
---   sum-zero, sum-suc   the sum over no number, and what a new last number adds
+--   sum-zero, sum-suc, sum-next   the sum over no number, and what a new last number adds (`n + 1` in a loop)
 --   sum-cong            functions that agree below n have the same sum
 --   sum-mono            functions in order below n have sums in order
 --   sum-strict          and strictly, where one place is strict
@@ -13,6 +13,7 @@
 use Prim.Native.Nat.{ℕ, zero, suc, _+_, _*_, _≤_, _<_}
 use mathlib.Core.Path.{_≡_, refl, sym, ap₂, subst}
 use native.Mathlib.Nat.{add-le-add, le-refl, suc-mul}
+use native.Mathlib.Numerals.{add-one}
 use native.Mathlib.Decide.{ℕ-discrete}
 use native.Mathlib.Omega.{arith}
 use Rattle.counting.specs.Sums.{sum}
@@ -24,6 +25,9 @@ sum-zero f = refl
 pub sum-suc : (f : ℕ → ℕ) (n : ℕ) → sum f (suc n) ≡ sum f n + f n
 unfolding sum
 sum-suc f n = refl
+
+pub sum-next : (f : ℕ → ℕ) (n : ℕ) → sum f (n + 1) ≡ sum f n + f n
+sum-next f n = rw (add-one n) (sum-suc f n)
 
 pub sum-cong : (f g : ℕ → ℕ) (n : ℕ) → ((q : ℕ) → q < n → f q ≡ g q) → sum f n ≡ sum g n
 unfolding sum

@@ -1,0 +1,2 @@
+-- What the functions on sets answer and require, beside the definitions of `counting`.
+pub mod Answers
