@@ -34,6 +34,52 @@ pub const LOCATIONS: [u16; 8] = [10, 20, 21, 22, 23, 24, 30, 40];
 // The kinds of word allowed at each of LOCATIONS, as a set: bit k stands for kind k.
 pub const ALLOWED: [u16; 8] = [6, 24, 16, 48, 16, 24, 16, 24];
 
+// The kinds of event word.
+pub const STAY: u16 = 1;
+
+pub const COME: u16 = 2;
+
+pub const FLICKER: u16 = 3;
+
+pub const GO: u16 = 4;
+
+pub const LOOK: u16 = 5;
+
+// The most words of a run.
+pub const RUN_LIMIT: usize = 8192;
+
+// The most bytes of an input.
+pub const BYTES_LIMIT: usize = 33088;
+
+// The refusals by number; specs/Refusals.antt says what each means.
+pub const NO_HEADER: u16 = 1;
+
+pub const WRONG_LENGTH: u16 = 2;
+
+pub const MALFORMED: u16 = 3;
+
+pub const OUT_OF_RANGE: u16 = 4;
+
+pub const LEVEL_MISFIT: u16 = 5;
+
+pub const WRONG_SIZE: u16 = 6;
+
+pub const UNSOUND_ROW: u16 = 7;
+
+pub const BAD_KIND: u16 = 8;
+
+pub const NO_PROCESS: u16 = 9;
+
+pub const NOT_ALLOWED: u16 = 10;
+
+pub const BAD_ARGUMENT: u16 = 11;
+
+pub const TOO_MANY_WORDS: u16 = 12;
+
+pub const TOO_FEW_LENT: u16 = 13;
+
+pub const BAD_BYTES: u16 = 14;
+
 // The parts of an event word.
 pub struct Parts {
     pub kind: u16,

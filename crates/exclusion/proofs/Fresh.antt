@@ -1,0 +1,123 @@
+-- A fresh table has the invariant, and there is one for every number of processes from 2 to 16.
+--
+--   Resting r           <=>  the process of r does not compete, and has bb 0 and nobody ahead.
+--   fresh-rests         every row of a fresh table rests, and so do those past its end
+--   fresh-invariant     so the invariant holds
+--   freshTable-fresh    the table that is made for n processes is fresh
+--
+-- Assumes nothing.
+use Prim.Native.Nat.{ℕ, zero, suc, _≤_}
+use mathlib.Core.Path.{_≡_, refl, sym, _∙_, subst}
+use mathlib.Core.Bool.{Bool, true, false, _&&_, false≢true}
+use mathlib.Core.Logic.{inl}
+use mathlib.Core.List.{[], _∷_}
+use native.Mathlib.Omega.{arith}
+use lib.Dec.{eqb}
+use lib.Pow.{pow-pos}
+use lib.ListN.{length, length-replicate, getD-replicate}
+use borrow.Author.Tests.{eqb-true}
+use Rattle.counting.specs.Sets.{has}
+use Rattle.counting.proofs.SetLaws.{has-zero}
+use Rattle.counting.proofs.CountLaws.{count-none}
+use Rattle.machine.specs.Rows.{idle, blank}
+use Rattle.machine.specs.Tables.{Table, row, sound, resting, allResting, fresh, freshTable, competes}
+use Rattle.machine.specs.declared.Row.{Row}
+use Rattle.machine.proofs.TestLaws.{and-left, and-right, and-intro}
+use Rattle.machine.proofs.SoundRows.{SoundRow, sound-accepted, accepted-sound, rows-sound}
+use Rattle.exclusion.proofs.Frame.{competes-at}
+use Rattle.exclusion.proofs.Reaching.{isReaching, reaches-of-isReaching, reaches-competes}
+use Rattle.exclusion.proofs.Bounded.{Bounded, fails}
+use Rattle.exclusion.proofs.Invariant.{Invariant}
+
+record Resting (r : Row) : Type 0 where
+  idle-now : competes r ≡ false
+  no-bb : r .bb ≡ 0
+  none-ahead : r .ahead ≡ 0
+
+rests-of-test : (r : Row) → resting r ≡ true → Resting r
+rests-of-test r h =
+    let a : Bool = eqb (r .location) 10 in
+    let b : Bool = eqb (r .act) 0 in
+    let c : Bool = eqb (r .bb) 0 in
+    let d : Bool = eqb (r .ahead) 0 in
+    let abc = and-left (a && b && c) d h in
+    record {
+      idle-now = competes-at r 10 (eqb-true _ _ (and-left a b (and-left (a && b) c abc)));
+      no-bb = eqb-true _ _ (and-right (a && b) c abc);
+      none-ahead = eqb-true _ _ (and-right (a && b && c) d h);
+    }
+
+all-rest : (t : Table) → allResting t ≡ true → (q : ℕ) → Resting (row t q)
+unfolding allResting
+all-rest [] h q = record { idle-now = refl; no-bb = refl; none-ahead = refl }
+all-rest (r ∷ t) h zero = rests-of-test r (and-left (resting r) (allResting t) h)
+all-rest (r ∷ t) h (suc q) = all-rest t (and-right (resting r) (allResting t) h) q
+
+module _ (t : Table) (h : fresh t ≡ true) where
+  fresh-rests : (q : ℕ) → Resting (row t q)
+  unfolding fresh
+  fresh-rests = all-rest t (and-right (sound t) (allResting t) h)
+
+  pub fresh-sound : sound t ≡ true
+  unfolding fresh
+  fresh-sound = and-left (sound t) (allResting t) h
+
+  nobody-competes : (q : ℕ) → competes (row t q) ≡ true → ⊥
+  nobody-competes q c = false≢true (sym (fresh-rests q .idle-now) ∙ c)
+
+  nobody-ahead : (q x : ℕ) → has (row t q .ahead) x ≡ true → ⊥
+  nobody-ahead q x m =
+      false≢true (sym (has-zero x) ∙ subst (λ (s : ℕ). has s x ≡ true) (fresh-rests q .none-ahead) m)
+
+  fresh-bounded : (k : ℕ) → Bounded t k
+  fresh-bounded k =
+      let none = count-none (λ q. isReaching k (row t q)) (length t)
+      (λ q l. fails (isReaching k (row t q))
+      (λ m. nobody-competes q (reaches-competes k (row t q) (reaches-of-isReaching k (row t q) m)))) in
+      inl (omega arith)
+
+  pub fresh-invariant : Invariant t
+  fresh-invariant =
+      record {
+        sound = sound-accepted t fresh-sound;
+        bb-inside = λ q n. absurd (n (fresh-rests q .no-bb));
+        ahead-in-est = λ q x m. absurd (nobody-ahead q x m);
+        act-shown = λ q c. absurd (nobody-competes q c);
+        ahead-competes = λ q x m. absurd (nobody-ahead q x m);
+        bounded = fresh-bounded;
+      }
+
+-- ---- the table that is made
+
+made-rests : (n : ℕ) → allResting (freshTable n) ≡ true
+unfolding allResting
+made-rests zero = refl
+made-rests (suc n) = made-rests n
+
+made-row : (n q : ℕ) → 2 ≤ n → SoundRow n q idle
+made-row n q l =
+    record {
+      location-known = refl;
+      act-low = omega arith;
+      bb-low = omega arith;
+      level-low = omega arith;
+      est-low = pow-pos n;
+      lis-low = pow-pos n;
+      ahead-low = pow-pos n;
+      turn-low = omega arith;
+      turn-none = λ e. refl;
+      level-some = λ a b. absurd (omega arith);
+      level-none = λ e. refl;
+    }
+
+pub freshTable-fresh : (n : ℕ) → 2 ≤ n → n ≤ 16 → fresh (freshTable n) ≡ true
+unfolding fresh
+freshTable-fresh n a b =
+    let e : length (freshTable n) ≡ n = length-replicate n idle in
+    and-intro (sound (freshTable n)) (allResting (freshTable n))
+    (accepted-sound (freshTable n)
+    (rows-sound (freshTable n) (omega arith) (omega arith)
+    (λ q l.
+    subst (λ (m : ℕ). SoundRow m q (row (freshTable n) q)) (sym e)
+    (subst (SoundRow n q) (sym (getD-replicate n q idle blank (omega arith))) (made-row n q a)))))
+    (made-rests n)

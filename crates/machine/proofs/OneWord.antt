@@ -1,0 +1,229 @@
+-- Every step of a process has one word.
+--
+--   same-word    accepted words of one process with the same table after them are the same
+--   one-word     a step of a sound table is what exactly one word of its process does
+--
+-- Assumes nothing.
+use Prim.Native.Nat.{ℕ, _≤_, _<_}
+use mathlib.Core.Path.{_≡_, refl, sym, ap, ap₂, _∙_, subst}
+use mathlib.Core.Logic.{_≢_}
+use mathlib.Core.Bool.{Bool, true, false, cond, not, false≢true}
+use mathlib.Core.List.{List, [], _∷_}
+use native.Mathlib.Decide.{decLt}
+use native.Mathlib.Omega.{arith}
+use lib.Dec.{eqb, leb, ltb}
+use lib.ListN.{length, set}
+use borrow.Author.Tests.{leb-true, eq-eqb, ne-eqb, lt-ltb, le-ltb}
+use Rattle.counting.specs.Sets.{has}
+use Rattle.counting.proofs.SetLaws.{has-over, has-zero}
+use Rattle.machine.specs.Rows.{withAct}
+use Rattle.machine.specs.Tables.{Table, row, oneOf, sound, tableRefusal, competitors}
+use Rattle.machine.specs.Words.{STAY, COME, FLICKER, GO, LOOK, isKind, kindOf, processOf, argumentOf, spareClear, formed, wordOf}
+use Rattle.machine.specs.Steps.{entered, passed, looked, reconsidered, gone, moved, allowed, argumentFits, refusalOf, afterWord}
+use Rattle.machine.specs.System.{assigned, Step}
+use Rattle.machine.specs.System.Step.{rests, comes, flickers-20, enters, starts-pass, wins, discards, keeps, ends-pass, lowers, to-push, waits, skips, flickers-24, pushes, exits, flickers-40, leaves}
+use Rattle.machine.proofs.TestLaws.{and-left, and-right, and-intro, or-left, or-right, oneOf-at}
+use Rattle.machine.proofs.SoundRows.{sound-row, sound-few, sound-accepted}
+use Rattle.machine.proofs.Forms.{gone-20, gone-21, gone-22, gone-23, gone-40, flickered-act, flickered-turn, gone-push, gone-exit}
+use Rattle.machine.proofs.Accepted.{Says, accepted-table, accepted-says, accepted-moved, says-accepted}
+use Rattle.machine.proofs.WordLaws.{kind-wordOf, process-wordOf, argument-wordOf, formed-wordOf, parts-injective}
+use Rattle.machine.proofs.Choices.{kindBy, kind-shows, argument-shows}
+
+-- ---- at most one
+
+-- choices of p, each allowed with its argument, that lead to the same table
+same-choice : (t : Table) (p : ℕ)
+    → tableRefusal t ≡ 0
+    → p < length t
+    → (j k a b : ℕ)
+    → 1 ≤ j
+    → j ≤ 5
+    → 1 ≤ k
+    → k ≤ 5
+    → allowed j (row t p) ≡ true
+    → allowed k (row t p) ≡ true
+    → argumentFits (length t) j (row t p) a ≡ true
+    → argumentFits (length t) k (row t p) b ≡ true
+    → moved t j p a ≡ moved t k p b
+    → (j ≡ k) × (a ≡ b)
+same-choice t p z l j k a b j1 j5 k1 k5 hj hk fa fb e =
+    let i : j ≡ k =
+    sym (kind-shows t p l j a j1 j5 hj)
+    ∙ ap (λ (u : Table). kindBy (row t p .location) (row u p .location)) e
+    ∙ kind-shows t p l k b k1 k5 hk in (
+      i,
+      argument-shows t p l k a b k1 k5 (sound-row t z p l) (sound-few t z) hk
+          (subst (λ (x : ℕ). argumentFits (length t) x (row t p) a ≡ true) i fa) fb
+          (subst (λ (x : ℕ). moved t x p a ≡ moved t k p b) i e),
+    )
+
+pub same-word : (t : Table) (v w : ℕ)
+    → refusalOf t v ≡ 0
+    → refusalOf t w ≡ 0
+    → processOf v ≡ processOf w
+    → afterWord t v ≡ afterWord t w
+    → v ≡ w
+same-word t v w x y i e =
+    let sv = accepted-says t v x in
+    let sw = accepted-says t w y in
+    let p = processOf w in
+    let m : moved t (kindOf v) p (argumentOf v) ≡ moved t (kindOf w) p (argumentOf w) =
+    ap (λ (q : ℕ). moved t (kindOf v) q (argumentOf v)) (sym i)
+    ∙ sym (accepted-moved t v x)
+    ∙ e
+    ∙ accepted-moved t w y in
+    let c =
+    same-choice t p (accepted-table t w y) (sw .process-in) (kindOf v) (kindOf w) (argumentOf v) (argumentOf w)
+    (sv .kind-first) (sv .kind-last) (sw .kind-first) (sw .kind-last)
+    (subst (λ (q : ℕ). allowed (kindOf v) (row t q) ≡ true) i (sv .allowed-there)) (sw .allowed-there)
+    (subst (λ (q : ℕ). argumentFits (length t) (kindOf v) (row t q) (argumentOf v) ≡ true) i (sv .argument-fits))
+    (sw .argument-fits)
+    m in
+    parts-injective v w (sv .formed-so) (sw .formed-so) (c .0) i (c .1)
+
+-- ---- at least one
+
+-- exactly one word of p is accepted and leads to u
+abbrev One : Table → ℕ → Table → Type 0
+One t p u =
+    (w : ℕ)
+    × (processOf w ≡ p)
+    × (refusalOf t w ≡ 0)
+    × (afterWord t w ≡ u)
+    × ((v : ℕ) → processOf v ≡ p → refusalOf t v ≡ 0 → afterWord t v ≡ u → v ≡ w)
+
+-- a word with the parts of a choice says that choice
+says-choice : (t : Table) (w k p a : ℕ)
+    → formed w ≡ true
+    → kindOf w ≡ k
+    → processOf w ≡ p
+    → argumentOf w ≡ a
+    → p < length t
+    → allowed k (row t p) ≡ true
+    → argumentFits (length t) k (row t p) a ≡ true
+    → Says t w
+says-choice t w k p a f ik ip ia l h g =
+    let kind = and-left (isKind (kindOf w)) (spareClear w) f in
+    record {
+      formed-so = f;
+      kind-first = leb-true _ _ (and-left (leb 1 (kindOf w)) (leb (kindOf w) 5) kind);
+      kind-last = leb-true _ _ (and-right (leb 1 (kindOf w)) (leb (kindOf w) 5) kind);
+      process-in = subst (λ (x : ℕ). x < length t) (sym ip) l;
+      allowed-there = ap₂ (λ (x y : ℕ). allowed x (row t y)) ik ip ∙ h;
+      argument-fits =
+          ap₂ (λ (x y : ℕ). argumentFits (length t) x (row t y) (argumentOf w)) ik ip
+          ∙ ap (argumentFits (length t) k (row t p)) ia
+          ∙ g;
+    }
+
+module _ (t : Table) (p : ℕ) (z : tableRefusal t ≡ 0) (l : p < length t) where
+  -- the word of a kind and an argument that are allowed
+  chosen : {u : Table} (k a : ℕ)
+      → isKind k ≡ true
+      → allowed k (row t p) ≡ true
+      → argumentFits (length t) k (row t p) a ≡ true
+      → a < 256
+      → moved t k p a ≡ u
+      → One t p u
+  chosen {u} k a kind h f small e =
+      let few = sound-few t z in
+      let hp : p < 256 = omega arith in
+      let w = wordOf k p a in
+      let ik = kind-wordOf k p a hp small in
+      let ip = process-wordOf k p a hp small in
+      let ia = argument-wordOf k p a hp small in
+      let y = says-accepted t w z (says-choice t w k p a (formed-wordOf k p a hp small kind) ik ip ia l h f) in
+      let m : afterWord t w ≡ u =
+      accepted-moved t w y
+      ∙ ap₂ (λ (x q : ℕ). moved t x q (argumentOf w)) ik ip
+      ∙ ap (moved t k p) ia
+      ∙ e in
+      (w, ip, y, m, λ v j x i. same-word t v w x y (j ∙ sym ip) (i ∙ sym m))
+
+  -- where each is allowed
+  abbrev flickers : List ℕ
+  flickers = 20 ∷ 40 ∷ 24 ∷ []
+
+  abbrev goes : List ℕ
+  goes = 20 ∷ 21 ∷ 23 ∷ 24 ∷ 30 ∷ 40 ∷ []
+
+  -- GO at a location where it is always allowed
+  chosen-go : {u : Table} (v : ℕ) → row t p .location ≡ v → oneOf v goes ≡ true → gone t p ≡ u → One t p u
+  unfolding allowed argumentFits moved
+  chosen-go v e o m =
+      let h = oneOf-at (row t p .location) v goes e o in
+      chosen GO 0 refl (or-left (oneOf (row t p .location) goes) _ h) refl (omega arith) m
+
+  -- FLICKER away from 24
+  chosen-act : (v a : ℕ)
+      → row t p .location ≡ v
+      → oneOf v flickers ≡ true
+      → v ≢ 24
+      → a < 2
+      → One t p (assigned t p (withAct a))
+  unfolding allowed argumentFits moved
+  chosen-act v a e o ne h =
+      let away : row t p .location ≢ 24 = λ i. ne (sym e ∙ i) in
+      chosen FLICKER a refl (oneOf-at (row t p .location) v flickers e o)
+      (ap (λ (b : Bool). cond b (ltb a (length t)) (ltb a 2)) (ne-eqb _ _ away) ∙ lt-ltb a 2 h)
+      (omega arith) (flickered-act t p a away)
+
+  -- LOOK at a member of lis
+  chosen-look : {u : Table} (q : ℕ)
+      → row t p .location ≡ 22
+      → has (row t p .lis) q ≡ true
+      → set t p (looked q (row t q .act) (row t p)) ≡ u
+      → One t p u
+  unfolding allowed argumentFits moved
+  chosen-look q e h m =
+      let some : row t p .lis ≢ 0 = λ i. false≢true (sym (has-zero q) ∙ ap (λ (s : ℕ). has s q) (sym i) ∙ h) in
+      chosen LOOK q refl
+      (and-intro (eqb (row t p .location) 22) (not (eqb (row t p .lis) 0)) (eq-eqb _ _ e) (ap not (ne-eqb _ _ some)))
+      h (member-low (decLt q 256)) m
+    where
+      member-low : Dec (q < 256) → q < 256
+      member-low (yes k) = k
+      member-low (no nk) =
+          let few = sound-few t z in
+          let none = has-over (row t p .lis) (length t) q (sound-row t z p l .lis-low) (omega (arith, nk)) in
+          absurd (false≢true (sym none ∙ h))
+
+  one : {u : Table} → Step t p u → One t p u
+  unfolding allowed argumentFits moved entered competitors passed looked reconsidered
+  one (rests e) = chosen STAY 0 refl (eq-eqb _ _ e) refl (omega arith) refl
+  one (comes e) = chosen COME 0 refl (eq-eqb _ _ e) refl (omega arith) refl
+  one (flickers-20 a e h) = chosen-act 20 a e refl (omega arith) h
+  one (enters e) = chosen-go 20 e refl (gone-20 t p e)
+  one (starts-pass e h) = chosen-go 21 e refl (gone-21 t p e ∙ rw (lt-ltb _ _ h))
+  one (wins e h) = chosen-go 21 e refl (gone-21 t p e ∙ rw (le-ltb 0 (row t p .level) (omega arith)))
+  one (discards q e h a) = chosen-look q e h (rw (eq-eqb _ _ a))
+  one (keeps q e h a) = chosen-look q e h (rw (ne-eqb _ _ a))
+  one (ends-pass e h) =
+      chosen GO 0 refl
+      (or-right (oneOf (row t p .location) goes) _
+      (and-intro (eqb (row t p .location) 22) (eqb (row t p .lis) 0) (eq-eqb _ _ e) (eq-eqb _ _ h)))
+      refl (omega arith) (gone-22 t p e)
+  one (lowers e h) = chosen-go 23 e refl (gone-23 t p e ∙ rw (lt-ltb _ _ h))
+  one (to-push e h b) = chosen-go 23 e refl (gone-23 t p e ∙ rw (le-ltb _ _ h, eq-eqb _ _ b))
+  one (waits e h b v) = chosen-go 23 e refl (gone-23 t p e ∙ rw (le-ltb _ _ h, ne-eqb _ _ b, ne-eqb _ _ v))
+  one (skips e h b v) = chosen-go 23 e refl (gone-23 t p e ∙ rw (le-ltb _ _ h, ne-eqb _ _ b, eq-eqb _ _ v))
+  one (flickers-24 a e h) =
+      let few = sound-few t z in
+      chosen FLICKER a refl (oneOf-at (row t p .location) 24 flickers e refl)
+      (ap (λ (b : Bool). cond b (ltb a (length t)) (ltb a 2)) (eq-eqb _ _ e) ∙ lt-ltb a (length t) h)
+      (omega arith) (flickered-turn t p a e)
+  one (pushes e) = chosen-go 24 e refl (gone-push t p l e)
+  one (exits e) = chosen-go 30 e refl (gone-exit t p l e)
+  one (flickers-40 a e h) = chosen-act 40 a e refl (omega arith) h
+  one (leaves e) = chosen-go 40 e refl (gone-40 t p e)
+
+pub one-word : (t u : Table) (p : ℕ)
+    → sound t ≡ true
+    → p < length t
+    → Step t p u
+    → (w : ℕ)
+    × (processOf w ≡ p)
+    × (refusalOf t w ≡ 0)
+    × (afterWord t w ≡ u)
+    × ((v : ℕ) → processOf v ≡ p → refusalOf t v ≡ 0 → afterWord t v ≡ u → v ≡ w)
+one-word t u p h l x = one t p (sound-accepted t h) l x

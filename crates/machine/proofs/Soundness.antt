@@ -1,0 +1,171 @@
+-- Every step keeps a table sound, and its number of processes.
+--
+--   step-keeps-length, step-keeps-sound    for a step of the system, from any sound table
+--   word-keeps-length, word-keeps-sound    for a word, accepted or refused
+--   words-keep-length, words-keep-sound    for a list of words
+--
+-- Assumes nothing.
+use Prim.Native.Nat.{ℕ, _-_, _^_, _≤_, _<_}
+use mathlib.Core.Path.{_≡_, refl, sym, ap, _∙_, subst}
+use mathlib.Core.Bool.{true, _&&_}
+use mathlib.Core.Logic.{⊎-elim}
+use mathlib.Core.List.{List, map}
+use native.Mathlib.Omega.{arith}
+use lib.Dec.{leb}
+use lib.ListN.{length, length-set, length-map}
+use borrow.Author.Tests.{leb-true}
+use Rattle.counting.specs.Sets.{size, without, others}
+use Rattle.counting.proofs.SetLaws.{setOf-lt, others-lt}
+use Rattle.machine.specs.Rows.{withLocation, withBb, withLevel, withLis, withAhead}
+use Rattle.machine.specs.Tables.{Table, row, oneOf, locations, tableRefusal}
+use Rattle.machine.specs.Words.{processOf}
+use Rattle.machine.specs.Steps.{afterWord, afterWords}
+use Rattle.machine.specs.System.{assigned, turnAssigned, Cp, Step}
+use Rattle.machine.specs.System.Step.{rests, comes, flickers-20, enters, starts-pass, wins, discards, keeps, ends-pass, lowers, to-push, waits, skips, flickers-24, pushes, exits, flickers-40, leaves}
+use Rattle.machine.specs.declared.Row.{Row}
+use Rattle.machine.proofs.SoundRows.{SoundRow, sound-rows, rows-sound}
+use Rattle.machine.proofs.SoundCells.{without-fits, sound-moved, sound-act, sound-bb, sound-est, sound-lis, sound-ahead, SoundTable, sound-set, sound-turned, sound-mapped}
+use Rattle.machine.proofs.Accepted.{word-cases, always}
+
+-- ---- a step
+
+-- a set of competitors, less p or not, fits
+Cp-fits : (t : Table) → Cp t < 2 ^ length t
+Cp-fits t = setOf-lt (λ q. leb 21 (row t q .location) && leb (row t q .location) 30) (length t)
+
+module _ {t : Table} (s : SoundTable (length t) t) (p : ℕ) (l : p < length t) where
+  own : SoundRow (length t) p (row t p)
+  own = s .each p l
+
+  -- at 22 to 24 the level is above 0
+  high : (v : ℕ) → row t p .location ≡ v → leb 22 v ≡ true → leb v 24 ≡ true → 0 < row t p .level
+  high v e x y = let i = leb-true 22 v x in let j = leb-true v 24 y in own .level-some (omega arith) (omega arith)
+
+  -- the location of p alone is changed, to one that its level goes with
+  sound-placed : (v : ℕ)
+      → oneOf v locations ≡ true
+      → (22 ≤ v → v ≤ 24 → 0 < row t p .level)
+      → (v ≡ 30 → row t p .level ≡ 0)
+      → SoundTable (length t) (assigned t p (withLocation v))
+  sound-placed v o some none =
+      sound-set s p (withLocation v (row t p)) l (sound-moved own v (row t p .level) o (own .level-low) some none)
+
+  -- the level of p is lowered, at 21
+  sound-lowered : (k : ℕ)
+      → k < length t
+      → SoundTable (length t) (assigned t p (λ r. withLocation 21 (withBb 0 (withLevel k r))))
+  sound-lowered k h =
+      sound-set s p _ l (sound-bb (sound-moved own 21 k refl h (omega arith) (omega arith)) 0 (omega arith))
+
+  -- q leaves lis
+  sound-seen : length t ≤ 16 → (q : ℕ) → SoundRow (length t) p (withLis (without (row t p .lis) q) (row t p))
+  sound-seen few q =
+      sound-lis own (without (row t p .lis) q) (without-fits (row t p .lis) q (length t) few (own .lis-low))
+
+step-sound : {t u : Table} (p : ℕ)
+    → length t ≤ 16
+    → p < length t
+    → SoundTable (length t) t
+    → Step t p u
+    → SoundTable (length t) u
+step-sound {t} p few l s (rests e) = s
+step-sound {t} p few l s (comes e) = sound-placed s p l 20 refl (omega arith) (omega arith)
+step-sound {t} p few l s (flickers-20 a e h) = sound-set s p _ l (sound-act (own s p l) a h)
+step-sound {t} p few l s (enters e) =
+    let placed = sound-moved (own s p l) 21 (length t - 1) refl (omega arith) (omega arith) (omega arith) in
+    let known = sound-ahead (sound-act placed 1 (omega arith)) (Cp t) (Cp-fits t) in
+    sound-set s p _ l (sound-est known (others (length t) p) (others-lt (length t) p))
+step-sound {t} p few l s (starts-pass e h) =
+    let o = own s p l in
+    let placed = sound-moved o 22 (row t p .level) refl (o .level-low) (λ x y. h) (omega arith) in
+    sound-set s p _ l (sound-lis placed (row t p .est) (o .est-low))
+step-sound {t} p few l s (wins e h) = sound-placed s p l 30 refl (omega arith) (λ i. h)
+step-sound {t} p few l s (discards q e h a) =
+    let o = own s p l in
+    let fits = without-fits (row t p .est) q (length t) few (o .est-low) in
+    sound-set s p _ l (sound-est (sound-seen s p l few q) (without (row t p .est) q) fits)
+step-sound {t} p few l s (keeps q e h a) = sound-set s p _ l (sound-seen s p l few q)
+step-sound {t} p few l s (ends-pass e h) = sound-placed s p l 23 refl (λ x y. high s p l 22 e refl refl) (omega arith)
+step-sound {t} p few l s (lowers e h) =
+    sound-lowered s p l (size (row t p .est)) (let k = own s p l .level-low in omega arith)
+step-sound {t} p few l s (to-push e h b) = sound-placed s p l 24 refl (λ x y. high s p l 23 e refl refl) (omega arith)
+step-sound {t} p few l s (waits e h b v) =
+    sound-lowered s p l (row t p .level - 1) (let k = own s p l .level-low in omega arith)
+step-sound {t} p few l s (skips e h b v) = sound-placed s p l 21 refl (omega arith) (omega arith)
+step-sound {t} p few l s (flickers-24 a e h) =
+    sound-turned s (row t p .level) a (own s p l .level-low) (high s p l 24 e refl refl) h
+step-sound {t} p few l s (pushes e) =
+    let k = row t p .level in
+    let v = sound-turned s k p (own s p l .level-low) (high s p l 24 e refl refl) l in
+    let o = v .each p l in
+    let placed = sound-moved o 21 (row (turnAssigned t k p) p .level) refl (o .level-low) (omega arith) (omega arith) in
+    let known = sound-ahead placed (without (Cp t) p) (without-fits (Cp t) p (length t) few (Cp-fits t)) in
+    sound-set v p _ l (sound-est (sound-bb known 1 (omega arith)) (others (length t) p) (others-lt (length t) p))
+step-sound {t} p few l s (exits e) =
+    let f : Row → Row = λ r. withAhead (without (r .ahead) p) r in
+    let fits : (r : Row) → r .ahead < 2 ^ length t → without (r .ahead) p < 2 ^ length t =
+    λ r h. without-fits (r .ahead) p (length t) few h in
+    let v = sound-mapped s f (λ q r h. sound-ahead h (without (r .ahead) p) (fits r (h .ahead-low))) in
+    let o = v .each p l in
+    sound-set v p _ l (sound-moved o 40 (row (map f t) p .level) refl (o .level-low) (omega arith) (omega arith))
+step-sound {t} p few l s (flickers-40 a e h) = sound-set s p _ l (sound-act (own s p l) a h)
+step-sound {t} p few l s (leaves e) =
+    let o = own s p l in
+    let placed = sound-moved o 10 (row t p .level) refl (o .level-low) (omega arith) (omega arith) in
+    sound-set s p _ l (sound-act placed 0 (omega arith))
+
+-- ---- what it comes to
+
+pub step-keeps-sound : (t u : Table) (p : ℕ) → tableRefusal t ≡ 0 → p < length t → Step t p u → tableRefusal u ≡ 0
+step-keeps-sound t u p z l x =
+    let h = sound-rows t z in
+    let s = step-sound p (h .1) l (record { size-is = refl; each = h .2 }) x in
+    let i = s .size-is in
+    rows-sound u (omega (arith, h .0)) (omega (arith, h .1))
+    (λ q k. subst (λ (n : ℕ). SoundRow n q (row u q)) (sym i) (s .each q (omega arith)))
+
+pub word-keeps-sound : (t : Table) (w : ℕ) → tableRefusal t ≡ 0 → tableRefusal (afterWord t w) ≡ 0
+word-keeps-sound t w z =
+    ⊎-elim
+    (λ m. step-keeps-sound t (afterWord t w) (processOf w) z (m .2) (m .3))
+    (λ e. ap tableRefusal e ∙ z)
+    (word-cases t w)
+
+pub words-keep-sound : (t : Table) (ws : List ℕ) → tableRefusal t ≡ 0 → tableRefusal (afterWords t ws) ≡ 0
+words-keep-sound t ws = always (λ u. tableRefusal u ≡ 0) (λ t u p z l x h. step-keeps-sound t u p z l x) t ws
+
+-- ---- the number of processes
+
+pub step-keeps-length : (t u : Table) (p : ℕ) → Step t p u → length u ≡ length t
+step-keeps-length t u p x = go x
+  where
+    go : {u : Table} → Step t p u → length u ≡ length t
+    go (rests e) = refl
+    go (comes e) = simp length-set
+    go (flickers-20 a e h) = simp length-set
+    go (enters e) = simp length-set
+    go (starts-pass e h) = simp length-set
+    go (wins e h) = simp length-set
+    go (discards q e h a) = simp length-set
+    go (keeps q e h a) = simp length-set
+    go (ends-pass e h) = simp length-set
+    go (lowers e h) = simp length-set
+    go (to-push e h b) = simp length-set
+    go (waits e h b v) = simp length-set
+    go (skips e h b v) = simp length-set
+    go (flickers-24 a e h) = simp length-set
+    go (pushes e) = simp length-set
+    go (exits e) = simp (length-set, length-map)
+    go (flickers-40 a e h) = simp length-set
+    go (leaves e) = simp length-set
+
+pub word-keeps-length : (t : Table) (w : ℕ) → length (afterWord t w) ≡ length t
+word-keeps-length t w =
+    ⊎-elim
+    (λ m. step-keeps-length t (afterWord t w) (processOf w) (m .3))
+    (λ e. ap (λ (u : Table). length u) e)
+    (word-cases t w)
+
+pub words-keep-length : (t : Table) (ws : List ℕ) → length (afterWords t ws) ≡ length t
+words-keep-length t ws =
+    always (λ u. length u ≡ length t) (λ v u p z l x h. step-keeps-length v u p x ∙ h) t ws refl

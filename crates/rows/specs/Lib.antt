@@ -1,0 +1,2 @@
+-- What the functions on rows require, beside the definitions of `machine`.
+pub mod Bounds

@@ -1,0 +1,69 @@
+// Event words taken apart and put together, without a table (machine/specs/Words.antt).
+use machine::Apart;
+use machine::Parts;
+use machine::Together;
+ghost use mathlib.Core.Path.{_≡_};
+ghost use Rattle.machine.specs.Words.{kindOf, processOf, argumentOf, formed, apart, together};
+
+// The kind of a word, bits 31 to 28.
+pub fn kind_of(w: u32) -> u16
+    ensures { λ k. ⌜ k ≡ kindOf w ⌝ }
+{
+    (w >> 28) as u16
+}
+
+// The process of a word, bits 23 to 16.
+pub fn process_of(w: u32) -> u16
+    ensures { λ p. ⌜ p ≡ processOf w ⌝ }
+{
+    ((w >> 16) % 256) as u16
+}
+
+// The argument of a word, bits 7 to 0.
+pub fn argument_of(w: u32) -> u16
+    ensures { λ a. ⌜ a ≡ argumentOf w ⌝ }
+{
+    (w % 256) as u16
+}
+
+// Whether the kind of a word is one of the five and its spare bits are 0.
+pub fn formed(w: u32) -> bool
+    ensures { λ b. ⌜ b ≡ formed w ⌝ }
+{
+    let kind = w >> 28;
+    ((1 <= kind) & (kind <= 5)) & (((w >> 24) % 16 == 0) & ((w >> 8) % 256 == 0))
+}
+
+// The parts of a word; or 8 where it is not formed, then 9 for a process over 15.
+pub fn take_apart(word: u32) -> Apart
+    ensures { λ r. ⌜ r ≡ apart word ⌝ }
+{
+    if !formed(word) {
+        return Apart::Refused(machine::BAD_KIND);
+    }
+    let process = process_of(word);
+    if 15 < process {
+        return Apart::Refused(machine::NO_PROCESS);
+    }
+    Apart::Word(Parts {
+        kind: kind_of(word),
+        process,
+        argument: argument_of(word),
+    })
+}
+
+// The word of a kind, a process and an argument; or 8, then 9, then 11 where one is out of range.
+pub fn put_together(kind: u32, process: u32, argument: u32) -> Together
+    ensures { λ r. ⌜ r ≡ together kind process argument ⌝ }
+{
+    if !((1 <= kind) & (kind <= 5)) {
+        return Together::Refused(machine::BAD_KIND);
+    }
+    if 15 < process {
+        return Together::Refused(machine::NO_PROCESS);
+    }
+    if 255 < argument {
+        return Together::Refused(machine::BAD_ARGUMENT);
+    }
+    Together::Word(kind * 268435456 + process * 65536 + argument)
+}

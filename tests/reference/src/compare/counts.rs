@@ -1,0 +1,117 @@
+//! What a comparison has met, so that it cannot go blind.
+
+use super::{Answer, Case, Kind};
+use crate::bytes::{read_input, words};
+use crate::row::{Row, LOCATIONS, MOST};
+use crate::run::{take_all, MOST_WORDS};
+
+/// Calls by kind, refusals by kind and number, words taken, and visits of each location for each number of processes.
+#[derive(Clone, Debug, Default)]
+pub struct Counts {
+    pub calls: [u64; Kind::ALL.len()],
+    pub refusals: [[u64; 15]; Kind::ALL.len()],
+    pub words: u64,
+    pub visits: [[u64; LOCATIONS.len()]; MOST + 1],
+}
+
+impl Counts {
+    pub fn note(&mut self, case: &Case, answer: &Answer) {
+        let kind = case.kind() as usize;
+        self.calls[kind] += 1;
+        self.refusals[kind][answer.refusal() as usize] += 1;
+        match (case, answer.refusal()) {
+            (_, 1..=7 | 12..) => {}
+            (Case::Call { input, .. }, _) => {
+                let Ok(mut parsed) = read_input(&input.bytes) else { return };
+                self.walk(&mut parsed.table, words(parsed.events));
+            }
+            (Case::Text { bytes }, _) => {
+                let Ok(mut parsed) = read_input(bytes) else { return };
+                self.walk(&mut parsed.table, words(parsed.events));
+            }
+            (Case::Run { rows, words, .. }, _) => self.walk(&mut rows.clone(), words.iter().copied()),
+            (Case::Step { rows, word }, _) => self.walk(&mut rows.clone(), [*word].into_iter()),
+            _ => {}
+        }
+    }
+
+    fn walk(&mut self, rows: &mut [Row], words: impl Iterator<Item = u32>) {
+        let visits = &mut self.visits[rows.len()];
+        let ran = take_all(rows, words.take(MOST_WORDS), |event| {
+            let code = LOCATIONS.iter().position(|&loc| loc == event.after).expect("a location");
+            visits[code] += 1;
+        });
+        self.words += u64::from(ran.taken);
+    }
+
+    /// The refusals that calls of a kind can meet.
+    fn possible(kind: Kind) -> &'static [usize] {
+        match kind {
+            Kind::Call => &[0, 1, 2, 3, 4, 5, 8, 9, 10, 11, 12, 13, 14],
+            Kind::Text => &[0, 1, 2, 3, 4, 5, 8, 9, 10, 11, 12, 14],
+            Kind::Step => &[0, 6, 7, 8, 9, 10, 11],
+            Kind::Run => &[0, 6, 7, 8, 9, 10, 11, 12],
+            Kind::Census => &[0, 6, 7],
+            Kind::Fresh => &[0, 6],
+            Kind::TakeApart => &[0, 8, 9],
+            Kind::PutTogether => &[0, 8, 9, 11],
+            Kind::ReadImage => &[0, 1, 2, 3, 4, 5],
+            Kind::WriteImage => &[0, 6, 7, 13],
+        }
+    }
+
+    /// What was never met by the kinds of call that were made; empty if the comparison saw everything.
+    pub fn unseen(&self) -> Vec<String> {
+        let mut unseen = Vec::new();
+        for kind in Kind::ALL {
+            let met = &self.refusals[kind as usize];
+            let asked = self.calls[kind as usize] > 0;
+            let missing = Self::possible(kind).iter().filter(|&&number| asked && met[number] == 0);
+            unseen.extend(missing.map(|number| format!("{kind:?} never met refusal {number}")));
+        }
+        for n in 2..=MOST {
+            let missing = LOCATIONS.iter().zip(self.visits[n]).filter(|(_, visits)| *visits == 0);
+            unseen.extend(missing.map(|(loc, _)| format!("no visit of {loc} with {n} processes")));
+        }
+        unseen
+    }
+
+    /// Refusal numbers met, all kinds together.
+    pub fn met(&self) -> [u64; 15] {
+        let mut sum = [0; 15];
+        for met in &self.refusals {
+            sum.iter_mut().zip(met).for_each(|(sum, met)| *sum += met);
+        }
+        sum
+    }
+
+    /// The table of visits, then one line with everything.
+    pub fn report(&self) -> String {
+        let mut out = String::from("visits  N");
+        LOCATIONS.iter().for_each(|loc| out += &format!("{loc:>10}"));
+        let mut total = [0; LOCATIONS.len()];
+        for n in 2..=MOST {
+            out += &format!("\n       {n:2}");
+            for (code, visits) in self.visits[n].iter().enumerate() {
+                out += &format!("{visits:>10}");
+                total[code] += visits;
+            }
+        }
+        let calls = Kind::ALL.iter().map(|&kind| (format!("{kind:?}"), self.calls[kind as usize]));
+        let refusals = self.met().into_iter().enumerate().map(|(number, met)| (number.to_string(), met));
+        let visits = LOCATIONS.iter().map(|loc| loc.to_string()).zip(total);
+        out + &format!(
+            "\nsummary: calls [{}] words {} refusals [{}] visits [{}]",
+            listed(calls),
+            self.words,
+            listed(refusals),
+            listed(visits)
+        )
+    }
+}
+
+fn listed(pairs: impl Iterator<Item = (String, u64)>) -> String {
+    let pairs: Vec<String> =
+        pairs.filter(|(_, count)| *count > 0).map(|(name, count)| format!("{name}: {count}")).collect();
+    pairs.join(", ")
+}

@@ -1,0 +1,121 @@
+//! Makes the case of a number under a seed.
+
+use super::{Case, Kind};
+use crate::generate::inputs::{image_of, input, some_count, some_size, some_table};
+use crate::generate::schedule::{faulty_word, schedule};
+use crate::generate::tables::damage_rows;
+use crate::generate::Random;
+use crate::row::Row;
+use crate::run::MOST_WORDS;
+use crate::Tally;
+
+/// A random case of a kind.
+pub fn make_case(rng: &mut Random, kind: Kind) -> Case {
+    match kind {
+        Kind::Call => Case::Call { input: input(rng), shift: rng.below(8) },
+        Kind::Text => Case::Text { bytes: input(rng).bytes },
+        Kind::Step => {
+            let rows = lent_rows(rng);
+            let word = next_word(rng, &rows);
+            Case::Step { rows, word }
+        }
+        Kind::Run => make_run(rng),
+        Kind::Census => Case::Census { rows: lent_rows(rng) },
+        Kind::Fresh => Case::Fresh { n: rng.below(40) },
+        Kind::TakeApart => Case::TakeApart { word: loose_word(rng) },
+        Kind::PutTogether => Case::PutTogether { kind: edge(rng, 6), process: edge(rng, 17), argument: edge(rng, 257) },
+        Kind::ReadImage => {
+            let bytes = input(rng).bytes;
+            let words: Vec<u32> = crate::bytes::words(&bytes).collect();
+            let length = if rng.chance(1, 8) { words.len() } else { image_words(&words) };
+            Case::ReadImage { words: words[..length.min(100)].to_vec() }
+        }
+        Kind::WriteImage => {
+            let rows = lent_rows(rng);
+            let exact = 5 * rows.len();
+            let lent = rng.pick(&[exact, exact, exact.saturating_sub(1), exact + 1, exact + 9, 0]);
+            Case::WriteImage { rows, lent }
+        }
+    }
+}
+
+/// Rows that are sound three times in four, else damaged or of a wrong number.
+fn lent_rows(rng: &mut Random) -> Vec<Row> {
+    let n = some_size(rng);
+    let mut rows = walked(rng, n);
+    match rng.below(16) {
+        0..=2 => damage_rows(rng, &mut rows),
+        3 => rows.resize(rng.pick(&[0, 1, 17, 18, 33]), Row::IDLE),
+        _ => {}
+    }
+    if rng.chance(1, 64) {
+        damage_rows(rng, &mut rows);
+    }
+    rows
+}
+
+/// A table, as it is or after some words.
+fn walked(rng: &mut Random, n: usize) -> Vec<Row> {
+    let mut rows = some_table(rng, n);
+    if rng.chance(1, 2) {
+        let count = rng.below(300);
+        let words = schedule(rng, &rows, count, 0);
+        crate::run(&mut rows, &words, &mut Tally::default());
+    }
+    rows
+}
+
+/// A word that suits the rows more often than not.
+fn next_word(rng: &mut Random, rows: &[Row]) -> u32 {
+    let good = match crate::check(rows) {
+        0 => schedule(rng, rows, 1, 0)[0],
+        _ => 0x4000_0000,
+    };
+    if !rows.is_empty() && rng.chance(1, 3) {
+        faulty_word(rng, rows, good)
+    } else {
+        good
+    }
+}
+
+fn make_run(rng: &mut Random) -> Case {
+    let rows = lent_rows(rng);
+    let count = if rng.chance(1, 200) { MOST_WORDS + rng.below(3) } else { some_count(rng) };
+    let faulty = rng.pick(&[0, 0, 1, 2]);
+    let words = match crate::check(&rows) {
+        0 => schedule(rng, &rows, count, faulty),
+        _ => vec![0x1000_0000; count],
+    };
+    let mut old = || rng.below(1000) as u32;
+    let tally = Tally { words: old(), comes: old(), arrivals: old() };
+    Case::Run { rows, words, tally }
+}
+
+fn loose_word(rng: &mut Random) -> u32 {
+    let word = (rng.below(8) as u32) << 28 | (rng.below(20) as u32) << 16 | rng.below(256) as u32;
+    match rng.below(4) {
+        0 => word ^ 1 << rng.below(32),
+        1 => rng.next() as u32,
+        _ => word,
+    }
+}
+
+/// A number about an edge, or far beyond it.
+fn edge(rng: &mut Random, above: usize) -> u32 {
+    match rng.below(8) {
+        0 => rng.next() as u32,
+        1 => (1 << 16) + rng.below(above) as u32,
+        _ => rng.below(above + 1) as u32,
+    }
+}
+
+/// How many of the words are image, by their header.
+fn image_words(words: &[u32]) -> usize {
+    let n = words.first().and_then(|&word| crate::image::header(word)).unwrap_or(0);
+    words.len().min(5 * n)
+}
+
+/// The image of rows as bytes, for the shrinking of inputs.
+pub(super) fn image_bytes(rows: &[Row]) -> Vec<u8> {
+    crate::generate::inputs::to_bytes(&image_of(rows))
+}

@@ -1,0 +1,247 @@
+//! Greedy shrinking: words out, bits to 0, rows to idle, as long as the difference stays.
+
+use super::making::image_bytes;
+use super::Case;
+use crate::bytes::{read_input, words};
+use crate::generate::inputs::{to_bytes, Input};
+use crate::row::Row;
+use crate::Tally;
+
+/// The most cases tried; a printing program is a process for each.
+const TRIES: usize = 20_000;
+
+/// A case as small as greedy steps make it on which `differs` still holds.
+pub fn shrink(case: Case, differs: &dyn Fn(&Case) -> bool) -> Case {
+    let mut shrinker = Shrinker { best: case, differs, tries: TRIES };
+    while shrinker.pass() && shrinker.tries > 0 {}
+    shrinker.best
+}
+
+struct Shrinker<'a> {
+    best: Case,
+    differs: &'a dyn Fn(&Case) -> bool,
+    tries: usize,
+}
+
+impl Shrinker<'_> {
+    /// Keeps a candidate that still differs.
+    fn keep(&mut self, candidate: Case) -> bool {
+        if self.tries == 0 {
+            return false;
+        }
+        self.tries -= 1;
+        let kept = (self.differs)(&candidate);
+        if kept {
+            self.best = candidate;
+        }
+        kept
+    }
+
+    /// One round over all ways of making the case smaller; false if none did.
+    fn pass(&mut self) -> bool {
+        let later = self.later_start();
+        let fewer = self.fewer_words();
+        let rows = self.simpler_rows();
+        let bits = self.clear_bits();
+        later | fewer | rows | bits
+    }
+
+    /// Starts from the rows after the first words, as many of them as can be.
+    fn later_start(&mut self) -> bool {
+        let mut changed = false;
+        let mut stretch = word_list(&self.best).len();
+        while stretch > 0 {
+            if started_later(&self.best, stretch).is_some_and(|later| self.keep(later)) {
+                changed = true;
+            } else {
+                stretch /= 2;
+            }
+        }
+        changed
+    }
+
+    /// Leaves out stretches of words, halves first, then single ones.
+    fn fewer_words(&mut self) -> bool {
+        let mut changed = false;
+        let mut stretch = word_list(&self.best).len();
+        while stretch > 0 {
+            let mut from = 0;
+            while from < word_list(&self.best).len() && self.tries > 0 {
+                let mut list = word_list(&self.best);
+                let to = list.len().min(from + stretch);
+                list.drain(from..to);
+                if self.keep(with_words(&self.best, list)) {
+                    changed = true;
+                } else {
+                    from += stretch;
+                }
+            }
+            stretch /= 2;
+        }
+        changed
+    }
+
+    fn clear_bits(&mut self) -> bool {
+        let mut changed = false;
+        for place in 0..word_list(&self.best).len() {
+            for bit in (0..32).rev() {
+                let mut list = word_list(&self.best);
+                if list.get(place).is_some_and(|word| word >> bit & 1 == 1) {
+                    list[place] ^= 1 << bit;
+                    changed |= self.keep(with_words(&self.best, list));
+                }
+            }
+        }
+        changed
+    }
+
+    fn simpler_rows(&mut self) -> bool {
+        let mut changed = false;
+        let mut r = rows_of(&self.best).map_or(0, |rows| rows.len());
+        while r > 0 && rows_of(&self.best).is_some_and(|rows| rows.len() > 2) {
+            r -= 1;
+            changed |= self.keep(without_process(&self.best, r));
+        }
+        let count = rows_of(&self.best).map_or(0, |rows| rows.len());
+        for p in 0..count {
+            for simpler in simpler_forms() {
+                let Some(mut rows) = rows_of(&self.best) else { return changed };
+                let row = simpler(rows[p]);
+                if row != rows[p] {
+                    rows[p] = row;
+                    changed |= self.keep(with_rows(&self.best, rows));
+                }
+            }
+        }
+        changed
+    }
+}
+
+/// Ways to make one row simpler.
+fn simpler_forms() -> Vec<Box<dyn Fn(Row) -> Row>> {
+    let mut forms: Vec<Box<dyn Fn(Row) -> Row>> = vec![
+        Box::new(|_| Row::IDLE),
+        Box::new(|row| Row { act: 0, ..row }),
+        Box::new(|row| Row { bb: 0, ..row }),
+        Box::new(|row| Row { level: 0, ..row }),
+        Box::new(|row| Row { level: row.level.min(1), ..row }),
+        Box::new(|row| Row { turn: 0, ..row }),
+    ];
+    for bit in 0..16 {
+        forms.push(Box::new(move |row| Row { est: row.est & !(1 << bit), ..row }));
+        forms.push(Box::new(move |row| Row { lis: row.lis & !(1 << bit), ..row }));
+        forms.push(Box::new(move |row| Row { ahead: row.ahead & !(1 << bit), ..row }));
+    }
+    forms
+}
+
+/// The case with its first words done, if they are all taken.
+fn started_later(case: &Case, count: usize) -> Option<Case> {
+    let (mut rows, mut words) = (rows_of(case)?, word_list(case));
+    if count > words.len() || matches!(case, Case::Step { .. }) {
+        return None;
+    }
+    let rest = words.split_off(count);
+    let ran = crate::run(&mut rows, &words, &mut Tally::default());
+    (ran.refusal == 0).then(|| with_words(&with_rows(case, rows), rest))
+}
+
+/// A number of a process, or of a level and its turn cell, once r is gone.
+fn renumbered(number: u16, r: usize) -> u16 {
+    number - u16::from(usize::from(number) > r)
+}
+
+/// A set once r is gone from among the processes.
+fn closed_up(set: u16, r: usize) -> u16 {
+    let low = (1u32 << r) - 1;
+    (u32::from(set) & low | (u32::from(set) >> 1) & !low) as u16
+}
+
+/// The case without process r: those above move down by one, in rows, sets, cells and words.
+fn without_process(case: &Case, r: usize) -> Case {
+    let Some(mut rows) = rows_of(case) else { return case.clone() };
+    if r >= rows.len() {
+        return case.clone();
+    }
+    rows.remove(r);
+    let top = rows.len() as u16 - 1;
+    for row in &mut rows {
+        row.est = closed_up(row.est, r);
+        row.lis = closed_up(row.lis, r);
+        row.ahead = closed_up(row.ahead, r);
+        row.level = renumbered(row.level, r).min(top);
+        row.turn = renumbered(row.turn, r).min(top);
+    }
+    rows[0].turn = 0;
+    let moved = |word: u32| {
+        let process = renumbered((word >> 16 & 0xFF) as u16, r);
+        let argument = match word >> 28 {
+            3 | 5 => renumbered((word & 0xFF) as u16, r),
+            _ => (word & 0xFF) as u16,
+        };
+        word & !0x00FF_00FF | u32::from(process) << 16 | u32::from(argument)
+    };
+    let words = word_list(case).into_iter().filter(|word| (word >> 16 & 0xFF) as usize != r).map(moved).collect();
+    with_words(&with_rows(case, rows), words)
+}
+
+/// Where the event words of an input begin: after its image if that can be read, else at the start.
+fn events_from(bytes: &[u8]) -> usize {
+    read_input(bytes).map_or(0, |input| bytes.len() - input.events.len())
+}
+
+/// The words of a case that may be left out or changed.
+fn word_list(case: &Case) -> Vec<u32> {
+    match case {
+        Case::Call { input: Input { bytes, .. }, .. } | Case::Text { bytes } if bytes.len() % 4 == 0 => {
+            words(&bytes[events_from(bytes)..]).collect()
+        }
+        Case::Step { word, .. } | Case::TakeApart { word } => vec![*word],
+        Case::Run { words, .. } | Case::ReadImage { words } => words.clone(),
+        _ => Vec::new(),
+    }
+}
+
+fn with_words(case: &Case, list: Vec<u32>) -> Case {
+    let mut case = case.clone();
+    match &mut case {
+        Case::Call { input: Input { bytes, .. }, .. } | Case::Text { bytes } => {
+            bytes.truncate(events_from(bytes));
+            bytes.extend(to_bytes(&list));
+        }
+        Case::Step { word, .. } | Case::TakeApart { word } => *word = list.first().copied().unwrap_or(*word),
+        Case::Run { words, .. } | Case::ReadImage { words } => *words = list,
+        _ => {}
+    }
+    case
+}
+
+fn rows_of(case: &Case) -> Option<Vec<Row>> {
+    match case {
+        Case::Call { input: Input { bytes, .. }, .. } | Case::Text { bytes } => {
+            read_input(bytes).ok().map(|input| input.table.to_vec())
+        }
+        Case::Step { rows, .. } | Case::Run { rows, .. } => Some(rows.clone()),
+        Case::Census { rows } | Case::WriteImage { rows, .. } => Some(rows.clone()),
+        _ => None,
+    }
+}
+
+/// The case with other rows; an unsound table has no image, and then the case is left as it is.
+fn with_rows(case: &Case, new: Vec<Row>) -> Case {
+    let mut case = case.clone();
+    match &mut case {
+        Case::Call { input, .. } if crate::check(&new) == 0 => {
+            let from = events_from(&input.bytes);
+            input.lent = (input.lent + 20 * new.len()).saturating_sub(from);
+            input.bytes.splice(..from, image_bytes(&new));
+        }
+        Case::Text { bytes } if crate::check(&new) == 0 => {
+            bytes.splice(..events_from(bytes), image_bytes(&new));
+        }
+        Case::Step { rows, .. } | Case::Run { rows, .. } => *rows = new,
+        Case::Census { rows } | Case::WriteImage { rows, .. } => *rows = new,
+        _ => {}
+    }
+    case
+}

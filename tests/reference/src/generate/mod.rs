@@ -1,0 +1,8 @@
+//! Seeded random cases: tables, schedules that go deep, and every way of being refused.
+
+pub mod inputs;
+pub mod random;
+pub mod schedule;
+pub mod tables;
+
+pub use random::Random;

@@ -1,0 +1,44 @@
+//! An independent engine for document 01: rows in place, one pass, no allocation in a run. It is what the proved engine is
+//! compared with and measured against. `naive` is a second reading of the same document, slow and obvious, that checks this one.
+
+pub mod bytes;
+pub mod census;
+pub mod image;
+pub mod row;
+pub mod run;
+pub mod step;
+pub mod text;
+pub mod word;
+
+pub mod naive;
+
+pub mod compare;
+pub mod generate;
+
+pub use bytes::c_call;
+pub use census::{census, Census};
+pub use image::{read_image, write_image};
+pub use row::{check, fresh, Row, Table};
+pub use run::{run, Ran, Tally};
+pub use step::{step, Event};
+pub use text::text;
+pub use word::{put_together, take_apart};
+
+/// The refusals of document 01 by number; 0 is none.
+pub mod refusal {
+    pub const NONE: u16 = 0;
+    pub const NO_HEADER: u16 = 1;
+    pub const IMAGE_LENGTH: u16 = 2;
+    pub const IMAGE_FORM: u16 = 3;
+    pub const IMAGE_RANGE: u16 = 4;
+    pub const IMAGE_LEVEL: u16 = 5;
+    pub const ROW_COUNT: u16 = 6;
+    pub const UNSOUND: u16 = 7;
+    pub const WORD_FORM: u16 = 8;
+    pub const NO_PROCESS: u16 = 9;
+    pub const NOT_ALLOWED: u16 = 10;
+    pub const ARGUMENT: u16 = 11;
+    pub const TOO_MANY_WORDS: u16 = 12;
+    pub const LENT_TOO_FEW: u16 = 13;
+    pub const INPUT_BYTES: u16 = 14;
+}

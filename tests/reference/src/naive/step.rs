@@ -1,0 +1,198 @@
+//! One step, in the order of document 01.
+
+use super::system::{size, Process, System};
+use super::Fault;
+
+const STAY: u32 = 1;
+const COME: u32 = 2;
+const FLICKER: u32 = 3;
+const GO: u32 = 4;
+const LOOK: u32 = 5;
+
+/// What an accepted word did.
+pub struct Moved {
+    pub process: usize,
+    pub before: u32,
+    pub after: u32,
+    pub come: bool,
+}
+
+/// Takes one word, or refuses it and changes nothing.
+pub fn take(system: &mut System, word: u32, fault: Fault) -> Result<Moved, u16> {
+    let n = system.n();
+    let kind = word / 0x1000_0000;
+    let p = (word / 0x1_0000 % 0x100) as usize;
+    let a = (word % 0x100) as usize;
+    let form_wrong = !(1..=5).contains(&kind) || word != kind * 0x1000_0000 + p as u32 * 0x1_0000 + a as u32;
+    let no_process = p > 15 || p >= n;
+    if fault == Fault::ProcessBeforeForm && no_process {
+        return Err(9);
+    }
+    if form_wrong {
+        return Err(8);
+    }
+    if no_process {
+        return Err(9);
+    }
+    let process = &system.processes[p];
+    let allowed = is_allowed(kind, process, fault);
+    let listed = is_listed(kind, process, a, n, fault);
+    if fault == Fault::ArgumentBeforeAllowed && !listed {
+        return Err(11);
+    }
+    if !allowed {
+        return Err(10);
+    }
+    if !listed {
+        return Err(11);
+    }
+    let before = process.location;
+    match kind {
+        STAY => {}
+        COME => system.processes[p].location = 20,
+        FLICKER => flicker(system, p, a, fault),
+        GO => go(system, p, fault),
+        _ => look(system, p, a, fault),
+    }
+    let come = kind == COME || (kind == STAY && fault == Fault::StayCountsAsCome);
+    Ok(Moved { process: p, before, after: system.processes[p].location, come })
+}
+
+fn is_allowed(kind: u32, process: &Process, fault: Fault) -> bool {
+    let lis_empty = size(&process.lis) == 0;
+    match kind {
+        STAY | COME => process.location == 10,
+        FLICKER => [20, 40, 24].contains(&process.location),
+        GO if process.location == 22 => lis_empty || fault == Fault::Go22WithLisIsArgument,
+        GO => [20, 21, 23, 24, 30, 40].contains(&process.location),
+        LOOK => process.location == 22 && !lis_empty,
+        _ => false,
+    }
+}
+
+fn is_listed(kind: u32, process: &Process, a: usize, n: usize, fault: Fault) -> bool {
+    match kind {
+        FLICKER if process.location == 24 && fault == Fault::FlickerUpToN => a <= n,
+        FLICKER if process.location == 24 => a < n,
+        FLICKER => a == 0 || a == 1,
+        LOOK => a < 16 && process.lis[a],
+        GO if process.location == 22 && size(&process.lis) > 0 => false,
+        _ => a == 0,
+    }
+}
+
+fn flicker(system: &mut System, p: usize, a: usize, fault: Fault) {
+    if system.processes[p].location == 24 {
+        let level = system.processes[p].level;
+        if !(fault == Fault::OwnRowStoreLostAtFlicker && level == p) {
+            system.turn[level] = a;
+        }
+    } else {
+        system.processes[p].act = a == 1;
+    }
+}
+
+fn look(system: &mut System, p: usize, q: usize, fault: Fault) {
+    let act = system.processes[q].act;
+    system.processes[p].lis[q] = false;
+    let drops = match fault {
+        Fault::LookKeepsIdle => false,
+        Fault::LookDropsBusy => act,
+        _ => !act,
+    };
+    if drops {
+        system.processes[p].est[q] = false;
+    }
+}
+
+fn go(system: &mut System, p: usize, fault: Fault) {
+    let n = system.n();
+    match system.processes[p].location {
+        20 => {
+            system.processes[p].ahead = system.competing(fault);
+            system.processes[p].ahead[p] = fault == Fault::AheadWithSelfAtGo20;
+            system.processes[p].act = true;
+            system.processes[p].level = n - 1;
+            system.processes[p].est = system.others(p);
+            system.processes[p].location = 21;
+        }
+        21 => {
+            let process = &mut system.processes[p];
+            if process.level > 0 {
+                process.lis = process.est;
+                process.location = 22;
+                if fault == Fault::LisFromEveryone {
+                    system.processes[p].lis = system.others(p);
+                }
+            } else {
+                process.location = 30;
+            }
+        }
+        22 => system.processes[p].location = 23,
+        23 => go_23(system, p, fault),
+        24 => go_24(system, p, fault),
+        30 => {
+            system.processes[p].location = 40;
+            if fault != Fault::AheadClearedAtGo40 {
+                leave_ahead_sets(system, p, fault);
+            }
+        }
+        _ => {
+            system.processes[p].act = fault == Fault::ActKeptAtGo40 && system.processes[p].act;
+            system.processes[p].location = 10;
+            if fault == Fault::AheadClearedAtGo40 {
+                leave_ahead_sets(system, p, fault);
+            }
+        }
+    }
+}
+
+fn go_23(system: &mut System, p: usize, fault: Fault) {
+    let level = system.processes[p].level;
+    let cell = if fault == Fault::TurnComparedAtLevelBelow && level > 1 { level - 1 } else { level };
+    let turn_is_other = system.turn[cell] != p;
+    let process = &mut system.processes[p];
+    let number = size(&process.est);
+    let fewer = number < level || (fault == Fault::MoveAtEqualSize && number == level);
+    let turn_first = fault == Fault::TurnBeforeSizeOfEst && process.bb && turn_is_other;
+    if fewer && !turn_first {
+        process.level = number;
+        process.bb = process.bb && fault == Fault::MoveKeepsBb;
+        process.location = 21;
+    } else if !process.bb {
+        process.location = 24;
+    } else if turn_is_other {
+        process.level = level - 1;
+        if fault == Fault::FallsTwoLevels && process.level > 0 {
+            process.level -= 1;
+        }
+        process.bb = fault == Fault::FallKeepsBb;
+        process.location = 21;
+    } else {
+        process.location = 21;
+    }
+}
+
+fn go_24(system: &mut System, p: usize, fault: Fault) {
+    let level = system.processes[p].level;
+    if !(fault == Fault::OwnRowStoreLostAtGo24 && level == p) {
+        system.turn[level] = p;
+    }
+    system.processes[p].bb = true;
+    if fault != Fault::EstKeptAtGo24 {
+        system.processes[p].est = system.others(p);
+    }
+    if fault != Fault::AheadKeptAtGo24 {
+        system.processes[p].ahead = system.competing(fault);
+        system.processes[p].ahead[p] = fault == Fault::AheadWithSelfAtGo24;
+    }
+    system.processes[p].location = 21;
+}
+
+fn leave_ahead_sets(system: &mut System, p: usize, fault: Fault) {
+    for q in 0..system.n() {
+        if !(q == p && fault == Fault::OwnAheadKeptAtGo30) {
+            system.processes[q].ahead[p] = false;
+        }
+    }
+}

@@ -1,0 +1,67 @@
+//! Runs: words in order up to the first refused one, and the tally that goes along.
+
+use crate::refusal;
+use crate::row::{check, Row};
+use crate::step::{Event, Machine};
+use crate::word::COME;
+
+pub const MOST_WORDS: usize = 8192;
+
+/// Words taken, COMEs among them, and arrivals at 30.
+#[repr(C)]
+#[derive(Clone, Copy, Debug, Default, PartialEq, Eq)]
+pub struct Tally {
+    pub words: u32,
+    pub comes: u32,
+    pub arrivals: u32,
+}
+
+impl Tally {
+    #[inline]
+    pub(crate) fn count(&mut self, event: &Event) {
+        self.words += 1;
+        self.comes += u32::from(event.kind == COME);
+        self.arrivals += u32::from(event.after == 30 && event.before != 30);
+    }
+}
+
+/// How many words were taken, and the refusal or 0.
+#[repr(C)]
+#[derive(Clone, Copy, Debug, Default, PartialEq, Eq)]
+pub struct Ran {
+    pub taken: u32,
+    pub refusal: u32,
+}
+
+impl Ran {
+    pub(crate) fn refused(refusal: u16) -> Ran {
+        Ran { taken: 0, refusal: refusal.into() }
+    }
+}
+
+/// Runs the words over the rows. A run refused with 6, 7 or 12 changes no row and leaves the tally zero.
+pub fn run(rows: &mut [Row], words: &[u32], tally: &mut Tally) -> Ran {
+    let mut counted = Tally::default();
+    let ran = match check(rows) {
+        refusal::NONE if words.len() > MOST_WORDS => Ran::refused(refusal::TOO_MANY_WORDS),
+        refusal::NONE => take_all(rows, words.iter().copied(), |event| counted.count(&event)),
+        refused => Ran::refused(refused),
+    };
+    *tally = counted;
+    ran
+}
+
+/// Takes words up to the first refused one and shows each event to `see`. The rows must be sound.
+#[inline]
+pub(crate) fn take_all(rows: &mut [Row], words: impl Iterator<Item = u32>, mut see: impl FnMut(Event)) -> Ran {
+    let mut machine = Machine::new(rows);
+    let mut taken = 0;
+    for word in words {
+        match machine.take(word) {
+            Ok(event) => see(event),
+            Err(refused) => return Ran { taken, refusal: refused.into() },
+        }
+        taken += 1;
+    }
+    Ran { taken, refusal: 0 }
+}

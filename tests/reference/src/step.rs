@@ -1,0 +1,192 @@
+//! One step on rows in place (document 01, "One step" and "Ahead"; document 004, sections 3.2 and 3.4).
+
+use crate::refusal;
+use crate::row::{check, code, competing, everyone, only, Row, LOCATIONS};
+use crate::word::{split, Parts, COME, FLICKER, GO, LOOK, STAY};
+
+/// What an accepted word did: process p went from `before` to `after`, which may be the same location.
+#[derive(Clone, Copy, Debug, PartialEq, Eq)]
+pub struct Event {
+    pub kind: u32,
+    pub p: usize,
+    pub before: u16,
+    pub after: u16,
+}
+
+/// Moves the rows by one word. A refused word, or a refused table, changes no row.
+pub fn step(rows: &mut [Row], word: u32) -> Result<Event, u16> {
+    match check(rows) {
+        refusal::NONE => Machine::new(rows).take(word),
+        refused => Err(refused),
+    }
+}
+
+/// Sound rows, and beside them the set of competing processes, kept up from step to step.
+pub(crate) struct Machine<'a> {
+    rows: &'a mut [Row],
+    competing: u16,
+}
+
+impl<'a> Machine<'a> {
+    /// The rows must be sound.
+    pub fn new(rows: &'a mut [Row]) -> Self {
+        debug_assert_eq!(check(rows), refusal::NONE);
+        let competing = competing(rows);
+        Machine { rows, competing }
+    }
+
+    pub fn rows(&self) -> &[Row] {
+        self.rows
+    }
+
+    /// Takes one word, or refuses it and changes nothing. Kind and location decide in one jump, and what follows it is
+    /// without branches where it can be: in a run with many processes nothing else is hard to foretell.
+    #[inline(always)]
+    pub fn take(&mut self, word: u32) -> Result<Event, u16> {
+        let Parts { kind, process, argument } = split(word)?;
+        let (p, n) = (process as usize, self.rows.len());
+        let Some(row) = self.rows.get_mut(p) else {
+            return Err(refusal::NO_PROCESS);
+        };
+        let before = row.loc;
+        let others = || everyone(n) & !only(p);
+        let after = match kind << 3 | u32::from(code(before)) {
+            STAY_10 => {
+                demand(argument == 0)?;
+                10
+            }
+            COME_10 => {
+                demand(argument == 0)?;
+                20
+            }
+            FLICKER_20 | FLICKER_40 => {
+                demand(argument <= 1)?;
+                row.act = argument as u16;
+                before
+            }
+            FLICKER_24 => {
+                demand((argument as usize) < n)?;
+                let level = usize::from(row.level);
+                self.rows[level].turn = argument as u16;
+                24
+            }
+            LOOK_22 => self.look(p, argument)?,
+            GO_20 => {
+                demand(argument == 0)?;
+                row.act = 1;
+                row.level = n as u16 - 1;
+                row.est = others();
+                row.ahead = self.competing;
+                self.competing |= only(p);
+                21
+            }
+            GO_21 => {
+                demand(argument == 0)?;
+                let above_0 = row.level > 0;
+                row.lis = if above_0 { row.est } else { row.lis };
+                if above_0 {
+                    22
+                } else {
+                    30
+                }
+            }
+            GO_22 if row.lis == 0 => {
+                demand(argument == 0)?;
+                23
+            }
+            GO_23 => {
+                demand(argument == 0)?;
+                self.reconsider(p)
+            }
+            GO_24 => {
+                demand(argument == 0)?;
+                row.bb = 1;
+                row.est = others();
+                row.ahead = self.competing & others();
+                let level = usize::from(row.level);
+                self.rows[level].turn = p as u16;
+                21
+            }
+            GO_30 => {
+                demand(argument == 0)?;
+                self.rows.iter_mut().for_each(|row| row.ahead &= !only(p));
+                self.competing &= others();
+                40
+            }
+            GO_40 => {
+                demand(argument == 0)?;
+                row.act = 0;
+                10
+            }
+            _ => return Err(refusal::NOT_ALLOWED),
+        };
+        self.rows[p].loc = after;
+        Ok(Event { kind, p, before, after })
+    }
+
+    /// LOOK at 22: q leaves lis, and est too if its act is 0.
+    #[inline(always)]
+    fn look(&mut self, p: usize, argument: u32) -> Result<u16, u16> {
+        let lis = self.rows[p].lis;
+        if lis == 0 {
+            return Err(refusal::NOT_ALLOWED);
+        }
+        demand(u32::from(lis) & 1u32.checked_shl(argument).unwrap_or(0) != 0)?;
+        let q = argument as usize;
+        let idle = self.rows[q].act ^ 1;
+        let row = &mut self.rows[p];
+        row.lis = lis & !only(q);
+        row.est &= !(idle << q);
+        Ok(22)
+    }
+
+    /// GO at 23: the size of est decides first, then bb, then the turn cell of the level.
+    #[inline(always)]
+    fn reconsider(&mut self, p: usize) -> u16 {
+        let turn = self.rows[usize::from(self.rows[p].level)].turn;
+        let row = &mut self.rows[p];
+        let size = row.est.count_ones() as u16;
+        let moves = size < row.level;
+        let pushes = !moves & (row.bb == 0);
+        let falls = !moves & (turn != p as u16) & !pushes;
+        row.level = if moves { size } else { row.level - u16::from(falls) };
+        row.bb &= u16::from(!(moves | falls));
+        if pushes {
+            24
+        } else {
+            21
+        }
+    }
+}
+
+/// A kind at the location of a code.
+const fn at(kind: u32, loc: u16) -> u32 {
+    let mut code = 0;
+    while LOCATIONS[code as usize] != loc {
+        code += 1;
+    }
+    kind << 3 | code
+}
+
+const STAY_10: u32 = at(STAY, 10);
+const COME_10: u32 = at(COME, 10);
+const FLICKER_20: u32 = at(FLICKER, 20);
+const FLICKER_24: u32 = at(FLICKER, 24);
+const FLICKER_40: u32 = at(FLICKER, 40);
+const LOOK_22: u32 = at(LOOK, 22);
+const GO_20: u32 = at(GO, 20);
+const GO_21: u32 = at(GO, 21);
+const GO_22: u32 = at(GO, 22);
+const GO_23: u32 = at(GO, 23);
+const GO_24: u32 = at(GO, 24);
+const GO_30: u32 = at(GO, 30);
+const GO_40: u32 = at(GO, 40);
+
+#[inline]
+fn demand(argument_fits: bool) -> Result<(), u16> {
+    if argument_fits {
+        Ok(())
+    } else {
+        Err(refusal::ARGUMENT)
+    }
+}

@@ -1,0 +1,57 @@
+//! Event words: bits 31-28 the kind, 23-16 the process, 7-0 the argument, the others 0.
+
+use crate::refusal;
+use crate::row::MOST;
+
+pub const STAY: u32 = 1;
+pub const COME: u32 = 2;
+pub const FLICKER: u32 = 3;
+pub const GO: u32 = 4;
+pub const LOOK: u32 = 5;
+
+const SPARE: u32 = 0x0F00_FF00;
+
+/// A word in its three parts; the process is not yet compared with anything.
+#[derive(Clone, Copy, Debug, PartialEq, Eq)]
+pub struct Parts {
+    pub kind: u32,
+    pub process: u32,
+    pub argument: u32,
+}
+
+/// The parts of a word, or 8 for its kind or a spare bit.
+#[inline]
+pub(crate) fn split(word: u32) -> Result<Parts, u16> {
+    let kind = word >> 28;
+    if !(STAY..=LOOK).contains(&kind) || word & SPARE != 0 {
+        return Err(refusal::WORD_FORM);
+    }
+    Ok(Parts { kind, process: word >> 16 & 0xFF, argument: word & 0xFF })
+}
+
+/// The word of three parts that fit their bits.
+pub(crate) fn join(kind: u32, process: u32, argument: u32) -> u32 {
+    kind << 28 | process << 16 | argument
+}
+
+/// Takes a word apart without a table: 8, then 9 for a process over 15.
+pub fn take_apart(word: u32) -> Result<Parts, u16> {
+    let parts = split(word)?;
+    if parts.process as usize >= MOST {
+        return Err(refusal::NO_PROCESS);
+    }
+    Ok(parts)
+}
+
+/// Puts a word together: 8 for the kind, then 9 for a process over 15, then 11 for an argument over 255.
+pub fn put_together(kind: u32, process: u32, argument: u32) -> Result<u32, u16> {
+    if !(STAY..=LOOK).contains(&kind) {
+        Err(refusal::WORD_FORM)
+    } else if process as usize >= MOST {
+        Err(refusal::NO_PROCESS)
+    } else if argument > 0xFF {
+        Err(refusal::ARGUMENT)
+    } else {
+        Ok(join(kind, process, argument))
+    }
+}

@@ -1,0 +1,6 @@
+//! All tests of the reference, in one program.
+
+mod document;
+mod example;
+mod exclusion;
+mod models;

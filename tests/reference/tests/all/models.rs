@@ -1,0 +1,81 @@
+//! The fast engine against the naive model, and the generated cases against the faults that they must see.
+
+use reference::compare::{make_case, shrink, Case, Counts, Kind, Naive, Reference};
+use reference::generate::Random;
+use reference::naive::Fault;
+
+/// The first case of a seed on which the reference and the naive model with a fault differ, among `rounds` of each kind.
+fn first_difference(seed: u64, rounds: u64, fault: Fault, mut note: impl FnMut(&Case)) -> Option<Case> {
+    let other = Naive(fault);
+    let kinds = Kind::ALL.len() as u64;
+    (0..rounds * kinds).find_map(|number| {
+        let kind = Kind::ALL[(number % kinds) as usize];
+        let case = make_case(&mut Random::of_case(seed, number), kind);
+        note(&case);
+        (case.answer(&Reference) != case.answer(&other)).then_some(case)
+    })
+}
+
+#[test]
+fn the_two_models_agree() {
+    let mut counts = Counts::default();
+    let seed = 2009;
+    let difference = first_difference(seed, 8_000, Fault::None, |case| counts.note(case, &case.answer(&Reference)));
+    if let Some(case) = difference {
+        let other = Naive(Fault::None);
+        let small = shrink(case, &|case| case.answer(&Reference) != case.answer(&other));
+        panic!("{small}\nreference: {}\nnaive: {}", small.answer(&Reference), small.answer(&other));
+    }
+    println!("{}", counts.report());
+    assert_eq!(counts.unseen(), Vec::<String>::new());
+    assert!(counts.met()[1..].iter().all(|&met| met > 0));
+    // deep for every number of processes: 24, 30 and 40
+    for n in 2..=16 {
+        assert!(counts.visits[n][5..].iter().all(|&visits| visits > 300), "{n}: {:?}", counts.visits[n]);
+    }
+}
+
+#[test]
+fn every_fault_is_seen() {
+    for fault in Fault::ALL {
+        let mut cases = 0;
+        let found = first_difference(1, 4_000, fault, |_| cases += 1);
+        let found = found.unwrap_or_else(|| panic!("{fault:?} is not seen"));
+        println!("{fault:?}: seen by {:?}, case {cases}", found.kind());
+    }
+}
+
+/// The errors that move rows wrongly are seen by the call from C alone, so that a host without lent rows sees them too.
+#[test]
+fn the_call_from_c_sees_wrong_moves() {
+    let moves = [
+        Fault::EstKeptAtGo24,
+        Fault::TurnBeforeSizeOfEst,
+        Fault::AheadClearedAtGo40,
+        Fault::OwnRowStoreLostAtGo24,
+        Fault::OwnRowStoreLostAtFlicker,
+    ];
+    for fault in moves {
+        let seen = (0..20_000).any(|number| {
+            let case = make_case(&mut Random::of_case(5, number), Kind::Call);
+            case.answer(&Reference) != case.answer(&Naive(fault))
+        });
+        assert!(seen, "{fault:?} is not seen");
+    }
+}
+
+#[test]
+fn a_difference_is_made_small() {
+    let fault = Fault::OwnRowStoreLostAtGo24;
+    let differs = |case: &Case| case.answer(&Reference) != case.answer(&Naive(fault));
+    let case = (0..20_000)
+        .map(|number| make_case(&mut Random::of_case(7, number), Kind::Call))
+        .find(|case| differs(case))
+        .expect("a difference");
+    let small = shrink(case, &differs);
+    let bytes = match &small {
+        Case::Call { input, .. } => input.bytes.len(),
+        _ => 0,
+    };
+    assert_eq!(bytes, 4 * 11, "not two processes and one GO: {small}");
+}
