@@ -15,17 +15,6 @@ ghost use Rattle.machine.specs.Steps.{entered, passed, looked, reconsidered, pu
 ghost use Rattle.machine.specs.Steps.{forgets, allowed, argumentFits};
 ghost use Rattle.rows.specs.Bounds.{Full};
 
-// The kinds of event word.
-pub const STAY: u16 = 1;
-
-pub const COME: u16 = 2;
-
-pub const FLICKER: u16 = 3;
-
-pub const GO: u16 = 4;
-
-pub const LOOK: u16 = 5;
-
 // Bit l is set where location l goes with level 0: 10, 20, 21, 30, 40.
 const LOCATIONS_AT_ZERO: u64 = 0x100_4030_0400;
 
@@ -156,20 +145,22 @@ pub fn allowed(kind: u16, r: Row) -> bool
         return false;
     }
     ((machine::ALLOWED[code] >> kind) % 2 == 1)
-        & ((r.location != 22) | ((kind == GO) & (r.lis == 0)) | ((kind == LOOK) & (r.lis != 0)))
+        & ((r.location != 22)
+            | ((kind == machine::GO) & (r.lis == 0))
+            | ((kind == machine::LOOK) & (r.lis != 0)))
 }
 
 // Whether `a` is an argument of a kind of word at a row.
 pub fn argument_fits(n: u16, kind: u16, r: Row, a: u16) -> bool
     ensures { λ b. ⌜ b ≡ argumentFits n kind r a ⌝ }
 {
-    if kind == FLICKER {
+    if kind == machine::FLICKER {
         if r.location == 24 {
             return a < n;
         }
         return a < 2;
     }
-    if kind == LOOK {
+    if kind == machine::LOOK {
         return sets::has(r.lis, a);
     }
     a == 0

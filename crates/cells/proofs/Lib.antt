@@ -1,0 +1,3 @@
+-- Laws of the view of cells as a table.
+pub mod ViewLaws
+pub mod CheckLaws

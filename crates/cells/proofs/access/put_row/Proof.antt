@@ -1,0 +1,22 @@
+use Rattle.cells.specs.View.{cellsOf}
+use Rattle.cells.proofs.ViewLaws.{rows-set}
+use borrow.Author.Needs.{needs}
+use Rattle.cells.proofs.access.put_row.Statement.{statement}
+use Rattle.cells.proofs.access.put_row.Tie as tie
+use Rattle.cells.proofs.access.put_row.Reads as reads
+use Rattle.cells.proofs.access.put_row.Lts as lts
+
+mul-t5 : tie.Need-mul-t5
+mul-t5 c = search needs
+
+slice-set-from-cells : tie.Need-slice-set-from-cells
+slice-set-from-cells c = search needs
+
+same-length : tie.Need-same-length
+same-length c = search needs
+
+returns : tie.Need-returns
+returns c = record { rows-are = rows-set (c .args .cells .now) (c .args .p) (cellsOf (c .args .r)); size-is = search needs }
+
+pub put-row-spec : {M : Type 1} → statement M
+put-row-spec = tie.close (tie.spec mul-t5 slice-set-from-cells same-length returns)

@@ -1,0 +1,36 @@
+use mathlib.Core.Path.{ap, _∙_}
+use lib.ListN.{set}
+use Rattle.machine.specs.Rows.{withTurn}
+use Rattle.machine.specs.Steps.{turned}
+use Rattle.machine.specs.declared.Row.{Row}
+use Rattle.cells.specs.View.{rowsOf}
+use borrow.Author.Needs.{needs}
+use Rattle.cells.proofs.access.turn_to.Statement.{statement}
+use Rattle.cells.proofs.access.turn_to.Tie as tie
+use Rattle.cells.proofs.access.turn_to.Reads as reads
+use Rattle.cells.proofs.access.turn_to.Lts as lts
+use Rattle.cells.proofs.access.put_row.Reads as put-row-reads
+use Rattle.cells.proofs.access.row_at.Reads as row-at-reads
+
+row-at-requires : tie.Need-row-at-requires
+row-at-requires c κs = search needs
+
+put-row-requires : tie.Need-put-row-requires
+put-row-requires c κs = search needs
+
+same-length : tie.Need-same-length
+same-length c = search needs
+
+returns : tie.Need-returns
+unfolding turned
+returns c =
+    let a = c .before .before .before .before .before .args in
+    record {
+      rows-are =
+          c .before .put-row .ensures .rows-are
+          ∙ ap (λ (r : Row). set (rowsOf (a .cells .now)) (a .k) (withTurn (a .v) r)) (c .before .before .before .row-at .ensures);
+      size-is = c .before .put-row .ensures .size-is;
+    }
+
+pub turn-to-spec : {M : Type 1} → statement M
+turn-to-spec = tie.close (tie.spec row-at-requires put-row-requires same-length returns)

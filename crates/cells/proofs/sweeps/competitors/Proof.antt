@@ -1,0 +1,86 @@
+use Prim.Native.Nat.{ℕ, _+_, _*_, _^_, _%_, _≤_, _<_, _-_}
+use mathlib.Core.Path.{_≡_, ap, sym, subst, _∙_}
+use mathlib.Core.Logic.{⊎-elim}
+use native.Mathlib.Omega.{arith}
+use lib.ListN.{length}
+use borrow.Author.Needs.{needs}
+use Rattle.counting.specs.Sets.{setOf}
+use Rattle.counting.proofs.BitLaws.{gather-fits, gather-in, gather-out}
+use Rattle.machine.specs.Tables.{row, competes, competitors}
+use Rattle.cells.specs.View.{rowsOf}
+use Rattle.cells.proofs.ViewLaws.{rows-length}
+use Rattle.cells.proofs.sweeps.competitors.Statement.{statement}
+use Rattle.cells.proofs.sweeps.competitors.Tie as tie
+use Rattle.cells.proofs.sweeps.competitors.Reads as reads
+use Rattle.cells.proofs.sweeps.competitors.Lts as lts
+use Rattle.cells.proofs.access.row_at.Reads as row-at-reads
+use Rattle.rows.proofs.competes.Reads as competes-reads
+
+abbrev Inv-loop : tie.InvT-loop
+Inv-loop cells n s₀ q₀ s q = (q ≤ n) × (n ≤ 16) × (s ≡ setOf (λ i. competes (row (rowsOf cells) i)) q)
+
+abbrev μ-loop : tie.MeasureT-loop
+μ-loop cells n s₀ q₀ s q = n - q
+
+loop-holds : tie.Need-loop-holds Inv-loop μ-loop
+unfolding setOf
+loop-holds c = search needs
+
+row-at-requires : tie.Need-row-at-requires Inv-loop μ-loop
+row-at-requires c κs = search needs
+
+competes-requires : tie.Need-competes-requires Inv-loop μ-loop
+competes-requires c κs = search needs
+
+cast-s : tie.Need-cast-s Inv-loop μ-loop
+cast-s c = search needs
+
+shl-s : tie.Need-shl-s Inv-loop μ-loop
+shl-s c = search needs
+
+add-s : tie.Need-add-s Inv-loop μ-loop
+add-s c =
+    let q = c .before .before .before .before .loop .q in
+    record {
+      fits = subst (λ (s : ℕ). s + 1 * 2 ^ q % 65536 < 65536) (sym (c .before .before .before .before .loop .inv .2)) (gather-fits _ q (omega arith));
+    }
+
+add-q : tie.Need-add-q Inv-loop μ-loop
+add-q c = search needs
+
+loop-less : tie.Need-loop-less Inv-loop μ-loop
+loop-less c = search needs
+
+loop-again : tie.Need-loop-again Inv-loop μ-loop
+loop-again c =
+    let q = c .before .before .before .before .loop .q in
+    let v = c .before .before .before .before .loop .inv .2 in
+    let e = sym (ap competes (c .before .before .row-at .ensures)) ∙ sym (c .before .competes .ensures) in
+    ⊎-elim
+    (λ w. (search needs, search needs, w .1 ∙ ap (λ (s : ℕ). s + 1 * 2 ^ q % 65536) v ∙ gather-in _ q (omega arith) (e ∙ w .0 .taken)))
+    (λ w. (search needs, search needs, w .1 ∙ v ∙ gather-out _ q (omega arith) (e ∙ w .0 .left)))
+    (c .if1 .came)
+
+returns : tie.Need-returns Inv-loop μ-loop
+unfolding competitors
+returns c =
+    let x = c .before .before .args .cells .now in
+    let e : c .before .loop .q ≡ length (rowsOf x) = omega (arith, rows-length x) in
+    c .before .loop .inv .2 ∙ ap (setOf (λ i. competes (row (rowsOf x) i))) e
+
+pub competitors-spec : {M : Type 1} → statement M
+competitors-spec =
+    tie.close
+    (tie.spec
+    Inv-loop
+    μ-loop
+    loop-holds
+    row-at-requires
+    competes-requires
+    cast-s
+    shl-s
+    add-s
+    add-q
+    loop-less
+    loop-again
+    returns)

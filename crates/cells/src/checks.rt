@@ -1,0 +1,30 @@
+// Whether a table in place is sound.
+use crate::access::row_at;
+ghost use mathlib.Core.Path.{_≡_};
+ghost use Rattle.machine.specs.Tables.{tableRefusal};
+ghost use Rattle.cells.specs.View.{rowsOf};
+
+// 0 for a sound table, else the number of its refusal: 6 or 7. Every row is looked at without a
+// branch, for a sound table has no row to stop at.
+pub fn check(cells: &[[u16; 8]]) -> u16
+    ensures { λ r. ⌜ r ≡ tableRefusal (rowsOf (now (cells .entry))) ⌝ }
+{
+    let n = cells.len();
+    if n < 2 {
+        return machine::WRONG_SIZE;
+    }
+    if 16 < n {
+        return machine::WRONG_SIZE;
+    }
+    let full = rows::full_set(n as u16);
+    let mut good = true;
+    let mut q = 0;
+    while q < n {
+        good = good & rows::sound_row(n as u16, full, q as u16, row_at(cells, q));
+        q += 1;
+    }
+    if !good {
+        return machine::UNSOUND_ROW;
+    }
+    0
+}

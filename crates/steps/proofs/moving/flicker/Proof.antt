@@ -1,0 +1,87 @@
+-- `moving::flicker` meets its contract. Assumes nothing.
+use Prim.Native.Nat.{ℕ, _<_}
+use mathlib.Core.Path.{_≡_, refl, sym, ap, subst, _∙_}
+use native.Mathlib.Omega.{arith}
+use lib.ListN.{length, set}
+use Rattle.machine.specs.Tables.{row}
+use Rattle.machine.specs.Rows.{withAct}
+use Rattle.machine.specs.Steps.{turned}
+use Rattle.machine.specs.declared.Row.{Row}
+use Rattle.machine.proofs.Forms.{flickered-act, flickered-turn}
+use Rattle.cells.specs.View.{rowsOf}
+use borrow.Author.Needs.{needs}
+use Rattle.steps.proofs.moving.flicker.Statement.{statement}
+use Rattle.steps.proofs.moving.flicker.Tie as tie
+use Rattle.steps.proofs.moving.flicker.Reads as reads
+use Rattle.steps.proofs.moving.flicker.Lts as lts
+use Rattle.cells.proofs.access.put_row.Reads as put-row-reads
+use Rattle.cells.proofs.access.row_at.Reads as row-at-reads
+use Rattle.cells.proofs.access.turn_to.Reads as turn-to-reads
+use Rattle.rows.proofs.flicker_act.Reads as flicker-act-reads
+
+row-at-requires : tie.Need-row-at-requires
+row-at-requires c κs = search needs
+
+cast-turn-to : tie.Need-cast-turn-to
+cast-turn-to c = search needs
+
+turn-to-requires : tie.Need-turn-to-requires
+turn-to-requires c κs =
+    let l = ap (λ (q : Row). q .level) (c .before .before .before .before .row-at .ensures) in
+    let h = c .before .before .before .before .before .before .pre .low in
+    omega arith
+
+same-length : tie.Need-same-length
+same-length c = search needs
+
+returns : tie.Need-returns
+unfolding turned
+returns c =
+    let t = rowsOf (c .before .before .before .before .before .before .before .before .args .cells .now) in
+    let p = c .before .before .before .before .before .before .before .before .args .p in
+    let a = c .before .before .before .before .before .before .before .before .args .a in
+    let own = c .before .before .before .before .before .before .row-at .ensures in
+    record {
+      rows-are =
+          c .before .turn-to .ensures .rows-are
+          ∙ ap (λ (q : Row). turned (q .level) a t) own
+          ∙ sym (flickered-turn t p a (ap (λ (q : Row). q .location) (sym own) ∙ c .before .before .before .before .if1 .taken));
+      size-is = c .before .turn-to .ensures .size-is;
+    }
+
+flicker-act-requires : tie.Need-flicker-act-requires
+flicker-act-requires c κs = search needs
+
+put-row-requires : tie.Need-put-row-requires
+put-row-requires c κs = search needs
+
+same-length-2 : tie.Need-same-length-2
+same-length-2 c = search needs
+
+returns-2 : tie.Need-returns-2
+returns-2 c =
+    let t = rowsOf (c .before .before .before .before .before .before .before .before .args .cells .now) in
+    let p = c .before .before .before .before .before .before .before .before .args .p in
+    let a = c .before .before .before .before .before .before .before .before .args .a in
+    let own = c .before .before .before .before .before .before .row-at .ensures in
+    record {
+      rows-are =
+          c .before .put-row .ensures .rows-are
+          ∙ ap (set t p) (c .before .before .flicker-act .ensures ∙ ap (withAct a) own)
+          ∙ sym (flickered-act t p a (λ z. c .before .before .before .before .if1 .left (ap (λ (q : Row). q .location) own ∙ z)));
+      size-is = c .before .put-row .ensures .size-is;
+    }
+
+pub flicker-spec : {M : Type 1} → statement M
+flicker-spec =
+    tie.close
+    (tie.spec
+    row-at-requires
+    cast-turn-to
+    turn-to-requires
+    same-length
+    returns
+    flicker-act-requires
+    put-row-requires
+    same-length-2
+    returns-2)

@@ -1,0 +1,59 @@
+-- What a step does to cells and what it answers.
+--
+--   goEvent r         ==   the event of GO at a row, read before the step.
+--   kindEvent k r     ==   the event of an allowed kind at a row, read before the step.
+--   Ready x p         <=>  process p of the cells x can move: what a sound table gives.
+--   Movable x k p a   <=>  and kind k with argument a is one of the five.
+--   Goes, Moves       <=>  the cells x have become y by GO, or by kind k, with event e.
+--   Steps x w y s     <=>  the step of word w made y of the cells x and answered s.
+--
+-- Assumes nothing.
+use Prim.Native.Nat.{ℕ, _≤_, _<_}
+use mathlib.Core.Path.{_≡_}
+use mathlib.Core.Bool.{cond, _&&_}
+use mathlib.Core.List.{List}
+use lib.Dec.{eqb}
+use lib.ListN.{length}
+use Rattle.machine.specs.Tables.{row}
+use Rattle.machine.specs.Words.{COME, GO, LOOK}
+use Rattle.machine.specs.Steps.{gone, moved, afterWord, answerOf}
+use Rattle.machine.specs.declared.Row.{Row}
+use Rattle.machine.specs.declared.Event.{Event}
+use Rattle.machine.specs.declared.Stepped.{Stepped}
+use Rattle.cells.specs.View.{rowsOf, Becomes}
+
+-- ---- events, told before the step
+
+-- GO at 21 with level 0 goes to 30, and no other step does
+abbrev pub goEvent : Row → Event
+goEvent r = cond (eqb (r .location) 21 && eqb (r .level) 0) Event.Arrival Event.Quiet
+
+abbrev pub kindEvent : ℕ → Row → Event
+kindEvent k r = cond (eqb k COME) Event.Come (cond (eqb k GO) (goEvent r) Event.Quiet)
+
+-- ---- what the inner functions require
+
+pub record Ready (x : List (List ℕ)) (p : ℕ) : Type 0 where
+  pub one : p < length x
+  pub few : length x ≤ 16
+  pub low : row (rowsOf x) p .level < length x
+
+pub record Movable (x : List (List ℕ)) (k p a : ℕ) : Type 0 where
+  pub ready : Ready x p
+  pub first : 1 ≤ k
+  pub last : k ≤ 5
+  pub seen : k ≡ LOOK → a < length x
+
+-- ---- what the functions ensure
+
+pub record Goes (x : List (List ℕ)) (p : ℕ) (y : List (List ℕ)) (e : Event) : Type 0 where
+  pub event-is : e ≡ goEvent (row (rowsOf x) p)
+  pub becomes : Becomes x (gone (rowsOf x) p) y
+
+pub record Moves (x : List (List ℕ)) (k p a : ℕ) (y : List (List ℕ)) (e : Event) : Type 0 where
+  pub event-is : e ≡ kindEvent k (row (rowsOf x) p)
+  pub becomes : Becomes x (moved (rowsOf x) k p a) y
+
+pub record Steps (x : List (List ℕ)) (w : ℕ) (y : List (List ℕ)) (s : Stepped) : Type 0 where
+  pub answer-is : s ≡ answerOf (rowsOf x) w
+  pub becomes : Becomes x (afterWord (rowsOf x) w) y
