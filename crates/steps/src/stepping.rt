@@ -16,20 +16,23 @@ pub fn word_refusal(cells: &[[u16; 8]], word: u32) -> u16
     requires { ⌜ length (now cells) ≤ 16 ⌝ }
     ensures { λ r. ⌜ r ≡ wordRefusal (rowsOf (now (cells .entry))) word ⌝ }
 {
-    if !words::formed(word) {
-        return machine::BAD_KIND;
-    }
     let n = cells.len();
     let p = words::process_of(word) as usize;
+    let well_formed = words::formed(word);
+    if !well_formed {
+        return machine::BAD_KIND;
+    }
     if n <= p {
         return machine::NO_PROCESS;
     }
     let kind = words::kind_of(word);
     let r = row_at(cells, p);
-    if !rows::allowed(kind, r) {
+    let there = rows::allowed(kind, r);
+    let fits = rows::argument_fits(n as u16, kind, r, words::argument_of(word));
+    if !there {
         return machine::NOT_ALLOWED;
     }
-    if !rows::argument_fits(n as u16, kind, r, words::argument_of(word)) {
+    if !fits {
         return machine::BAD_ARGUMENT;
     }
     0
@@ -57,9 +60,9 @@ pub fn advance(cells: &mut [[u16; 8]], word: u32) -> Stepped
 pub fn step(cells: &mut [[u16; 8]], word: u32) -> Stepped
     ensures { λ s. ⌜ Steps (now (cells .entry)) word (now (cells .exit)) s ⌝ }
 {
-    let refusal = check(cells);
-    if refusal != 0 {
-        return Stepped::Refused(refusal);
+    let unsound = check(cells);
+    if unsound != 0 {
+        return Stepped::Refused(unsound);
     }
     advance(cells, word)
 }

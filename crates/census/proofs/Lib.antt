@@ -1,0 +1,2 @@
+-- Laws of the census.
+pub mod CensusLaws

@@ -1,0 +1,2 @@
+-- Laws of lists of words.
+pub mod ListLaws

@@ -1,0 +1,152 @@
+-- Laws of a run word by word, and what the answer of a step says of its word.
+--
+--   run-more, run-stop, run-end      a word that is accepted, one that is refused, and no word left
+--   run-turn, run-halt, run-past     the same at word i of a list
+--   answer-moved, answer-refused     what the answer of a step tells
+--   counted-words, -comes, -arrivals how a word counts
+--   ended, runs-as                   what the answer of a run says of its outcome
+--   runOf-table, runOf-words, runOf-taken    a run with a refused table, with too many words, and the others
+--
+-- Assumes nothing.
+use Prim.Native.Nat.{ℕ, suc, _+_, _≤_, _<_}
+use mathlib.Core.Path.{_≡_, refl, ap, sym, subst, _∙_}
+use mathlib.Core.Bool.{Bool, true, false, cond}
+use mathlib.Core.List.{List, [], _∷_}
+use native.Mathlib.Omega.{arith}
+use native.Mathlib.Numerals.{add-one}
+use lib.Dec.{eqb}
+use lib.ListN.{length, getD, drop}
+use lib.Seq.{drop-cons, drop-length}
+use borrow.Author.Tests.{eqb-true, eq-eqb, ne-eqb, eqb-false, le-leb, lt-leb}
+use Rattle.machine.specs.Tables.{Table, tableRefusal}
+use Rattle.machine.specs.Steps.{refusalOf, afterWord, eventOf, answerOf}
+use Rattle.machine.specs.Runs.{Outcome, counted, zeroTally, limit, ranOf, runFrom, runOf}
+use Rattle.machine.specs.declared.Event.{Event}
+use Rattle.machine.specs.declared.Event.the-variants.{Quiet, Come, Arrival}
+use Rattle.machine.specs.declared.Stepped.{Stepped}
+use Rattle.machine.specs.declared.Tally.{Tally}
+use Rattle.machine.proofs.Accepted.{refused-same}
+use Rattle.cells.specs.View.{rowsOf}
+use Rattle.runs.specs.Outcomes.{Runs}
+use Rattle.runs.specs.declared.RunAnswer.{RunAnswer}
+
+-- ---- word by word
+
+module _ (t : Table) (h : Tally) (w : ℕ) (ws : List ℕ) where
+  -- the run from w on, by whether w is accepted
+  unfoldable from : Bool → Outcome
+  from b = elim b [ true ↦ runFrom (afterWord t w) (counted (eventOf t w) h) ws | false ↦ record { table = t; tally = h; refusal = refusalOf t w } ]
+
+  from-is : runFrom t h (w ∷ ws) ≡ from (eqb (refusalOf t w) 0)
+  unfolding runFrom from
+  from-is = refl
+
+  pub run-more : refusalOf t w ≡ 0 → runFrom t h (w ∷ ws) ≡ runFrom (afterWord t w) (counted (eventOf t w) h) ws
+  unfolding from
+  run-more e = from-is ∙ ap from (eq-eqb _ _ e)
+
+  pub run-stop : (refusalOf t w ≡ 0 → ⊥) → runFrom t h (w ∷ ws) ≡ record { table = t; tally = h; refusal = refusalOf t w }
+  unfolding from
+  run-stop e = from-is ∙ ap from (ne-eqb _ _ e)
+
+pub run-end : (t : Table) (h : Tally) → runFrom t h [] ≡ record { table = t; tally = h; refusal = 0 }
+unfolding runFrom
+run-end t h = refl
+
+-- word i of a list met: accepted, with u the table and g the tally after it
+pub run-turn : (t u : Table) (h g : Tally) (ws : List ℕ) (i : ℕ)
+    → i < length ws
+    → refusalOf t (getD ws i 0) ≡ 0
+    → u ≡ afterWord t (getD ws i 0)
+    → g ≡ counted (eventOf t (getD ws i 0)) h
+    → runFrom t h (drop i ws) ≡ runFrom u g (drop (i + 1) ws)
+run-turn t u h g ws i l e a b =
+    ap (runFrom t h) (drop-cons ws i 0 l) ∙ run-more t h (getD ws i 0) (drop (suc i) ws) e ∙ rw (a, b, add-one i) refl
+
+-- or refused with v, and the table after it is the same
+pub run-halt : (t u : Table) (h : Tally) (ws : List ℕ) (i v : ℕ)
+    → i < length ws
+    → (refusalOf t (getD ws i 0) ≡ 0 → ⊥)
+    → u ≡ afterWord t (getD ws i 0)
+    → v ≡ refusalOf t (getD ws i 0)
+    → runFrom t h (drop i ws) ≡ record { table = u; tally = h; refusal = v }
+run-halt t u h ws i v l n a b =
+    ap (runFrom t h) (drop-cons ws i 0 l)
+    ∙ run-stop t h (getD ws i 0) (drop (suc i) ws) n
+    ∙ rw (a ∙ refused-same t (getD ws i 0) n, b) refl
+
+-- past the last word
+pub run-past : (t : Table) (h : Tally) (ws : List ℕ) (i : ℕ)
+    → i ≡ length ws
+    → runFrom t h (drop i ws) ≡ record { table = t; tally = h; refusal = 0 }
+run-past t h ws i e = ap (λ (k : ℕ). runFrom t h (drop k ws)) e ∙ ap (runFrom t h) (drop-length ws) ∙ run-end t h
+
+-- ---- the answer of a step
+
+moved-case : (b : Bool) (d e : Event) (v : ℕ) → cond b (Stepped.Moved d) (Stepped.Refused v) ≡ Stepped.Moved e → (b ≡ true) × (e ≡ d)
+moved-case true d e v h = (refl, cc)
+moved-case false d e v h = absurd (let z : _≡_ {A = ℕ} 0 1 = cc in omega arith)
+
+refused-case : (b : Bool) (d : Event) (u v : ℕ) → cond b (Stepped.Moved d) (Stepped.Refused v) ≡ Stepped.Refused u → (b ≡ false) × (u ≡ v)
+refused-case true d u v h = absurd (let z : _≡_ {A = ℕ} 0 1 = cc in omega arith)
+refused-case false d u v h = (refl, cc)
+
+module _ (t : Table) (w : ℕ) where
+  pub answer-moved : (e : Event) → answerOf t w ≡ Stepped.Moved e → (refusalOf t w ≡ 0) × (e ≡ eventOf t w)
+  unfolding answerOf
+  answer-moved e h = let m = moved-case (eqb (refusalOf t w) 0) (eventOf t w) e (refusalOf t w) h in (eqb-true _ _ (m .0), m .1)
+
+  pub answer-refused : (u : ℕ) → answerOf t w ≡ Stepped.Refused u → (refusalOf t w ≡ 0 → ⊥) × (u ≡ refusalOf t w)
+  unfolding answerOf
+  answer-refused u h = let m = refused-case (eqb (refusalOf t w) 0) (eventOf t w) u (refusalOf t w) h in (eqb-false _ _ (m .0), m .1)
+
+-- ---- the tally
+
+pub counted-words : (e : Event) (h : Tally) → counted e h .words ≡ h .words + 1
+counted-words Quiet h = refl
+counted-words Come h = refl
+counted-words Arrival h = refl
+
+pub counted-comes : (e : Event) (h : Tally) → counted e h .comes ≤ h .comes + 1
+counted-comes Quiet h = omega arith
+counted-comes Come h = omega arith
+counted-comes Arrival h = omega arith
+
+pub counted-arrivals : (e : Event) (h : Tally) → counted e h .arrivals ≤ h .arrivals + 1
+counted-arrivals Quiet h = omega arith
+counted-arrivals Come h = omega arith
+counted-arrivals Arrival h = omega arith
+
+-- ---- the answer of a run
+
+-- a run that ended with table y, tally h and refusal v, and answers so
+pub ended : (x y : List (List ℕ)) (o : Outcome) (h : Tally) (v : ℕ) (r : RunAnswer)
+    → length y ≡ length x
+    → o ≡ record { table = rowsOf y; tally = h; refusal = v }
+    → r ≡ record { ran = record { taken = h .words; refusal = v }; tally = h }
+    → Runs x o y r
+ended x y o h v r l e a =
+    record {
+      becomes = record { rows-are = sym (ap (λ (k : Outcome). k .table) e); size-is = l };
+      ran-is = ap (λ (k : RunAnswer). k .ran) a ∙ sym (ap ranOf e);
+      tally-is = ap (λ (k : RunAnswer). k .tally) a ∙ sym (ap (λ (k : Outcome). k .tally) e);
+    }
+
+-- an outcome by another name
+pub runs-as : {x y : List (List ℕ)} {o u : Outcome} {r : RunAnswer} → o ≡ u → Runs x o y r → Runs x u y r
+runs-as {x} {y} {o} {u} {r} e h = subst (λ (k : Outcome). Runs x k y r) e h
+
+-- ---- the checks before a run
+
+module _ (t : Table) (ws : List ℕ) where
+  pub runOf-table : (v : ℕ) → v ≡ tableRefusal t → (v ≡ 0 → ⊥) → runOf t ws ≡ record { table = t; tally = zeroTally; refusal = v }
+  unfolding runOf
+  runOf-table v e n = rw (e, ne-eqb (tableRefusal t) 0 (λ z. n (e ∙ z))) refl
+
+  pub runOf-words : tableRefusal t ≡ 0 → limit < length ws → runOf t ws ≡ record { table = t; tally = zeroTally; refusal = 12 }
+  unfolding runOf
+  runOf-words e l = rw (eq-eqb (tableRefusal t) 0 e, lt-leb (length ws) limit l) refl
+
+  pub runOf-taken : tableRefusal t ≡ 0 → length ws ≤ limit → runOf t ws ≡ runFrom t zeroTally ws
+  unfolding runOf
+  runOf-taken e l = rw (eq-eqb (tableRefusal t) 0 e, le-leb (length ws) limit l) refl

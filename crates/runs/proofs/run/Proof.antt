@@ -1,0 +1,78 @@
+-- `run` meets its contract. Assumes nothing.
+use mathlib.Core.Path.{_≡_, refl, sym, _∙_}
+use native.Mathlib.Omega.{arith}
+use lib.ListN.{length}
+use borrow.Author.Needs.{needs}
+use Rattle.machine.specs.Tables.{tableRefusal}
+use Rattle.machine.specs.Runs.{zeroTally}
+use Rattle.cells.specs.View.{rowsOf}
+use Rattle.runs.proofs.RunLaws.{runOf-table, runOf-words, runOf-taken, ended, runs-as}
+use Rattle.runs.proofs.run.Statement.{statement}
+use Rattle.runs.proofs.run.Tie as tie
+use Rattle.runs.proofs.run.Reads as reads
+use Rattle.runs.proofs.run.Lts as lts
+use Rattle.cells.proofs.checks.check.Reads as check-reads
+use Rattle.runs.proofs.answer.Reads as answer-reads
+use Rattle.runs.proofs.run_words.Reads as run-words-reads
+
+check-requires : tie.Need-check-requires
+check-requires c κs = search needs
+
+answer-requires : tie.Need-answer-requires
+answer-requires c κs = search needs
+
+same-length : tie.Need-same-length
+same-length c = search needs
+
+returns : tie.Need-returns
+returns c =
+    let a = c .before .before .before .before .before .args in
+    let x = a .cells .now in
+    let o = runOf-table (rowsOf x) (a .words .now) _ (c .before .before .check .ensures) (c .before .if1 .taken) in
+    ended x x _ zeroTally _ _ refl o (c .answer .ensures)
+
+answer-requires-2 : tie.Need-answer-requires-2
+answer-requires-2 c κs = search needs
+
+same-length-2 : tie.Need-same-length-2
+same-length-2 c = search needs
+
+returns-2 : tie.Need-returns-2
+returns-2 c =
+    let a = c .before .before .before .before .before .before .args in
+    let x = a .cells .now in
+    let z : tableRefusal (rowsOf x) ≡ 0 = sym (c .before .before .before .check .ensures) ∙ c .before .before .if1 .left in
+    ended x x _ zeroTally 12 _ refl (runOf-words (rowsOf x) (a .words .now) z (omega arith)) (c .answer2 .ensures)
+
+run-words-requires : tie.Need-run-words-requires
+run-words-requires c κs =
+    record {
+      table-sound = sym (c .before .before .before .check .ensures) ∙ c .before .before .if1 .left;
+      words-few = omega arith;
+    }
+
+same-length-3 : tie.Need-same-length-3
+same-length-3 c = search needs
+
+returns-3 : tie.Need-returns-3
+returns-3 c =
+    let a = c .before .before .before .before .before .before .before .before .args in
+    let x = a .cells .now in
+    let z : tableRefusal (rowsOf x) ≡ 0 =
+    sym (c .before .before .before .before .before .check .ensures) ∙ c .before .before .before .before .if1 .left in
+    runs-as (sym (runOf-taken (rowsOf x) (a .words .now) z (omega arith))) (c .before .run-words .ensures .runs)
+
+pub run-spec : {M : Type 1} → statement M
+run-spec =
+    tie.close
+    (tie.spec
+    check-requires
+    answer-requires
+    same-length
+    returns
+    answer-requires-2
+    same-length-2
+    returns-2
+    run-words-requires
+    same-length-3
+    returns-3)

@@ -1,0 +1,165 @@
+-- `run_words` meets its contract. Assumes nothing.
+use Prim.Native.Nat.{ℕ, _+_, _≤_, _<_, _-_}
+use mathlib.Core.Path.{_≡_, refl, ap, sym, subst, _∙_}
+use native.Mathlib.Omega.{arith}
+use lib.ListN.{length, getD, drop}
+use borrow.Author.Needs.{needs}
+use Rattle.machine.specs.Tables.{Table, tableRefusal}
+use Rattle.machine.specs.Steps.{eventOf}
+use Rattle.machine.specs.Runs.{counted, zeroTally, runFrom}
+use Rattle.machine.specs.declared.Event.{Event}
+use Rattle.machine.specs.declared.Tally.{Tally}
+use Rattle.machine.proofs.Soundness.{word-keeps-sound}
+use Rattle.cells.specs.View.{rowsOf}
+use Rattle.runs.specs.Outcomes.{Room}
+use Rattle.runs.proofs.RunLaws.{answer-moved, answer-refused, counted-words, counted-comes, counted-arrivals, run-turn, run-halt, run-past, ended}
+use Rattle.runs.proofs.run_words.Statement.{statement}
+use Rattle.runs.proofs.run_words.Tie as tie
+use Rattle.runs.proofs.run_words.Reads as reads
+use Rattle.runs.proofs.run_words.Lts as lts
+use Rattle.steps.proofs.stepping.advance.Reads as advance-reads
+use Rattle.runs.proofs.answer.Reads as answer-reads
+use Rattle.runs.proofs.counted.Reads as counted-reads
+
+-- the tally counts i words
+record Counts (i : ℕ) (h : Tally) : Type 0 where
+  words-are : h .words ≡ i
+  comes-few : h .comes ≤ i
+  arrivals-few : h .arrivals ≤ i
+
+count-on : (i : ℕ) (e : Event) (h : Tally) → Counts i h → Counts (i + 1) (counted e h)
+count-on i e h v =
+    record {
+      words-are = counted-words e h ∙ ap (λ (k : ℕ). k + 1) (v .words-are);
+      comes-few = omega (arith, counted-comes e h);
+      arrivals-few = omega (arith, counted-arrivals e h);
+    }
+
+abbrev Inv-loop : tie.InvT-loop
+Inv-loop cells₀ words n tally₀ i₀ cells tally i =
+    (i ≤ n)
+    × (n ≤ 8192)
+    × (n ≡ length words)
+    × (length cells ≡ length cells₀)
+    × (tableRefusal (rowsOf cells) ≡ 0)
+    × Counts i tally
+    × (runFrom (rowsOf cells₀) zeroTally words ≡ runFrom (rowsOf cells) tally (drop i words))
+
+abbrev μ-loop : tie.MeasureT-loop
+μ-loop cells₀ words n tally₀ i₀ cells tally i = n - i
+
+loop-holds : tie.Need-loop-holds Inv-loop μ-loop
+loop-holds c =
+    let p = c .before .pre in (
+      search needs,
+      p .words-few,
+      refl,
+      refl,
+      p .table-sound,
+      record { words-are = refl; comes-few = omega arith; arrivals-few = omega arith },
+      refl,
+    )
+
+mul-advance : tie.Need-mul-advance Inv-loop μ-loop
+mul-advance c = search needs
+
+shared-slice-read-advance : tie.Need-shared-slice-read-advance Inv-loop μ-loop
+shared-slice-read-advance c = search needs
+
+advance-requires : tie.Need-advance-requires Inv-loop μ-loop
+advance-requires c κs = c .before .before .before .loop .inv .4
+
+enum-known-event : tie.Need-enum-known-event Inv-loop μ-loop
+enum-known-event c = search needs
+
+counted-requires : tie.Need-counted-requires Inv-loop μ-loop
+counted-requires c κs =
+    let v = c .before .before .before .before .before .before .before .before .loop .inv .5 in
+    record { words-room = omega arith; comes-room = omega arith; arrivals-room = omega arith }
+
+enum-known-refusal : tie.Need-enum-known-refusal Inv-loop μ-loop
+enum-known-refusal c = search needs
+
+answer-requires : tie.Need-answer-requires Inv-loop μ-loop
+answer-requires c κs = search needs
+
+same-length : tie.Need-same-length Inv-loop μ-loop
+same-length c = search needs
+
+returns : tie.Need-returns Inv-loop μ-loop
+returns c =
+    let at = c .before .before .before .before .before .before .before .before .before .loop in
+    let v = at .inv in
+    let ws = c .before .before .before .before .before .before .before .before .before .before .before .args .words .now in
+    let x = c .before .before .before .before .before .before .before .before .before .before .before .args .cells .now in
+    let w = getD ws (at .i) 0 in
+    let s = c .before .before .before .before .before .advance .ensures in
+    let m = answer-refused (rowsOf (at .cells)) w _ (sym (s .answer-is) ∙ c .before .before .refusal .given .1) in
+    let o = v .6 ∙ run-halt (rowsOf (at .cells)) _ (at .tally) ws (at .i) _ (omega arith) (m .0) (s .becomes .rows-are) (m .1) in
+    record {
+      runs = ended x _ _ (at .tally) _ _ (s .becomes .size-is ∙ v .3) o (c .answer .ensures);
+      sound-after = subst (λ (t : Table). tableRefusal t ≡ 0) (sym (s .becomes .rows-are)) (word-keeps-sound (rowsOf (at .cells)) w (v .4));
+    }
+
+add-i : tie.Need-add-i Inv-loop μ-loop
+add-i c = search needs
+
+loop-less : tie.Need-loop-less Inv-loop μ-loop
+loop-less c = search needs
+
+loop-again : tie.Need-loop-again Inv-loop μ-loop
+loop-again c =
+    let at = c .before .before .before .before .before .before .before .before .before .loop in
+    let v = at .inv in
+    let ws = c .before .before .before .before .before .before .before .before .before .before .before .args .words .now in
+    let w = getD ws (at .i) 0 in
+    let s = c .before .before .before .before .before .advance .ensures in
+    let m = answer-moved (rowsOf (at .cells)) w _ (sym (s .answer-is) ∙ c .before .before .event .given .1) in
+    let h = c .counted .ensures ∙ ap (λ (e : Event). counted e (at .tally)) (m .1) in (
+      search needs,
+      v .1,
+      v .2,
+      s .becomes .size-is ∙ v .3,
+      subst (λ (t : Table). tableRefusal t ≡ 0) (sym (s .becomes .rows-are)) (word-keeps-sound (rowsOf (at .cells)) w (v .4)),
+      subst (λ (k : Tally). Counts (at .i + 1) k) (sym h) (count-on (at .i) (eventOf (rowsOf (at .cells)) w) (at .tally) (v .5)),
+      v .6
+          ∙ run-turn (rowsOf (at .cells)) _ (at .tally) _ ws (at .i) (omega arith) (m .0) (s .becomes .rows-are) h,
+    )
+
+answer-requires-2 : tie.Need-answer-requires-2 Inv-loop μ-loop
+answer-requires-2 c κs = search needs
+
+same-length-2 : tie.Need-same-length-2 Inv-loop μ-loop
+same-length-2 c = search needs
+
+returns-2 : tie.Need-returns-2 Inv-loop μ-loop
+returns-2 c =
+    let at = c .before .before .loop in
+    let v = at .inv in
+    let ws = c .before .before .before .before .args .words .now in
+    let x = c .before .before .before .before .args .cells .now in
+    let o = v .6 ∙ run-past (rowsOf (at .cells)) (at .tally) ws (at .i) (omega arith) in
+    record { runs = ended x (at .cells) _ (at .tally) 0 _ (v .3) o (c .answer2 .ensures); sound-after = v .4 }
+
+pub run-words-spec : {M : Type 1} → statement M
+run-words-spec =
+    tie.close
+    (tie.spec
+    Inv-loop
+    μ-loop
+    loop-holds
+    mul-advance
+    shared-slice-read-advance
+    advance-requires
+    enum-known-event
+    counted-requires
+    enum-known-refusal
+    answer-requires
+    same-length
+    returns
+    add-i
+    loop-less
+    loop-again
+    answer-requires-2
+    same-length-2
+    returns-2)

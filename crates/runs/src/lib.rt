@@ -1,0 +1,92 @@
+// Runs of a table in place: a list of words in order, up to the first that is refused, with a tally
+// (machine/specs/Runs.antt). specs/Outcomes.antt says what the functions here ensure.
+use cells::checks::check;
+use machine::Event;
+use machine::Ran;
+use machine::Stepped;
+use machine::Tally;
+use steps::stepping::advance;
+ghost use mathlib.Core.Path.{_≡_};
+ghost use Rattle.machine.specs.Runs.{counted, zeroTally, runFrom, runOf};
+ghost use Rattle.cells.specs.View.{rowsOf};
+ghost use Rattle.runs.specs.Outcomes.{Room, Runnable, Runs, RunsSound};
+
+// What a run hands back: how many words it took, the refusal or 0, and the tally of the words taken.
+pub struct RunAnswer {
+    pub ran: Ran,
+    pub tally: Tally,
+}
+
+// The tally after an accepted word with an event.
+pub fn counted(event: Event, tally: Tally) -> Tally
+    requires { ⌜ Room tally ⌝ }
+    ensures { λ h. ⌜ h ≡ counted event tally ⌝ }
+{
+    match event {
+        Event::Quiet => Tally {
+            words: tally.words + 1,
+            comes: tally.comes,
+            arrivals: tally.arrivals,
+        },
+        Event::Come => Tally {
+            words: tally.words + 1,
+            comes: tally.comes + 1,
+            arrivals: tally.arrivals,
+        },
+        Event::Arrival => Tally {
+            words: tally.words + 1,
+            comes: tally.comes,
+            arrivals: tally.arrivals + 1,
+        },
+    }
+}
+
+// The answer of a run that ends with a refusal, or with 0.
+fn answer(refusal: u16, tally: Tally) -> RunAnswer
+    ensures { λ r. ⌜ r ≡ record { ran = record { taken = tally .words; refusal = refusal }; tally = tally } ⌝ }
+{
+    RunAnswer {
+        ran: Ran {
+            taken: tally.words,
+            refusal: refusal as u32,
+        },
+        tally: tally,
+    }
+}
+
+// At most 8,192 words at a table that is known to be sound, which is not checked again.
+pub fn run_words(cells: &mut [[u16; 8]], words: &[u32]) -> RunAnswer
+    requires { ⌜ Runnable (now cells) (now words) ⌝ }
+    ensures { λ r. ⌜ RunsSound (now (cells .entry)) (runFrom (rowsOf (now (cells .entry))) zeroTally (now (words .entry))) (now (cells .exit)) r ⌝ }
+{
+    let n = words.len();
+    let mut tally = Tally::ZERO;
+    let mut i = 0;
+    while i < n {
+        match advance(cells, words[i]) {
+            Stepped::Moved(event) => {
+                tally = counted(event, tally);
+            }
+            Stepped::Refused(refusal) => {
+                return answer(refusal, tally);
+            }
+        }
+        i += 1;
+    }
+    answer(0, tally)
+}
+
+// A run at a table of any size and content: 6 or 7 for the table, then 12 for more than 8,192 words,
+// and no row is changed; else the words in order up to the first that is refused.
+pub fn run(cells: &mut [[u16; 8]], words: &[u32]) -> RunAnswer
+    ensures { λ r. ⌜ Runs (now (cells .entry)) (runOf (rowsOf (now (cells .entry))) (now (words .entry))) (now (cells .exit)) r ⌝ }
+{
+    let refusal = check(cells);
+    if refusal != 0 {
+        return answer(refusal, Tally::ZERO);
+    }
+    if machine::RUN_LIMIT < words.len() {
+        return answer(machine::TOO_MANY_WORDS, Tally::ZERO);
+    }
+    run_words(cells, words)
+}

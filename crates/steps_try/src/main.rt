@@ -1,0 +1,224 @@
+// Tries the step on the benchmarks of document 01 that need no image, and on each of its refusals.
+// Words are given in hexadecimal; sets are printed as numbers, bit q for process q.
+use cells::access::row_at;
+use cells::making::make_fresh;
+use lists::step_all;
+use machine::Row;
+use machine::Stepped;
+use steps::stepping::step;
+
+// Processes 0 and 1 of two, each led to 24 with the other in est, and a GO of each.
+const BOTH_TO_24: [u32; 14] = [
+    0x2000_0000,
+    0x4000_0000,
+    0x2001_0000,
+    0x4001_0000,
+    0x4000_0000,
+    0x4001_0000,
+    0x5000_0001,
+    0x5001_0000,
+    0x4000_0000,
+    0x4001_0000,
+    0x4000_0000,
+    0x4001_0000,
+    0x4000_0000,
+    0x4001_0000,
+];
+
+// One more pass of each.
+const ONE_PASS: [u32; 8] = [
+    0x4000_0000,
+    0x5000_0001,
+    0x4000_0000,
+    0x4000_0000,
+    0x4001_0000,
+    0x5001_0000,
+    0x4001_0000,
+    0x4001_0000,
+];
+
+// Process 0 alone, from 10 to 30: a LOOK at each other process. Of fewer than 16 processes the
+// LOOKs at those that are not there are refused.
+const ALONE: [u32; 21] = [
+    0x2000_0000,
+    0x4000_0000,
+    0x4000_0000,
+    0x5000_0001,
+    0x5000_0002,
+    0x5000_0003,
+    0x5000_0004,
+    0x5000_0005,
+    0x5000_0006,
+    0x5000_0007,
+    0x5000_0008,
+    0x5000_0009,
+    0x5000_000a,
+    0x5000_000b,
+    0x5000_000c,
+    0x5000_000d,
+    0x5000_000e,
+    0x5000_000f,
+    0x4000_0000,
+    0x4000_0000,
+    0x4000_0000,
+];
+
+// Writes a label and a number below 100.
+fn say(label: &[u8], value: usize) {
+    io::write_all(1, label);
+    if 10 <= value {
+        let tens = [48 + (value / 10 % 10) as u8];
+        io::write_all(1, &tens);
+    }
+    let last = [48 + (value % 10) as u8, b'\n'];
+    io::write_all(1, &last);
+}
+
+// The row of process q, or one at rest where there is none.
+fn row_of(cells: &[[u16; 8]], q: usize) -> Row {
+    if cells.len() <= q {
+        return Row::IDLE;
+    }
+    row_at(cells, q)
+}
+
+// The refusal of a step, or 0.
+fn refusal_of(answer: Stepped) -> usize {
+    match answer {
+        Stepped::Moved(_event) => 0,
+        Stepped::Refused(why) => why as usize,
+    }
+}
+
+// How many words of a list the step accepts, each given in turn.
+fn accepted(cells: &mut [[u16; 8]], words: &[u32]) -> usize {
+    let mut taken = 0;
+    let mut i = 0;
+    while i < words.len() {
+        if refusal_of(step(cells, words[i])) == 0 {
+            taken += 1;
+        }
+        i += 1;
+    }
+    taken
+}
+
+// Both led to 24 seeing each other, GO for 0, GO for 1; then one more pass each.
+fn pair() {
+    let mut cells = [[0u16; 8]; 2];
+    make_fresh(&mut cells);
+    say(
+        b"both to 24, words accepted ",
+        accepted(&mut cells, &BOTH_TO_24),
+    );
+    show_sets(&cells);
+    step_all(&mut cells, &ONE_PASS);
+    show_levels(&cells);
+}
+
+fn show_sets(cells: &[[u16; 8]]) {
+    say(b"turn[1] ", row_of(cells, 1).turn as usize);
+    say(b"ahead of 0 ", row_of(cells, 0).ahead as usize);
+    say(b"ahead of 1 ", row_of(cells, 1).ahead as usize);
+}
+
+fn show_levels(cells: &[[u16; 8]]) {
+    say(b"level of 0 ", row_of(cells, 0).level as usize);
+    say(b"level of 1 ", row_of(cells, 1).level as usize);
+    say(b"location of 1 ", row_of(cells, 1).location as usize);
+}
+
+// How many words bring a lone process to 30; 0 where it is not there.
+fn alone(cells: &mut [[u16; 8]]) -> usize {
+    make_fresh(cells);
+    let taken = accepted(cells, &ALONE);
+    if row_of(cells, 0).location == 30 {
+        taken
+    } else {
+        0
+    }
+}
+
+// The same among the first n rows.
+fn alone_among(room: &mut [[u16; 8]], n: usize) -> usize {
+    if room.len() < n {
+        return 0;
+    }
+    alone(&mut room[..n])
+}
+
+// For each number of processes.
+fn every_size() {
+    let mut room = [[0u16; 8]; 16];
+    let mut n = 2;
+    while n <= 16 {
+        say(b"processes ", n);
+        say(b"words to 30 ", alone_among(&mut room, n));
+        n += 1;
+    }
+}
+
+// GO at 24 of process 1 at level 1, whose own row holds the turn cell.
+fn own_turn() {
+    let mut cells = [[0u16; 8]; 3];
+    make_fresh(&mut cells);
+    cells[1] = [24, 1, 0, 1, 5, 0, 0, 0];
+    say(
+        b"own turn cell, refusal ",
+        refusal_of(step(&mut cells, 0x4001_0000)),
+    );
+    show_row(row_of(&cells, 1));
+}
+
+fn show_row(r: Row) {
+    say(b"location ", r.location as usize);
+    say(b"bb ", r.bb as usize);
+    say(b"est ", r.est as usize);
+    say(b"turn[1] ", r.turn as usize);
+}
+
+// Whether two rows are the same.
+fn same_row(r: Row, s: Row) -> bool {
+    (r.location == s.location)
+        & (r.act == s.act)
+        & (r.bb == s.bb)
+        & (r.level == s.level)
+        & (r.est == s.est)
+        & (r.lis == s.lis)
+        & (r.ahead == s.ahead)
+        & (r.turn == s.turn)
+}
+
+// The refusal of a word at the first n rows.
+fn step_among(room: &mut [[u16; 8]], n: usize, word: u32) -> usize {
+    if room.len() < n {
+        return 0;
+    }
+    refusal_of(step(&mut room[..n], word))
+}
+
+// The refusal of a word at two rows, of which the step is lent the first n; then whether both rows
+// are as before.
+fn refuses(first: [u16; 8], n: usize, word: u32) {
+    let mut cells = [first, [10, 0, 0, 0, 0, 0, 0, 0]];
+    let r = row_of(&cells, 0);
+    let s = row_of(&cells, 1);
+    say(b"refusal ", step_among(&mut cells, n, word));
+    if same_row(r, row_of(&cells, 0)) & same_row(s, row_of(&cells, 1)) {
+        io::write_all(1, b"rows kept\n");
+    }
+}
+
+fn main() {
+    pair();
+    every_size();
+    own_turn();
+    let rests = [10, 0, 0, 0, 0, 0, 0, 0];
+    let lost = [11, 0, 0, 0, 0, 0, 0, 0];
+    refuses(rests, 1, 0x2000_0000);
+    refuses(lost, 2, 0x2000_0000);
+    refuses(rests, 2, 0x0000_0000);
+    refuses(rests, 2, 0x2002_0000);
+    refuses(rests, 2, 0x4000_0000);
+    refuses(rests, 2, 0x2000_0001);
+}
