@@ -19,11 +19,15 @@ module _ (t : Table) where
   SoundSo n good q = soundFrom n 0 t ≡ (good && soundFrom n q (drop q t))
 
   -- row q looked at as well
-  pub sound-suc : (n q : ℕ) (good : Bool) → q < length t → SoundSo n good q → SoundSo n (good && soundRow n q (row t q)) (q + 1)
+  pub sound-suc : (n q : ℕ) (good : Bool)
+      → q < length t
+      → SoundSo n good q
+      → SoundSo n (good && soundRow n q (row t q)) (q + 1)
   unfolding soundFrom
   sound-suc n q good l h =
       let rest = soundFrom n (q + 1) (drop (q + 1) t) in
-      let e : soundFrom n q (drop q t) ≡ (soundRow n q (row t q) && rest) = rw (drop-cons t q blank l, add-one q) refl in
+      let e : soundFrom n q (drop q t) ≡ (soundRow n q (row t q) && rest) =
+      rw (drop-cons t q blank l, add-one q) refl in
       h ∙ ap (λ (b : Bool). good && b) e ∙ and-assoc good (soundRow n q (row t q)) rest
 
   -- after the last row

@@ -15,7 +15,8 @@ use Rattle.machine.specs.declared.NewTable.{NewTable}
 abbrev pub filled : ℕ → List Row
 filled i = replicate i idle ++ replicate (16 - i) blank
 
-put-next : {A : Type 0} (a b : A) (i k : ℕ) → set (replicate i a ++ replicate (suc k) b) i a ≡ replicate (suc i) a ++ replicate k b
+put-next : {A : Type 0} (a b : A) (i k : ℕ)
+    → set (replicate i a ++ replicate (suc k) b) i a ≡ replicate (suc i) a ++ replicate k b
 put-next a b zero k = refl
 put-next {A} a b (suc i) k = ap (λ (l : List A). a ∷ l) (put-next a b i k)
 

@@ -1,4 +1,5 @@
-// One row of a table in place. The functions here are for crates that know the index to be in range.
+// One row of a table in place. The functions here are for crates that know the index to be in
+// range.
 use machine::Row;
 ghost use mathlib.Core.Path.{_≡_};
 ghost use Prim.Native.Nat.{_<_};
@@ -28,7 +29,8 @@ pub fn row_at(cells: &[[u16; 8]], p: usize) -> Row
 // The row of process p becomes r.
 pub fn put_row(cells: &mut [[u16; 8]], p: usize, r: Row)
     requires { ⌜ p < length (now cells) ⌝ }
-    ensures { λ _. ⌜ Becomes (now (cells .entry)) (set (rowsOf (now (cells .entry))) p r) (now (cells .exit)) ⌝ }
+    ensures { λ _. ⌜ Becomes (now (cells .entry)) (set (rowsOf (now (cells .entry))) p r)
+        (now (cells .exit)) ⌝ }
 {
     cells[p] = [
         r.location,
@@ -45,7 +47,8 @@ pub fn put_row(cells: &mut [[u16; 8]], p: usize, r: Row)
 // The cell turn[k] becomes v.
 pub fn turn_to(cells: &mut [[u16; 8]], k: usize, v: u16)
     requires { ⌜ k < length (now cells) ⌝ }
-    ensures { λ _. ⌜ Becomes (now (cells .entry)) (turned k v (rowsOf (now (cells .entry)))) (now (cells .exit)) ⌝ }
+    ensures { λ _. ⌜ Becomes (now (cells .entry)) (turned k v (rowsOf (now (cells .entry))))
+        (now (cells .exit)) ⌝ }
 {
     let mut r = row_at(cells, k);
     r.turn = v;

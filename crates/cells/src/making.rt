@@ -61,7 +61,8 @@ fn refused() -> NewTable
 
 // Every process rests, with every variable 0.
 pub fn make_fresh(cells: &mut [[u16; 8]])
-    ensures { λ _. ⌜ Becomes (now (cells .entry)) (freshTable (length (now (cells .entry)))) (now (cells .exit)) ⌝ }
+    ensures { λ _. ⌜ Becomes (now (cells .entry)) (freshTable (length (now (cells .entry))))
+        (now (cells .exit)) ⌝ }
 {
     let n = cells.len();
     let mut q = 0;

@@ -29,7 +29,8 @@ pub fn competitors(cells: &[[u16; 8]]) -> u16
 // Process p leaves every ahead set.
 pub fn forget(cells: &mut [[u16; 8]], p: u16)
     requires { ⌜ p < 16 ⌝ }
-    ensures { λ _. ⌜ Becomes (now (cells .entry)) (map (forgets p) (rowsOf (now (cells .entry)))) (now (cells .exit)) ⌝ }
+    ensures { λ _. ⌜ Becomes (now (cells .entry)) (map (forgets p) (rowsOf (now (cells .entry))))
+        (now (cells .exit)) ⌝ }
 {
     let n = cells.len();
     let mut q = 0;

@@ -13,7 +13,8 @@ use Rattle.counting.specs.Sets.{size}
 use Rattle.machine.specs.Rows.{withLocation, withAct, withBb, withLevel, withLis}
 use Rattle.machine.specs.Tables.{Table, row, oneOf, tableRefusal, competitors}
 use Rattle.machine.specs.Words.{GO, kindOf, processOf, argumentOf}
-use Rattle.machine.specs.Steps.{entered, passed, reconsidered, pushed, forgets, looked, turned, flickered, gone, moved, allowed, wordRefusal, afterWord, eventOf}
+use Rattle.machine.specs.Steps.{entered, passed, reconsidered, pushed, forgets, looked, turned, flickered, gone, moved}
+use Rattle.machine.specs.Steps.{allowed, wordRefusal, afterWord, eventOf}
 use Rattle.machine.specs.declared.Row.{Row}
 use Rattle.machine.specs.declared.Event.{Event}
 use Rattle.machine.proofs.TestLaws.{and-left, or-cases, split, by-one}
@@ -61,13 +62,16 @@ reconsidered-elsewhere p v r =
     (λ _ e. absurd (omega arith))
     (λ _. split (λ b. cond b (withLocation 24 r) (last (not (eqb v p))) .location ≡ 30 → ⊥) (eqb (r .bb) 0)
     (λ _ e. absurd (omega arith))
-    (λ _. split (λ b. last (not b) .location ≡ 30 → ⊥) (eqb v p) (λ _ e. absurd (omega arith)) (λ _ e. absurd (omega arith))))
+    (λ _. split (λ b. last (not b) .location ≡ 30 → ⊥) (eqb v p)
+    (λ _ e. absurd (omega arith))
+    (λ _ e. absurd (omega arith))))
 
 -- GO at 21 goes to 30 at level 0
 passed-seen : (r : Row) → r .location ≡ 21 → seen 21 (passed r .location) ≡ goEvent r
 unfolding passed
 passed-seen r e =
-    split (λ b. (ltb 0 (r .level) ≡ b) → seen 21 (cond b (withLocation 22 (withLis (r .est) r)) (withLocation 30 r) .location) ≡ goEvent r) (ltb 0 (r .level))
+    let after : Bool → Row = λ b. cond b (withLocation 22 (withLis (r .est) r)) (withLocation 30 r) in
+    split (λ b. (ltb 0 (r .level) ≡ b) → seen 21 (after b .location) ≡ goEvent r) (ltb 0 (r .level))
     (λ _ h. sym (quiet-above r (λ z. absurd (omega (arith, ltb-true 0 (r .level) h)))))
     (λ _ h. sym (arrives r e (omega (arith, ltb-false 0 (r .level) h))))
     refl
@@ -91,13 +95,20 @@ module _ (t : Table) (p : ℕ) (l : p < length t) where
 
   told-20 : row t p .location ≡ 20 → Told
   unfolding entered
-  told-20 e = let f = put-location (entered (length t) p (competitors t) (row t p)) (gone-20 t p e) in told 20 (λ z. omega arith) e (λ z. omega arith)
+  told-20 e =
+      let f = put-location (entered (length t) p (competitors t) (row t p)) (gone-20 t p e) in
+      told 20 (λ z. omega arith) e (λ z. omega arith)
 
   told-21 : row t p .location ≡ 21 → Told
-  told-21 e = ap (λ (x : ℕ). seen x after) e ∙ ap (seen 21) (put-location (passed (row t p)) (gone-21 t p e)) ∙ passed-seen (row t p) e
+  told-21 e =
+      ap (λ (x : ℕ). seen x after) e
+      ∙ ap (seen 21) (put-location (passed (row t p)) (gone-21 t p e))
+      ∙ passed-seen (row t p) e
 
   told-22 : row t p .location ≡ 22 → Told
-  told-22 e = let f = put-location (withLocation 23 (row t p)) (gone-22 t p e) in told 22 (λ z. omega arith) e (λ z. omega arith)
+  told-22 e =
+      let f = put-location (withLocation 23 (row t p)) (gone-22 t p e) in
+      told 22 (λ z. omega arith) e (λ z. omega arith)
 
   told-23 : row t p .location ≡ 23 → Told
   told-23 e =
@@ -111,7 +122,8 @@ module _ (t : Table) (p : ℕ) (l : p < length t) where
       let s = pushed (length t) p (competitors t) (row t p) in
       let f : after ≡ 21 =
       ap (λ (u : Table). row u p .location) (gone-24 t p e)
-      ∙ turn-free (λ r. r .location ≡ 21) (set t p s) (row t p .level) p p (λ r h. h) (ap (λ (r : Row). r .location) (row-same t p s l)) in
+      ∙ turn-free (λ r. r .location ≡ 21) (set t p s) (row t p .level) p p (λ r h. h)
+      (ap (λ (r : Row). r .location) (row-same t p s l)) in
       told 24 (λ z. omega arith) e (λ z. omega arith)
 
   told-30 : row t p .location ≡ 30 → Told
@@ -125,14 +137,17 @@ module _ (t : Table) (p : ℕ) (l : p < length t) where
       told 30 (λ z. omega arith) e (λ z. omega arith)
 
   told-40 : row t p .location ≡ 40 → Told
-  told-40 e = let f = put-location (withLocation 10 (withAct 0 (row t p))) (gone-40 t p e) in told 40 (λ z. omega arith) e (λ z. omega arith)
+  told-40 e =
+      let f = put-location (withLocation 10 (withAct 0 (row t p))) (gone-40 t p e) in
+      told 40 (λ z. omega arith) e (λ z. omega arith)
 
   go-told : allowed GO (row t p) ≡ true → Told
   unfolding allowed
   go-told h =
       let r = row t p in
       ⊎-elim
-      (by-one (r .location) (20 ∷ 21 ∷ 23 ∷ 24 ∷ 30 ∷ 40 ∷ []) (told-20, (told-21, (told-23, (told-24, (told-30, (told-40, tt)))))))
+      (by-one (r .location) (20 ∷ 21 ∷ 23 ∷ 24 ∷ 30 ∷ 40 ∷ [])
+      (told-20, (told-21, (told-23, (told-24, (told-30, (told-40, tt)))))))
       (λ k. told-22 (eqb-true _ _ (and-left (eqb (r .location) 22) (eqb (r .lis) 0) k)))
       (or-cases (oneOf (r .location) (20 ∷ 21 ∷ 23 ∷ 24 ∷ 30 ∷ 40 ∷ [])) _ h)
 
@@ -147,7 +162,9 @@ module _ (t : Table) (p : ℕ) (l : p < length t) where
       (λ _. turn-free (λ r. r .location ≡ v) t (row t p .level) a p (λ r h. h) refl)
       (λ _. ap (λ (r : Row). r .location) (row-same t p (withAct a (row t p)) l))
 
-  stays : (u : Table) → row u p .location ≡ row t p .location → seen (row t p .location) (row u p .location) ≡ Event.Quiet
+  stays : (u : Table)
+      → row u p .location ≡ row t p .location
+      → seen (row t p .location) (row u p .location) ≡ Event.Quiet
   stays u e = ap (seen (row t p .location)) e ∙ seen-same (row t p .location)
 
   kinds-told : (k a : ℕ) → 1 ≤ k → k ≤ 5 → allowed k (row t p) ≡ true
@@ -165,10 +182,14 @@ module _ (t : Table) (p : ℕ) (l : p < length t) where
 
 -- ---- an accepted word
 
-pub event-told : (t : Table) (w : ℕ) → tableRefusal t ≡ 0 → wordRefusal t w ≡ 0 → eventOf t w ≡ kindEvent (kindOf w) (row t (processOf w))
+pub event-told : (t : Table) (w : ℕ)
+    → tableRefusal t ≡ 0
+    → wordRefusal t w ≡ 0
+    → eventOf t w ≡ kindEvent (kindOf w) (row t (processOf w))
 unfolding eventOf
 event-told t w z y =
     let p = processOf w in
     let s = word-says t w y in
-    ap (λ (u : Table). cond (eqb (kindOf w) 2) Event.Come (seen (row t p .location) (row u p .location))) (accepted-moved t w (says-accepted t w z s))
+    ap (λ (u : Table). cond (eqb (kindOf w) 2) Event.Come (seen (row t p .location) (row u p .location)))
+    (accepted-moved t w (says-accepted t w z s))
     ∙ kinds-told t p (s .process-in) (kindOf w) (argumentOf w) (s .kind-first) (s .kind-last) (s .allowed-there)

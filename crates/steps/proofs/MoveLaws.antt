@@ -8,7 +8,8 @@ use borrow.Author.Tests.{ne-eqb, lt-ltb, le-ltb}
 use Rattle.machine.specs.Rows.{withLocation}
 use Rattle.machine.specs.Tables.{Table, row, competitors}
 use Rattle.machine.specs.Words.{STAY, COME, FLICKER, GO, LOOK, kindOf, processOf, argumentOf, formed}
-use Rattle.machine.specs.Steps.{goRow, entered, passed, pushed, turned, forgets, looked, flickered, gone, moved, allowed, argumentFits, wordRefusal}
+use Rattle.machine.specs.Steps.{goRow, entered, passed, pushed, turned, forgets, looked, flickered, gone, moved}
+use Rattle.machine.specs.Steps.{allowed, argumentFits, wordRefusal}
 use Rattle.machine.specs.declared.Row.{Row}
 use Rattle.machine.proofs.Forms.{gone-20, gone-21, gone-24}
 use Rattle.cells.specs.View.{rowsOf}
@@ -30,7 +31,10 @@ module _ (t : Table) (p : ℕ) where
   ownPut = set t p (goRow (length t) p 0 (row t (row t p .level) .turn) (row t p))
 
   -- at 22, 23 and 40 GO does no more
-  pub gone-own : (row t p .location ≡ 20 → ⊥) → (row t p .location ≡ 24 → ⊥) → (row t p .location ≡ 30 → ⊥) → gone t p ≡ ownPut
+  pub gone-own : (row t p .location ≡ 20 → ⊥)
+      → (row t p .location ≡ 24 → ⊥)
+      → (row t p .location ≡ 30 → ⊥)
+      → gone t p ≡ ownPut
   unfolding gone
   gone-own a b d =
       rw (
@@ -120,10 +124,12 @@ module _ (t : Table) (w : ℕ) where
       refused-there h = rw (f, lt-ltb (processOf w) (length t) k, h) refl
 
       module _ (h : allowed (kindOf w) (row t (processOf w)) ≡ true) where
-        pub refused-argument : argumentFits (length t) (kindOf w) (row t (processOf w)) (argumentOf w) ≡ false → wordRefusal t w ≡ 11
+        pub refused-argument : argumentFits (length t) (kindOf w) (row t (processOf w)) (argumentOf w) ≡ false
+            → wordRefusal t w ≡ 11
         unfolding wordRefusal
         refused-argument g = rw (f, lt-ltb (processOf w) (length t) k, h, g) refl
 
-        pub refused-not : argumentFits (length t) (kindOf w) (row t (processOf w)) (argumentOf w) ≡ true → wordRefusal t w ≡ 0
+        pub refused-not : argumentFits (length t) (kindOf w) (row t (processOf w)) (argumentOf w) ≡ true
+            → wordRefusal t w ≡ 0
         unfolding wordRefusal
         refused-not g = rw (f, lt-ltb (processOf w) (length t) k, h, g) refl

@@ -78,8 +78,10 @@ module _ (x : List (List ℕ)) (w : ℕ) where
         go : Dec (argumentOf w < length (rowsOf x)) → argumentOf w < length (rowsOf x)
         go (yes k) = k
         go (no k) =
-            absurd (false≢true (sym (has-over (row (rowsOf x) (processOf w) .lis) (length (rowsOf x)) (argumentOf w) (own-sound .lis-low) (omega (arith, k)))
-            ∙ look-member (length (rowsOf x)) (kindOf w) (argumentOf w) (row (rowsOf x) (processOf w)) e (says .argument-fits)))
+            let n = length (rowsOf x) in
+            let r = row (rowsOf x) (processOf w) in
+            absurd (false≢true (sym (has-over (r .lis) n (argumentOf w) (own-sound .lis-low) (omega (arith, k)))
+            ∙ look-member n (kindOf w) (argumentOf w) r e (says .argument-fits)))
 
     pub movable : Movable x (kindOf w) (processOf w) (argumentOf w)
     movable =
@@ -96,7 +98,9 @@ module _ (x : List (List ℕ)) (w : ℕ) where
           seen = λ e. subst (λ (m : ℕ). argumentOf w < m) n (member-in e);
         }
 
-    pub moved-steps : (v : List (List ℕ)) (e : Event) → Moves x (kindOf w) (processOf w) (argumentOf w) v e → Steps x w v (Stepped.Moved e)
+    pub moved-steps : (v : List (List ℕ)) (e : Event)
+        → Moves x (kindOf w) (processOf w) (argumentOf w) v e
+        → Steps x w v (Stepped.Moved e)
     moved-steps v e m =
         let acc = says-accepted (rowsOf x) w z says in
         record {

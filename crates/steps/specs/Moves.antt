@@ -1,5 +1,6 @@
 -- What a step does to cells and what it answers.
 --
+--   lookedAt t p q    ==   the table after LOOK of process p at q.
 --   goEvent r         ==   the event of GO at a row, read before the step.
 --   kindEvent k r     ==   the event of an allowed kind at a row, read before the step.
 --   Ready x p         <=>  process p of the cells x can move: what a sound table gives.
@@ -13,14 +14,17 @@ use mathlib.Core.Path.{_≡_}
 use mathlib.Core.Bool.{cond, _&&_}
 use mathlib.Core.List.{List}
 use lib.Dec.{eqb}
-use lib.ListN.{length}
-use Rattle.machine.specs.Tables.{row}
+use lib.ListN.{length, set}
+use Rattle.machine.specs.Tables.{Table, row}
 use Rattle.machine.specs.Words.{COME, GO, LOOK}
-use Rattle.machine.specs.Steps.{gone, moved, afterWord, answerOf}
+use Rattle.machine.specs.Steps.{looked, gone, moved, afterWord, answerOf}
 use Rattle.machine.specs.declared.Row.{Row}
 use Rattle.machine.specs.declared.Event.{Event}
 use Rattle.machine.specs.declared.Stepped.{Stepped}
 use Rattle.cells.specs.View.{rowsOf, Becomes}
+
+abbrev pub lookedAt : Table → ℕ → ℕ → Table
+lookedAt t p q = set t p (looked q (row t q .act) (row t p))
 
 -- ---- events, told before the step
 

@@ -5,16 +5,16 @@ use cells::access::row_at;
 use cells::access::turn_to;
 use machine::Event;
 ghost use Prim.Native.Nat.{_<_, _≤_};
-ghost use lib.ListN.{length, set};
-ghost use Rattle.machine.specs.Tables.{row};
-ghost use Rattle.machine.specs.Steps.{flickered, looked};
+ghost use lib.ListN.{length};
+ghost use Rattle.machine.specs.Steps.{flickered};
 ghost use Rattle.cells.specs.View.{rowsOf, Becomes};
-ghost use Rattle.steps.specs.Moves.{Ready, Movable, Moves};
+ghost use Rattle.steps.specs.Moves.{lookedAt, Ready, Movable, Moves};
 
 // FLICKER of process p: at 24 the turn cell of its level becomes `a`, elsewhere its act.
 pub fn flicker(cells: &mut [[u16; 8]], p: u16, a: u16)
     requires { ⌜ Ready (now cells) p ⌝ }
-    ensures { λ _. ⌜ Becomes (now (cells .entry)) (flickered (rowsOf (now (cells .entry))) p a) (now (cells .exit)) ⌝ }
+    ensures { λ _. ⌜ Becomes (now (cells .entry)) (flickered (rowsOf (now (cells .entry))) p a)
+        (now (cells .exit)) ⌝ }
 {
     let r = row_at(cells, p as usize);
     if r.location == 24 {
@@ -27,7 +27,8 @@ pub fn flicker(cells: &mut [[u16; 8]], p: u16, a: u16)
 // LOOK of process p at q.
 pub fn look(cells: &mut [[u16; 8]], p: u16, q: u16)
     requires { ⌜ (p < length (now cells)) × (length (now cells) ≤ 16) × (q < length (now cells)) ⌝ }
-    ensures { λ _. ⌜ Becomes (now (cells .entry)) (set (rowsOf (now (cells .entry))) p (looked q (row (rowsOf (now (cells .entry))) q .act) (row (rowsOf (now (cells .entry))) p))) (now (cells .exit)) ⌝ }
+    ensures { λ _. ⌜ Becomes (now (cells .entry)) (lookedAt (rowsOf (now (cells .entry))) p q)
+        (now (cells .exit)) ⌝ }
 {
     let r = row_at(cells, p as usize);
     let act = row_at(cells, q as usize).act;

@@ -1,0 +1,1 @@
+// Theorems about images: what is written is read back, and reading accepts exactly what is written.

@@ -1,0 +1,121 @@
+-- The answer to an image, by its refusal; the header; and its words as rows and turn cells.
+--
+--   header-none, header-some    what the size that a first word names says of it
+--   reading-refused, reading-accepted    the answer
+--   into-refused, into-accepted   the cells with it
+--   image-rows, image-turns     all words: the rows decide where they refuse, else the turn cells
+--
+-- Assumes nothing.
+use Prim.Native.Nat.{ℕ, _+_, _-_, _*_, _≤_, _<_}
+use mathlib.Core.Path.{_≡_, refl, sym, ap, ap₂, _∙_, subst}
+use mathlib.Core.Bool.{Bool, true, false, cond, _&&_}
+use mathlib.Core.List.{List}
+use native.Mathlib.Omega.{arith}
+use lib.Dec.{eqb, leb}
+use lib.ListN.{length, getD, take, drop, length-drop, List·getD-eq-default}
+use lib.Seq.{drop-drop}
+use borrow.Author.Tests.{leb-true, eq-eqb, ne-eqb}
+use Rattle.machine.specs.Images.{headerOf, sizeIn, isHeader, rowSlots, turnSlots, slots, Found, firstRefusal, rowsIn, tableIn, imageRefusal}
+use Rattle.machine.proofs.TestLaws.{and-left, and-right, split}
+use Rattle.codec.proofs.Slots.{length-rowSlots}
+use Rattle.codec.proofs.Reading.{first-some, first-none}
+use Rattle.cells.specs.View.{rowsOf}
+use Rattle.codec.proofs.RoundTrip.{length-tableIn}
+use Rattle.images.specs.Answers.{readingOf, ReadInto}
+use Rattle.images.specs.declared.Reading.{Reading}
+
+-- ---- the header
+
+pub record Header (w n : ℕ) : Type 0 where
+  pub is-header : isHeader w ≡ true
+  pub size-is : sizeIn w ≡ n
+  pub some : 2 ≤ n
+  pub few : n ≤ 16
+
+header-true : (w : ℕ) → isHeader w ≡ true → Header w (sizeIn w)
+header-true w h =
+    let low : headerOf 2 ≤ w = leb-true _ _ (and-left (leb (headerOf 2) w) (leb w (headerOf 16)) h) in
+    let high : w ≤ headerOf 16 = leb-true _ _ (and-right (leb (headerOf 2) w) (leb w (headerOf 16)) h) in
+    record { is-header = h; size-is = refl; some = omega arith; few = omega arith }
+
+module _ (w n : ℕ) (is : n ≡ cond (isHeader w) (sizeIn w) 0) where
+  pub header-none : n ≡ 0 → isHeader w ≡ false
+  header-none z =
+      split (λ b. isHeader w ≡ b → isHeader w ≡ false) (isHeader w)
+      (λ t e. let h = header-true w t in absurd (omega (arith, is ∙ ap (λ (b : Bool). cond b (sizeIn w) 0) t, h .some))) (λ f e. e) refl
+
+  pub header-some : (n ≡ 0 → ⊥) → Header w n
+  header-some ne =
+      split (λ b. isHeader w ≡ b → Header w n) (isHeader w)
+      (λ t e. subst (Header w) (sym (is ∙ ap (λ (b : Bool). cond b (sizeIn w) 0) t)) (header-true w t))
+      (λ f e. absurd (ne (is ∙ ap (λ (b : Bool). cond b (sizeIn w) 0) f))) refl
+
+-- ---- the answer
+
+module _ (ws : List ℕ) where
+  -- by the refusal
+  abbrev answer : Bool → ℕ → ℕ → Reading
+  answer b r p = elim b as (λ _. Reading) [ true ↦ Reading.Table (sizeIn (getD ws 0 0)) | false ↦ Reading.Refused r p ]
+
+  pub reading-refused : (r p : ℕ) → imageRefusal ws ≡ record { refusal = r; place = p } → (r ≡ 0 → ⊥) → Reading.Refused r p ≡ readingOf ws
+  unfolding readingOf
+  reading-refused r p e ne =
+      sym
+      (ap (λ (f : Found). answer (eqb (f .refusal) 0) (f .refusal) (f .place)) e
+      ∙ ap (λ (b : Bool). answer b r p) (ne-eqb r 0 ne))
+
+  pub reading-accepted : (n : ℕ) → imageRefusal ws .refusal ≡ 0 → sizeIn (getD ws 0 0) ≡ n → Reading.Table n ≡ readingOf ws
+  unfolding readingOf
+  reading-accepted n z e =
+      sym
+      (ap (λ (b : Bool). answer b (imageRefusal ws .refusal) (imageRefusal ws .place)) (eq-eqb _ _ z)
+      ∙ ap Reading.Table e)
+
+-- ---- the whole
+
+module _ (ws : List ℕ) (x y : List (List ℕ)) (same : length y ≡ length x) where
+  pub into-refused : (r p : ℕ) → imageRefusal ws ≡ record { refusal = r; place = p } → (r ≡ 0 → ⊥) → ReadInto ws x y (Reading.Refused r p)
+  into-refused r p e ne =
+      record {
+        answer-is = reading-refused ws r p e ne;
+        rows-are = λ z. absurd (ne (sym (ap (λ (f : Found). f .refusal) e) ∙ z));
+        size-is = same;
+      }
+
+  pub into-accepted : (n : ℕ)
+      → sizeIn (getD ws 0 0) ≡ n
+      → imageRefusal ws .refusal ≡ 0
+      → rowsOf (take n y) ≡ rowsIn n ws 0 n
+      → ReadInto ws x y (Reading.Table n)
+  unfolding tableIn
+  into-accepted n is z rows =
+      record {
+        answer-is = reading-accepted ws n z is;
+        rows-are = λ _. ap (λ (k : ℕ). rowsOf (take k y)) (length-tableIn ws n is) ∙ rows ∙ ap (λ (k : ℕ). rowsIn k ws 0 k) (sym is);
+        size-is = same;
+      }
+
+-- no word, no header
+pub empty-header : (ws : List ℕ) → length ws ≡ 0 → isHeader (getD ws 0 0) ≡ false
+empty-header ws e = ap isHeader (List·getD-eq-default ws 0 (omega arith))
+
+-- ---- the words
+
+module _ (n : ℕ) (ws : List ℕ) (long : length ws ≡ 5 * n) where
+  abbrev ofRows : Found
+  ofRows = firstRefusal n 1 (rowSlots 0 n) (drop 1 ws)
+
+  pub image-rows : (ofRows .refusal ≡ 0 → ⊥) → firstRefusal n 1 (slots n) (drop 1 ws) ≡ ofRows
+  unfolding slots
+  image-rows some = first-some n 1 (rowSlots 0 n) (turnSlots 1 (n - 1)) (drop 1 ws) some
+
+  pub image-turns : 2 ≤ n
+      → ofRows .refusal ≡ 0
+      → firstRefusal n 1 (slots n) (drop 1 ws) ≡ firstRefusal n (4 * n + 1) (turnSlots 1 (n - 1)) (drop (4 * n + 1) ws)
+  unfolding slots
+  image-turns some none =
+      let rows = length-rowSlots 0 n in
+      first-none n 1 (rowSlots 0 n) (turnSlots 1 (n - 1)) (drop 1 ws) (omega (arith, length-drop 1 ws)) none
+      ∙ ap (λ (k : ℕ). firstRefusal n (1 + k) (turnSlots 1 (n - 1)) (drop k (drop 1 ws))) rows
+      ∙ ap (firstRefusal n (1 + 4 * n) (turnSlots 1 (n - 1))) (drop-drop (4 * n) 1 ws)
+      ∙ ap (λ (k : ℕ). firstRefusal n k (turnSlots 1 (n - 1)) (drop k ws)) {x = 1 + 4 * n} {y = 4 * n + 1} (omega arith)

@@ -1,0 +1,6 @@
+-- The laws that the functions on images cite.
+pub mod SlotLaws
+pub mod WalkLaws
+pub mod ImageLaws
+pub mod WriteLaws
+pub mod TableLaws

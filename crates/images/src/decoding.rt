@@ -1,0 +1,179 @@
+// Reading an image: row by row its four words in order, then the words of the turn cells.
+use crate::Found;
+use crate::HEADER;
+use crate::Reading;
+use crate::checks::row_refusal;
+use crate::checks::turn_refusal;
+use machine::Row;
+ghost use mathlib.Core.Path.{_≡_};
+ghost use mathlib.Core.Bool.{cond};
+ghost use Prim.Native.Nat.{_+_, _-_, _*_, _≤_, _<_, min};
+ghost use lib.ListN.{length, drop};
+ghost use Rattle.machine.specs.Images.{codeIn, turnSlots, firstRefusal, isHeader, sizeIn};
+ghost use Rattle.rows.specs.Bounds.{Full};
+ghost use Rattle.images.specs.Bounds.{foundOf};
+ghost use Rattle.images.specs.Answers.{Sized, rowOfWords, turnOfWords, RowRead, RowsRead, WordsRead, ReadInto};
+
+// The row that the four words of a process and its turn cell hold.
+fn row_of(a: u32, b: u32, c: u32, d: u32, turn: u16) -> Row
+    requires { ⌜ codeIn a < 8 ⌝ }
+    ensures { λ r. ⌜ r ≡ rowOfWords a b c d turn ⌝ }
+{
+    Row {
+        location: rows::location_of(((a >> 12) % 16) as u16),
+        act: ((a >> 9) % 2) as u16,
+        bb: ((a >> 8) % 2) as u16,
+        level: (a % 256) as u16,
+        est: (b % 65536) as u16,
+        lis: (c % 65536) as u16,
+        ahead: (d % 65536) as u16,
+        turn,
+    }
+}
+
+// What turn[q] holds by its word; 0 for q = 0, which has none.
+fn turn_of(words: &[u32], n: u16, q: u16) -> u16
+    requires { ⌜ Sized (now words) n ⌝ }
+    requires { ⌜ q < n ⌝ }
+    ensures { λ v. ⌜ v ≡ turnOfWords (now (words .entry)) n q ⌝ }
+{
+    if q == 0 {
+        return 0;
+    }
+    let i = 4 * (n as usize) + q as usize;
+    (words[i] % 256) as u16
+}
+
+// The words of process q are checked, and where they pass its cells become the row that they hold.
+fn read_row(words: &[u32], cells: &mut [[u16; 8]], n: u16, full: u16, q: u16) -> Found
+    requires { ⌜ Full n full ⌝ }
+    requires { ⌜ Sized (now words) n ⌝ }
+    requires { ⌜ q < n ⌝ }
+    requires { ⌜ n ≤ length (now cells) ⌝ }
+    ensures { λ f. ⌜ RowRead (now (words .entry)) n q (now (cells .entry)) (now (cells .exit)) f ⌝ }
+{
+    let i = 4 * (q as usize);
+    let a = words[i + 1];
+    let b = words[i + 2];
+    let c = words[i + 3];
+    let d = words[i + 4];
+    let f = row_refusal(n, full, q, a, b, c, d);
+    if f.refusal != 0 {
+        return f;
+    }
+    let turn = turn_of(words, n, q);
+    cells::access::put_row(cells, q as usize, row_of(a, b, c, d, turn));
+    f
+}
+
+// All rows in order, up to the first refusal.
+fn read_rows(words: &[u32], cells: &mut [[u16; 8]], n: u16) -> Found
+    requires { ⌜ Sized (now words) n ⌝ }
+    requires { ⌜ n ≤ length (now cells) ⌝ }
+    ensures { λ f. ⌜ RowsRead (now (words .entry)) n (now (cells .entry)) (now (cells .exit)) f ⌝ }
+{
+    let full = rows::full_set(n);
+    let mut q: u16 = 0;
+    while q < n {
+        let f = read_row(words, cells, n, full, q);
+        if f.refusal != 0 {
+            return f;
+        }
+        q += 1;
+    }
+    Found {
+        refusal: 0,
+        place: 0,
+    }
+}
+
+// The words of the turn cells in order, up to the first refusal.
+fn check_turns(words: &[u32], n: u16) -> Found
+    requires { ⌜ Sized (now words) n ⌝ }
+    ensures { λ f. ⌜ f ≡ foundOf (firstRefusal n (4 * n + 1) (turnSlots 1 (n - 1)) (drop (4 * n + 1) (now (words .entry)))) ⌝ }
+{
+    let first = 4 * (n as usize);
+    let mut k: u16 = 1;
+    while k < n {
+        let i = first + k as usize;
+        let r = turn_refusal(n, k, words[i]);
+        if r != 0 {
+            return Found {
+                refusal: r,
+                place: i as u16,
+            };
+        }
+        k += 1;
+    }
+    Found {
+        refusal: 0,
+        place: 0,
+    }
+}
+
+// The lesser of two numbers.
+fn lesser(a: usize, b: usize) -> usize
+    ensures { λ m. ⌜ m ≡ min a b ⌝ }
+{
+    if a < b { a } else { b }
+}
+
+// All words past the header in order, up to the first refusal.
+fn read_words(words: &[u32], cells: &mut [[u16; 8]], n: u16) -> Found
+    requires { ⌜ Sized (now words) n ⌝ }
+    requires { ⌜ n ≤ length (now cells) ⌝ }
+    ensures { λ f. ⌜ WordsRead (now (words .entry)) n (now (cells .entry)) (now (cells .exit)) f ⌝ }
+{
+    let f = read_rows(words, cells, n);
+    if f.refusal != 0 {
+        return f;
+    }
+    check_turns(words, n)
+}
+
+// How many processes a first word names; 0 where it is no header.
+fn size_in(head: u32) -> u16
+    ensures { λ n. ⌜ n ≡ cond (isHeader head) (sizeIn head) 0 ⌝ }
+{
+    if !((HEADER + 2 <= head) & (head <= HEADER + 16)) {
+        return 0;
+    }
+    (head - HEADER) as u16
+}
+
+// Reads an image into the first cells: their number, or the refusal with its place. For crates that
+// have cells for 16 processes; after a refusal nothing is said of the cells.
+pub fn read_cells(words: &[u32], cells: &mut [[u16; 8]]) -> Reading
+    requires { ⌜ length (now cells) ≡ 16 ⌝ }
+    ensures { λ r. ⌜ ReadInto (now (words .entry)) (now (cells .entry)) (now (cells .exit)) r ⌝ }
+{
+    let len = words.len();
+    if len == 0 {
+        return Reading::Refused {
+            number: machine::NO_HEADER,
+            place: 0,
+        };
+    }
+    let n = size_in(words[0]);
+    if n == 0 {
+        return Reading::Refused {
+            number: machine::NO_HEADER,
+            place: 0,
+        };
+    }
+    let all = 5 * (n as usize);
+    if len != all {
+        return Reading::Refused {
+            number: machine::WRONG_LENGTH,
+            place: lesser(len, all) as u16,
+        };
+    }
+    let f = read_words(words, cells, n);
+    if f.refusal != 0 {
+        return Reading::Refused {
+            number: f.refusal,
+            place: f.place,
+        };
+    }
+    Reading::Table(n)
+}

@@ -1,0 +1,95 @@
+// Writing an image: the header, the four words of each row in order, then the turn cells. Every
+// word is set once, in rising order.
+use machine::Row;
+ghost use mathlib.Core.Path.{_≡_};
+ghost use Prim.Native.Nat.{_+_, _*_, _^_, _<_};
+ghost use lib.ListN.{length};
+ghost use Rattle.machine.specs.Images.{STATE, bodyOf};
+ghost use Rattle.cells.specs.View.{rowsOf};
+ghost use Rattle.images.specs.Writing.{Packable, Room, rowWritten, RowsWritten, TurnsWritten, imageInto, Writes};
+
+// A word of an image of a kind and a number, with its lower half.
+fn word(kind: u16, number: u16, body: u16) -> u32
+    requires { ⌜ (kind < 16) × (number < 16) ⌝ }
+    ensures { λ w. ⌜ w ≡ kind * 2 ^ 28 + number * 2 ^ 16 + body ⌝ }
+{
+    (kind as u32) * 0x1000_0000 + (number as u32) * 0x1_0000 + body as u32
+}
+
+// The lower half of the word with location, act, bb and level.
+fn state_body(r: Row) -> u16
+    requires { ⌜ Packable r ⌝ }
+    ensures { λ b. ⌜ b ≡ bodyOf STATE r ⌝ }
+{
+    rows::code_of(r.location) * 4096 + r.act * 512 + r.bb * 256 + r.level
+}
+
+// The four words of process q.
+fn write_row(out: &mut [u32], q: u16, r: Row)
+    requires { ⌜ Packable r ⌝ }
+    requires { ⌜ (q < 16) × (4 * q + 4 < length (now out)) ⌝ }
+    ensures { λ _. ⌜ now (out .exit) ≡ rowWritten (now (out .entry)) q r ⌝ }
+{
+    let i = 4 * (q as usize);
+    out[i + 1] = word(crate::STATE, q, state_body(r));
+    out[i + 2] = word(crate::EST, q, r.est);
+    out[i + 3] = word(crate::LIS, q, r.lis);
+    out[i + 4] = word(crate::AHEAD, q, r.ahead);
+}
+
+// The words of all processes of a sound table, after the header.
+fn write_rows(cells: &[[u16; 8]], out: &mut [u32])
+    requires { ⌜ Room (rowsOf (now cells)) (now out) ⌝ }
+    ensures { λ _. ⌜ RowsWritten (rowsOf (now (cells .entry))) (now (out .entry)) (now (out .exit)) ⌝ }
+{
+    let n = cells.len();
+    let mut q = 0;
+    while q < n {
+        write_row(out, q as u16, cells::access::row_at(cells, q));
+        q += 1;
+    }
+}
+
+// The words of the turn cells of a sound table, after those of the rows.
+fn write_turns(cells: &[[u16; 8]], out: &mut [u32])
+    requires { ⌜ Room (rowsOf (now cells)) (now out) ⌝ }
+    ensures { λ _. ⌜ TurnsWritten (rowsOf (now (cells .entry))) (now (out .entry)) (now (out .exit)) ⌝ }
+{
+    let n = cells.len();
+    let first = 4 * n;
+    let mut k = 1;
+    while k < n {
+        let r = cells::access::row_at(cells, k);
+        out[first + k] = word(crate::TURN, k as u16, r.turn);
+        k += 1;
+    }
+}
+
+// Writes the image of a sound table into the first words of `out`, and no others. For crates that
+// know the table to be sound and the room to suffice.
+pub fn write_cells(cells: &[[u16; 8]], out: &mut [u32])
+    requires { ⌜ Room (rowsOf (now cells)) (now out) ⌝ }
+    ensures { λ _. ⌜ now (out .exit) ≡ imageInto (rowsOf (now (cells .entry))) (now (out .entry)) ⌝ }
+{
+    out[0] = crate::HEADER + cells.len() as u32;
+    write_rows(cells, out);
+    write_turns(cells, out);
+}
+
+// Writes the image of a table into the first words of `out`, and no others: 6 or 7 for a table that
+// is not sound, then 13 where `out` is too short; these leave it as it was.
+pub fn write(cells: &[[u16; 8]], out: &mut [u32]) -> u16
+    ensures { λ r. ⌜ Writes (rowsOf (now (cells .entry))) (now (out .entry)) (now (out .exit)) r ⌝ }
+{
+    let refusal = cells::checks::check(cells);
+    if refusal != 0 {
+        return refusal;
+    }
+    let len = out.len();
+    let all = 5 * cells.len();
+    if len < all {
+        return machine::TOO_FEW_LENT;
+    }
+    write_cells(cells, out);
+    0
+}

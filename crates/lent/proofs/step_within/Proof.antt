@@ -1,0 +1,55 @@
+-- A step on the first n rows of cells: over 16 rows nothing is done, else `step` works on a slice of its own.
+-- Assumes nothing.
+use mathlib.Core.Path.{sym, ap, _∙_}
+use native.Mathlib.Omega.{arith}
+use lib.Seq.{length-take-le}
+use borrow.Author.Needs.{needs}
+use Rattle.lent.specs.Within.{refusalIn}
+use Rattle.lent.proofs.AnswerLaws.{step-over, refusal-of-answer}
+use Rattle.lent.proofs.WithinLaws.{within-over, within-part}
+use Rattle.lent.proofs.step_within.Statement.{statement}
+use Rattle.lent.proofs.step_within.Tie as tie
+use Rattle.lent.proofs.step_within.Reads as reads
+use Rattle.lent.proofs.step_within.Lts as lts
+use Rattle.steps.proofs.stepping.step.Reads as step-reads
+use Rattle.lent.proofs.refusal_in.Reads as refusal-in-reads
+
+returns : tie.Need-returns
+returns c =
+    let many = c .if1 .taken in
+    within-over _ _ _ many (λ t e. step-over t (omega (arith, e, many)) _)
+
+slice-relend-prefix-step : tie.Need-slice-relend-prefix-step
+slice-relend-prefix-step c = search needs
+
+slice-aggregate-step : tie.Need-slice-aggregate-step
+slice-aggregate-step c = sym (length-take-le _ _ (search needs))
+
+step-requires : tie.Need-step-requires
+step-requires c κs = search needs
+
+refusal-in-requires : tie.Need-refusal-in-requires
+refusal-in-requires c κs = search needs
+
+same-length : tie.Need-same-length
+same-length c = search needs
+
+returns-2 : tie.Need-returns-2
+returns-2 c =
+    let start = c .before .before .before .before .before in
+    let made = c .before .before .step .ensures in
+    within-part _ (start .args .n) (start .args .cells .now) (search needs) (start .pre)
+    (c .before .before .step .last .0) (made .becomes .size-is)
+    (c .refusal-in .ensures ∙ ap refusalIn (made .answer-is) ∙ refusal-of-answer _ _, made .becomes .rows-are)
+
+pub step-within-spec : {M : Type 1} → statement M
+step-within-spec =
+    tie.close
+    (tie.spec
+    returns
+    slice-relend-prefix-step
+    slice-aggregate-step
+    step-requires
+    refusal-in-requires
+    same-length
+    returns-2)

@@ -1,0 +1,79 @@
+// Runs of two processes (document 01, "Runs"): what each answers, a line each.
+use libc::STDOUT_FILENO;
+use runs::RunAnswer;
+
+// A number and what stands before it.
+fn figure(before: &[u8], n: u32) {
+    io::write_all(STDOUT_FILENO, before);
+    io::print_decimal(STDOUT_FILENO, n as u64);
+}
+
+// A location and what stands before it.
+fn place(before: &[u8], location: u16) {
+    figure(before, location as u32);
+}
+
+// A run: words taken, the refusal or 0, then its tally.
+fn show(name: &[u8], r: RunAnswer) {
+    io::write_all(STDOUT_FILENO, name);
+    figure(b" taken ", r.ran.taken);
+    figure(b" refusal ", r.ran.refusal);
+    figure(b" words ", r.tally.words);
+    figure(b" comes ", r.tally.comes);
+    figure(b" arrivals ", r.tally.arrivals);
+    io::write_all(STDOUT_FILENO, b"\n");
+}
+
+// STAYs of process 0, up to and over the most words of a run, and none.
+fn stays() {
+    let words = [0x1000_0000; 8193];
+    let mut cells = [[10, 0, 0, 0, 0, 0, 0, 0], [10, 0, 0, 0, 0, 0, 0, 0]];
+    show(b"none", runs::run(&mut cells, &words[..0]));
+    show(b"most", runs::run(&mut cells, &words[..8192]));
+    show(b"over", runs::run(&mut cells, &words));
+}
+
+// Process 0 comes and goes to the critical section; the eighth word names no process.
+fn arrival() {
+    let words = [
+        0x2000_0000,
+        0x4000_0000,
+        0x4000_0000,
+        0x5000_0001,
+        0x4000_0000,
+        0x4000_0000,
+        0x4000_0000,
+        0x1002_0000,
+        0x4000_0000,
+    ];
+    let mut cells = [[10, 0, 0, 0, 0, 0, 0, 0], [10, 0, 0, 0, 0, 0, 0, 0]];
+    show(b"arrival", runs::run(&mut cells, &words));
+    place(b"locations ", cells[0][0]);
+    place(b" ", cells[1][0]);
+    io::write_all(STDOUT_FILENO, b"\n");
+}
+
+// Process 0 in the critical section: a word of no kind, a word not allowed and a bad argument.
+fn stops() {
+    let mut cells = [[30, 1, 0, 0, 0, 0, 0, 0], [10, 0, 0, 0, 0, 0, 0, 0]];
+    show(b"kind", runs::run(&mut cells, &[0x6000_0000]));
+    show(b"allowed", runs::run(&mut cells, &[0x4000_0000, 0x1000_0000]));
+    show(b"argument", runs::run(&mut cells, &[0x3000_0001, 0x3000_0002]));
+}
+
+// Tables that are refused before any word is taken, and before the words are counted.
+fn tables() {
+    let words = [0x1000_0000; 8193];
+    let mut one = [[10, 0, 0, 0, 0, 0, 0, 0]];
+    let mut unsound = [[10, 0, 0, 0, 0, 0, 0, 0], [11, 0, 0, 0, 0, 0, 0, 0]];
+    show(b"one row", runs::run(&mut one, &words[..1]));
+    show(b"unsound", runs::run(&mut unsound, &words[..1]));
+    show(b"unsound, over", runs::run(&mut unsound, &words));
+}
+
+fn main() {
+    stays();
+    arrival();
+    stops();
+    tables();
+}
