@@ -2,12 +2,12 @@
 -- a location.
 --
 --   fits-zero, fits-above   the two masks mark the locations that go with level 0, and with a level above 0
---   codes-right, code-over  the table of codes
+--   codes-right, code-over  the masks of the binary digits of a code
 --   allowed-right           ALLOWED and lis say which kinds are allowed
 --   allowed-none            at no location nothing is
 --
 -- Assumes nothing.
-use Prim.Native.Nat.{ℕ, _/_, _%_, _^_, _≤_, _<_}
+use Prim.Native.Nat.{ℕ, _+_, _*_, _/_, _%_, _^_, _≤_, _<_}
 use mathlib.Core.Path.{_≡_, refl, sym, ap, _∙_}
 use mathlib.Core.Bool.{Bool, true, false, cond, _&&_, _||_, not, Bool·beq}
 use mathlib.Core.List.{List, [], _∷_}
@@ -85,15 +85,15 @@ fits-above l v h =
 
 -- ---- the codes
 
-abbrev pub codes : List ℕ
-codes =
-    8 ∷ 8 ∷ 8 ∷ 8 ∷ 8 ∷ 8 ∷ 8 ∷ 8 ∷ 8 ∷ 8 ∷ 0 ∷ 8 ∷ 8 ∷ 8 ∷ 8 ∷ 8 ∷ 8 ∷ 8 ∷ 8 ∷ 8
-    ∷ 1 ∷ 2 ∷ 3 ∷ 4 ∷ 5 ∷ 8 ∷ 8 ∷ 8 ∷ 8 ∷ 8
-    ∷ 6 ∷ 8 ∷ 8 ∷ 8 ∷ 8 ∷ 8 ∷ 8 ∷ 8 ∷ 8 ∷ 8 ∷ 7 ∷ []
+-- what the code computes at location l
+abbrev pub codeDigits : ℕ → ℕ
+codeDigits l =
+    1099533647872 / 2 ^ l % 2 + 2 * (1100591661056 / 2 ^ l % 2)
+    + 4 * (1100610535424 / 2 ^ l % 2 + 2 * (18446742973091675135 / 2 ^ l % 2))
 
-pub codes-right : (l : ℕ) → l < 41 → getD codes l 0 ≡ codeOf l
+pub codes-right : (l : ℕ) → l < 64 → codeDigits l ≡ codeOf l
 unfolding every
-codes-right l h = eqb-true (getD codes l 0) (codeOf l) (every-at (λ l. eqb (getD codes l 0) (codeOf l)) 41 refl l h)
+codes-right l h = eqb-true (codeDigits l) (codeOf l) (every-at (λ l. eqb (codeDigits l) (codeOf l)) 64 refl l h)
 
 -- ---- the kinds
 

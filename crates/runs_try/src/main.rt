@@ -57,8 +57,14 @@ fn arrival() {
 fn stops() {
     let mut cells = [[30, 1, 0, 0, 0, 0, 0, 0], [10, 0, 0, 0, 0, 0, 0, 0]];
     show(b"kind", runs::run(&mut cells, &[0x6000_0000]));
-    show(b"allowed", runs::run(&mut cells, &[0x4000_0000, 0x1000_0000]));
-    show(b"argument", runs::run(&mut cells, &[0x3000_0001, 0x3000_0002]));
+    show(
+        b"allowed",
+        runs::run(&mut cells, &[0x4000_0000, 0x1000_0000]),
+    );
+    show(
+        b"argument",
+        runs::run(&mut cells, &[0x3000_0001, 0x3000_0002]),
+    );
 }
 
 // Tables that are refused before any word is taken, and before the words are counted.
