@@ -1,18 +1,10 @@
 /* The lent forms from C: zaguypo_step and zaguypo_run_rows on tables of every size, beside a model that is
-   written here from document 01 ("One step", "Ahead", "Runs", "Refusals") and shares nothing with the engine.
+   written here from document 01 ("One step", "Ahead", "Runs", "Refusals") and shares nothing with the engine. */
+#include "zaguypo.h"
 
-   gcc -std=c11 -Wall -Wextra -Werror -O2 tests/lent.c target/staticlib/liblent.a -o lent && ./lent */
-#include <stdint.h>
 #include <stdio.h>
 #include <stdlib.h>
 #include <string.h>
-
-struct row { uint16_t location, act, bb, level, est, lis, ahead, turn; };
-struct tally { uint32_t words, comes, arrivals; };
-struct ran { uint32_t taken, refusal; };
-
-uint16_t zaguypo_step(struct row *rows, size_t size, uint32_t word);
-struct ran zaguypo_run_rows(struct row *rows, size_t size, const uint32_t *words, size_t count, struct tally *tally);
 
 enum { STAY = 1, COME, FLICKER, GO, LOOK };
 enum { MOST = 18, GUARDS = 2, LIMIT = 8192 };
@@ -29,12 +21,12 @@ static void check(int good, const char *what, size_t size, unsigned long number)
 
 /* ---- a table between guard rows */
 
-struct lent { struct row before[GUARDS], rows[MOST], after[GUARDS]; };
+struct lent { struct zaguypo_row before[GUARDS], rows[MOST], after[GUARDS]; };
 
-static const struct row GUARD = {1, 2, 3, 4, 5, 6, 7, 8};
-static const struct row IDLE = {10, 0, 0, 0, 0, 0, 0, 0};
+static const struct zaguypo_row GUARD = {1, 2, 3, 4, 5, 6, 7, 8};
+static const struct zaguypo_row IDLE = {10, 0, 0, 0, 0, 0, 0, 0};
 
-static void fill(struct lent *t, struct row r, size_t size)
+static void fill(struct lent *t, struct zaguypo_row r, size_t size)
 {
     for (size_t i = 0; i < GUARDS; i++) t->before[i] = t->after[i] = GUARD;
     for (size_t i = 0; i < MOST; i++) t->rows[i] = i < size ? r : GUARD;
@@ -53,7 +45,7 @@ static unsigned members(unsigned set)
     return count;
 }
 
-static int sound_row(const struct row *r, size_t q, size_t n)
+static int sound_row(const struct zaguypo_row *r, size_t q, size_t n)
 {
     static const uint16_t locations[] = {10, 20, 21, 22, 23, 24, 30, 40};
     int known = 0;
@@ -65,7 +57,7 @@ static int sound_row(const struct row *r, size_t q, size_t n)
     return r->location != 30 || r->level == 0;
 }
 
-static unsigned table_refusal(const struct row *t, size_t n)
+static unsigned table_refusal(const struct zaguypo_row *t, size_t n)
 {
     if (n < 2 || n > 16) return 6;
     for (size_t q = 0; q < n; q++)
@@ -73,7 +65,7 @@ static unsigned table_refusal(const struct row *t, size_t n)
     return 0;
 }
 
-static int allowed(unsigned kind, const struct row *r)
+static int allowed(unsigned kind, const struct zaguypo_row *r)
 {
     switch (kind) {
     case STAY: case COME: return r->location == 10;
@@ -83,14 +75,14 @@ static int allowed(unsigned kind, const struct row *r)
     }
 }
 
-static int argument_fits(unsigned kind, const struct row *r, unsigned a, size_t n)
+static int argument_fits(unsigned kind, const struct zaguypo_row *r, unsigned a, size_t n)
 {
     if (kind == FLICKER) return r->location == 24 ? a < n : a < 2;
     if (kind == LOOK) return a < 16 && (r->lis >> a & 1);
     return a == 0;
 }
 
-static unsigned word_refusal(const struct row *t, size_t n, uint32_t w)
+static unsigned word_refusal(const struct zaguypo_row *t, size_t n, uint32_t w)
 {
     unsigned kind = w >> 28, p = w >> 16 & 255, a = w & 255;
     if (kind < STAY || kind > LOOK || (w & 0x0f00ff00)) return 8;
@@ -99,7 +91,7 @@ static unsigned word_refusal(const struct row *t, size_t n, uint32_t w)
     return argument_fits(kind, &t[p], a, n) ? 0 : 11;
 }
 
-static unsigned competing(const struct row *t, size_t n)
+static unsigned competing(const struct zaguypo_row *t, size_t n)
 {
     unsigned set = 0;
     for (size_t q = 0; q < n; q++)
@@ -107,17 +99,17 @@ static unsigned competing(const struct row *t, size_t n)
     return set;
 }
 
-static void model_go_23(struct row *t, unsigned p)
+static void model_go_23(struct zaguypo_row *t, unsigned p)
 {
-    struct row *r = &t[p];
+    struct zaguypo_row *r = &t[p];
     if (members(r->est) < r->level) { r->level = members(r->est); r->bb = 0; r->location = 21; }
     else if (r->bb == 0) r->location = 24;
     else { if (t[r->level].turn != p) { r->level--; r->bb = 0; } r->location = 21; }
 }
 
-static void model_go(struct row *t, size_t n, unsigned p)
+static void model_go(struct zaguypo_row *t, size_t n, unsigned p)
 {
-    struct row *r = &t[p];
+    struct zaguypo_row *r = &t[p];
     unsigned rivals = ((1u << n) - 1) & ~(1u << p), others = competing(t, n);
     switch (r->location) {
     case 20: r->act = 1; r->level = n - 1; r->est = rivals; r->ahead = others; r->location = 21; break;
@@ -136,13 +128,13 @@ static void model_go(struct row *t, size_t n, unsigned p)
     }
 }
 
-static unsigned model_step(struct row *t, size_t n, uint32_t w)
+static unsigned model_step(struct zaguypo_row *t, size_t n, uint32_t w)
 {
     unsigned kind = w >> 28, p = w >> 16 & 255, a = w & 255;
     unsigned refusal = table_refusal(t, n);
     if (!refusal) refusal = word_refusal(t, n, w);
     if (refusal || kind == STAY) return refusal;
-    struct row *r = &t[p];
+    struct zaguypo_row *r = &t[p];
     if (kind == COME) r->location = 20;
     else if (kind == GO) model_go(t, n, p);
     else if (kind == LOOK) { r->lis &= ~(1u << a); if (!t[a].act) r->est &= ~(1u << a); }
@@ -151,9 +143,9 @@ static unsigned model_step(struct row *t, size_t n, uint32_t w)
     return 0;
 }
 
-static struct ran model_run(struct row *t, size_t n, const uint32_t *ws, size_t count, struct tally *h)
+static struct zaguypo_ran model_run(struct zaguypo_row *t, size_t n, const uint32_t *ws, size_t count, struct zaguypo_tally *h)
 {
-    struct ran r = {0, table_refusal(t, n)};
+    struct zaguypo_ran r = {0, table_refusal(t, n)};
     memset(h, 0, sizeof *h);
     if (!r.refusal && count > LIMIT) r.refusal = 12;
     if (r.refusal) return r;
@@ -180,13 +172,13 @@ static unsigned step_both(struct lent *t, size_t n, uint32_t w)
     return answer;
 }
 
-static struct ran run_both(struct lent *t, size_t n, const uint32_t *ws, size_t count)
+static struct zaguypo_ran run_both(struct lent *t, size_t n, const uint32_t *ws, size_t count)
 {
     struct lent u = *t;
-    struct tally around[3], expected;
+    struct zaguypo_tally around[3], expected;
     memset(around, 0x5a, sizeof around);
-    struct tally guard = around[0];
-    struct ran r = zaguypo_run_rows(t->rows, n, ws, count, &around[1]), s = model_run(u.rows, n, ws, count, &expected);
+    struct zaguypo_tally guard = around[0];
+    struct zaguypo_ran r = zaguypo_run_rows(t->rows, n, ws, count, &around[1]), s = model_run(u.rows, n, ws, count, &expected);
     check(r.taken == s.taken && r.refusal == s.refusal, "answer of a run", n, count);
     check(same(t, &u), "rows after a run", n, count);
     check(memcmp(&around[1], &expected, sizeof expected) == 0, "tally of a run", n, count);
@@ -204,11 +196,11 @@ static uint32_t draw(uint32_t below)
 }
 
 /* a sound row, any of them */
-static struct row draw_row(size_t q, size_t n)
+static struct zaguypo_row draw_row(size_t q, size_t n)
 {
     static const uint16_t locations[] = {10, 20, 21, 22, 23, 24, 30, 40};
     unsigned full = (1u << n) - 1;
-    struct row r = {locations[draw(8)], draw(2), draw(2), draw(n), draw(65536) & full, draw(65536) & full,
+    struct zaguypo_row r = {locations[draw(8)], draw(2), draw(2), draw(n), draw(65536) & full, draw(65536) & full,
                     draw(65536) & full, q ? draw(n) : 0};
     if (draw(4) == 0) r.lis = 0;
     if (r.location >= 22 && r.location <= 24 && r.level == 0) r.level = 1;
@@ -217,10 +209,10 @@ static struct row draw_row(size_t q, size_t n)
 }
 
 /* a word that process p is likely to be allowed */
-static uint32_t draw_word(const struct row *t, size_t n)
+static uint32_t draw_word(const struct zaguypo_row *t, size_t n)
 {
     unsigned p = draw(n), choice = draw(16);
-    const struct row *r = &t[p];
+    const struct zaguypo_row *r = &t[p];
     if (choice == 0) return word(draw(7), draw(n + 1), draw(4));
     if (r->location == 10) return word(draw(4) ? COME : STAY, p, 0);
     if (choice == 1) return word(FLICKER, p, draw(n));
@@ -250,7 +242,7 @@ static void wrong_sizes(void)
     }
 }
 
-static void unsound_row(size_t n, size_t q, struct row r, const uint32_t *many)
+static void unsound_row(size_t n, size_t q, struct zaguypo_row r, const uint32_t *many)
 {
     struct lent t;
     fill(&t, IDLE, n);
@@ -264,7 +256,7 @@ static void unsound_row(size_t n, size_t q, struct row r, const uint32_t *many)
 static void unsound_rows(size_t n, const uint32_t *many)
 {
     for (size_t q = 0; q < n; q += n - 1) {
-        struct row r = IDLE;
+        struct zaguypo_row r = IDLE;
         static const uint16_t wrong[] = {0, 9, 11, 25, 31, 41, 65535};
         for (size_t i = 0; i < 7; i++) { r.location = wrong[i]; unsound_row(n, q, r, many); }
         r = IDLE; r.act = 2; unsound_row(n, q, r, many);
@@ -334,7 +326,7 @@ static void any_runs(size_t n)
             do ws[i] = draw_word(u.rows, n); while (word_refusal(u.rows, n, ws[i]) && (round % 4 || draw(64)));
             model_step(u.rows, n, ws[i]);
         }
-        struct ran r = run_both(&t, n, ws, count);
+        struct zaguypo_ran r = run_both(&t, n, ws, count);
         check(round % 4 == 0 || (r.taken == count && r.refusal == 0), "a run to its end", n, count);
         run_both(&t, n, ws, draw(count + 1));
     }
@@ -344,7 +336,7 @@ static void limits(size_t n, const uint32_t *stays)
 {
     struct lent t;
     fill(&t, IDLE, n);
-    struct ran r = run_both(&t, n, stays, 0);
+    struct zaguypo_ran r = run_both(&t, n, stays, 0);
     check(r.taken == 0 && r.refusal == 0, "no words", n, 0);
     r = run_both(&t, n, stays, LIMIT);
     check(r.taken == LIMIT && r.refusal == 0, "8,192 words", n, LIMIT);
@@ -373,17 +365,17 @@ static void printed_run(void)
     static const uint32_t ws[] = {0x20000000, 0x40000000, 0x40000000, 0x50000001, 0x40000000, 0x40000000, 0x40000000};
     static const uint16_t after[] = {20, 21, 22, 22, 23, 21, 30};
     struct lent t, u;
-    struct tally h = {9, 9, 9};
+    struct zaguypo_tally h = {9, 9, 9};
     fill(&t, IDLE, 2);
     for (int i = 0; i < 7; i++) {
         check(zaguypo_step(t.rows, 2, ws[i]) == 0, "taken", 2, ws[i]);
         check(t.rows[0].location == after[i], "location", 2, ws[i]);
     }
     fill(&u, IDLE, 2);
-    u.rows[0] = (struct row){30, 1, 0, 0, 0, 0, 0, 0};
+    u.rows[0] = (struct zaguypo_row){30, 1, 0, 0, 0, 0, 0, 0};
     check(same(&t, &u), "rows after the seven words", 2, 7);
     fill(&t, IDLE, 2);
-    struct ran r = zaguypo_run_rows(t.rows, 2, ws, 7, &h);
+    struct zaguypo_ran r = zaguypo_run_rows(t.rows, 2, ws, 7, &h);
     check(r.taken == 7 && r.refusal == 0 && same(&t, &u), "the seven words as a run", 2, 7);
     check(h.words == 7 && h.comes == 1 && h.arrivals == 1, "their tally", 2, 7);
     r = zaguypo_run_rows(t.rows, 2, ws, 7, &h);
@@ -405,6 +397,6 @@ int main(void)
         limits(n, stays);
         lone(n);
     }
-    printf("lent: %ld checks, %ld failed\n", checks, failed);
+    printf("rows: %ld checks, %ld failed\n", checks, failed);
     return failed != 0;
 }

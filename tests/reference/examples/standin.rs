@@ -31,8 +31,8 @@ pub unsafe extern "C" fn zaguypo_run_rows(
 }
 
 /// # Safety
-/// The pointers go with their lengths.
+/// The pointer goes with its length.
 #[no_mangle]
-pub unsafe extern "C" fn zaguypo_census(rows: *const Row, n: usize, census: *mut Census) {
-    *census = reference::census(from_raw_parts(rows, n));
+pub unsafe extern "C" fn zaguypo_census(rows: *const Row, n: usize) -> Census {
+    reference::census(from_raw_parts(rows, n))
 }

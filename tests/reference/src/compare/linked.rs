@@ -19,10 +19,8 @@ mod exported {
         #[cfg(feature = "linked-rows")]
         pub fn zaguypo_run_rows(rows: *mut Row, n: usize, words: *const u32, count: usize, tally: *mut Tally) -> Ran;
 
-        // TO BE SETTLED: by out-parameter here; by value it would read
-        // `pub fn zaguypo_census(rows: *const Row, n: usize) -> Census;` and `census` below would return the call.
         #[cfg(feature = "linked-census")]
-        pub fn zaguypo_census(rows: *const Row, n: usize, census: *mut Census);
+        pub fn zaguypo_census(rows: *const Row, n: usize) -> Census;
     }
 
     // keeps the imports used whatever the features
@@ -69,10 +67,8 @@ impl Engine for Linked {
 
     #[cfg(feature = "linked-census")]
     fn census(&self, rows: &[Row]) -> Census {
-        let mut census = Census { refusal: u16::MAX, at_30: 1, waiting: 1, below: [1; 17], held: [1; 17] };
-        // SAFETY: the pointers come from a slice of the length given with it, and from a reference.
-        unsafe { exported::zaguypo_census(rows.as_ptr(), rows.len(), &mut census) };
-        census
+        // SAFETY: the pointer comes from a slice of the length given with it.
+        unsafe { exported::zaguypo_census(rows.as_ptr(), rows.len()) }
     }
 
     fn text(&self, input: &[u8]) -> Vec<u8> {
