@@ -1,0 +1,142 @@
+-- `images_try::say_around` is safe: an image of at most 16 processes fits 90 words. Assumes nothing.
+use Prim.Native.Nat.{_*_}
+use mathlib.Core.Path.{sym}
+use lib.ListN.{length}
+use lib.Seq.{length-take-le}
+use borrow.Author.Needs.{needs}
+use Rattle.images_try.proofs.say_around.Statement.{statement}
+use Rattle.images_try.proofs.say_around.Tie as tie
+use Rattle.images_try.proofs.say_around.Reads as reads
+use Rattle.images_try.proofs.say_around.Lts as lts
+use Rattle.images.proofs.decoding.read_cells.Reads as read-cells-reads
+use Rattle.images.proofs.encoding.write.Reads as write-reads
+use Rattle.images_try.proofs.alike.Reads as alike-reads
+use Rattle.images_try.proofs.answer_of.Reads as answer-of-reads
+use Rattle.images_try.proofs.say.Reads as say-reads
+
+mul-all : tie.Need-mul-all
+mul-all c = search needs
+
+slice-aggregate-write : tie.Need-slice-aggregate-write
+slice-aggregate-write c = search needs
+
+write-requires : tie.Need-write-requires
+write-requires c κs = search needs
+
+cast-say : tie.Need-cast-say
+cast-say c = search needs
+
+say-requires : tie.Need-say-requires
+say-requires c κs = search needs
+
+slice-aggregate-say : tie.Need-slice-aggregate-say
+slice-aggregate-say c = search needs
+
+array-share-prefix-first : tie.Need-array-share-prefix-first
+array-share-prefix-first c = search needs
+
+slice-aggregate-read-cells : tie.Need-slice-aggregate-read-cells
+slice-aggregate-read-cells c =
+    sym (length-take-le (5 * length (c .before .before .before .before .before .before .before .args .cells .now)) (c .before .before .before .before .write .last .1 .0) (search needs))
+
+slice-aggregate-read-cells-2 : tie.Need-slice-aggregate-read-cells-2
+slice-aggregate-read-cells-2 c = search needs
+
+read-cells-requires : tie.Need-read-cells-requires
+read-cells-requires c κs = search needs
+
+answer-of-requires : tie.Need-answer-of-requires
+answer-of-requires c κs = search needs
+
+say-requires-2 : tie.Need-say-requires-2
+say-requires-2 c κs = search needs
+
+slice-aggregate-say-2 : tie.Need-slice-aggregate-say-2
+slice-aggregate-say-2 c = search needs
+
+array-share-prefix-back : tie.Need-array-share-prefix-back
+array-share-prefix-back c = search needs
+
+slice-aggregate-write-2 : tie.Need-slice-aggregate-write-2
+slice-aggregate-write-2 c =
+    sym (length-take-le (length (c .before .before .before .before .before .before .before .before .before .before .before .before .before .before .args .cells .now)) (c .before .before .before .before .before .read-cells .last .1 .0) (search needs))
+
+slice-aggregate-write-3 : tie.Need-slice-aggregate-write-3
+slice-aggregate-write-3 c = search needs
+
+write-requires-2 : tie.Need-write-requires-2
+write-requires-2 c κs = search needs
+
+cast-say-2 : tie.Need-cast-say-2
+cast-say-2 c = search needs
+
+say-requires-3 : tie.Need-say-requires-3
+say-requires-3 c κs = search needs
+
+slice-aggregate-say-3 : tie.Need-slice-aggregate-say-3
+slice-aggregate-say-3 c = search needs
+
+slice-aggregate-alike : tie.Need-slice-aggregate-alike
+slice-aggregate-alike c = search needs
+
+slice-aggregate-alike-2 : tie.Need-slice-aggregate-alike-2
+slice-aggregate-alike-2 c = search needs
+
+alike-requires : tie.Need-alike-requires
+alike-requires c κs = search needs
+
+say-requires-4 : tie.Need-say-requires-4
+say-requires-4 c κs = search needs
+
+slice-aggregate-say-4 : tie.Need-slice-aggregate-say-4
+slice-aggregate-say-4 c = search needs
+
+slice-aggregate-alike-3 : tie.Need-slice-aggregate-alike-3
+slice-aggregate-alike-3 c = search needs
+
+slice-aggregate-alike-4 : tie.Need-slice-aggregate-alike-4
+slice-aggregate-alike-4 c = search needs
+
+alike-requires-2 : tie.Need-alike-requires-2
+alike-requires-2 c κs = search needs
+
+say-requires-5 : tie.Need-say-requires-5
+say-requires-5 c κs = search needs
+
+returns : tie.Need-returns
+returns c = search needs
+
+pub say-around-spec : {M : Type 1} → statement M
+say-around-spec =
+    tie.close
+    (tie.spec
+    mul-all
+    slice-aggregate-write
+    write-requires
+    cast-say
+    say-requires
+    slice-aggregate-say
+    array-share-prefix-first
+    slice-aggregate-read-cells
+    slice-aggregate-read-cells-2
+    read-cells-requires
+    answer-of-requires
+    say-requires-2
+    slice-aggregate-say-2
+    array-share-prefix-back
+    slice-aggregate-write-2
+    slice-aggregate-write-3
+    write-requires-2
+    cast-say-2
+    say-requires-3
+    slice-aggregate-say-3
+    slice-aggregate-alike
+    slice-aggregate-alike-2
+    alike-requires
+    say-requires-4
+    slice-aggregate-say-4
+    slice-aggregate-alike-3
+    slice-aggregate-alike-4
+    alike-requires-2
+    say-requires-5
+    returns)

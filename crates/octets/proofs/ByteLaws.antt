@@ -1,0 +1,112 @@
+-- Words and bytes undo each other; lengths; one word of a list. Assumes nothing.
+use mathlib.Core.Bool.{true}
+use mathlib.Core.Path.{_≡_, refl, sym, ap, _∙_}
+use mathlib.Core.List.{List, [], _∷_, _++_}
+use Prim.Native.Nat.{ℕ, zero, suc, _+_, _*_, _/_, _%_, _^_, _<_, _≤_}
+use native.Mathlib.Omega.{arith}
+use lib.Dec.{eqb, leb}
+use lib.ListN.{length, getD, take, drop}
+use lib.Seq.{take-at}
+use borrow.Author.Tests.{eqb-true, leb-true}
+use lib.Pow.{recompose, mod-pow-add}
+use Rattle.machine.specs.Bytes.{wordsIn, bytesOf, bytesFit, bytesLimit}
+use Rattle.machine.proofs.TestLaws.{and-left, and-right}
+use Rattle.octets.specs.Placing.{placed, wordOf, Whole}
+use Rattle.octets.proofs.PlacingLaws.{placed-first}
+
+-- four times i, as the bytes are counted
+unfoldable pub fours : ℕ → ℕ
+fours zero = zero
+fours (suc i) = suc (suc (suc (suc (fours i))))
+
+pub fours-is : (i : ℕ) → fours i ≡ 4 * i
+unfolding fours
+fours-is zero = refl
+fours-is (suc i) = omega (arith, fours-is i)
+
+-- the word whose lowest byte stands at place k
+abbrev pub wordAt : List ℕ → ℕ → ℕ
+wordAt bs k = wordOf (getD bs k 0) (getD bs (suc k) 0) (getD bs (suc (suc k)) 0) (getD bs (suc (suc (suc k))) 0)
+
+-- ---- lengths
+
+pub length-wordsIn : (bs : List ℕ) → length (wordsIn bs) ≡ length bs / 4
+unfolding wordsIn
+length-wordsIn [] = refl
+length-wordsIn (a ∷ []) = refl
+length-wordsIn (a ∷ b ∷ []) = refl
+length-wordsIn (a ∷ b ∷ c ∷ []) = refl
+length-wordsIn (a ∷ b ∷ c ∷ d ∷ bs) = omega (arith, length-wordsIn bs)
+
+pub length-bytesOf : (ws : List ℕ) → length (bytesOf ws) ≡ 4 * length ws
+unfolding bytesOf
+length-bytesOf [] = refl
+length-bytesOf (w ∷ ws) = omega (arith, length-bytesOf ws)
+
+-- ---- one word of a list
+
+pub getD-wordsIn : (i : ℕ) (bs : List ℕ) → i < length (wordsIn bs) → getD (wordsIn bs) i 0 ≡ wordAt bs (fours i)
+unfolding wordsIn fours
+getD-wordsIn i [] h = absurd (omega arith)
+getD-wordsIn i (a ∷ []) h = absurd (omega arith)
+getD-wordsIn i (a ∷ b ∷ []) h = absurd (omega arith)
+getD-wordsIn i (a ∷ b ∷ c ∷ []) h = absurd (omega arith)
+getD-wordsIn zero (a ∷ b ∷ c ∷ d ∷ bs) h = refl
+getD-wordsIn (suc i) (a ∷ b ∷ c ∷ d ∷ bs) h = getD-wordsIn i bs (omega arith)
+
+pub bytesOf-append : (vs ws : List ℕ) → bytesOf (vs ++ ws) ≡ bytesOf vs ++ bytesOf ws
+unfolding bytesOf
+bytesOf-append [] ws = refl
+bytesOf-append (v ∷ vs) ws = rw (bytesOf-append vs ws)
+
+-- ---- each undoes the other
+
+-- every number of a list is below m
+abbrev pub AllBelow : ℕ → List ℕ → Type 0
+AllBelow m xs = (i : ℕ) → i < length xs → getD xs i 0 < m
+
+pub wordsIn-bytesOf : (ws : List ℕ) → AllBelow (2 ^ 32) ws → wordsIn (bytesOf ws) ≡ ws
+unfolding wordsIn bytesOf
+wordsIn-bytesOf [] h = refl
+wordsIn-bytesOf (w ∷ ws) h =
+    let small : w < 2 ^ 32 = h 0 (omega arith) in
+    let e : wordOf (w % 2 ^ 8) (w / 2 ^ 8 % 2 ^ 8) (w / 2 ^ 16 % 2 ^ 8) (w / 2 ^ 24 % 2 ^ 8) ≡ w =
+        omega (arith, recompose {n = w} 8 24 small, mod-pow-add w 8 16, mod-pow-add w 8 8) in
+    rw (e, wordsIn-bytesOf ws (λ i l. h (suc i) (omega arith)))
+
+pub bytesOf-wordsIn : (bs : List ℕ) → AllBelow (2 ^ 8) bs → length bs % 4 ≡ 0 → bytesOf (wordsIn bs) ≡ bs
+unfolding wordsIn bytesOf
+bytesOf-wordsIn [] h z = refl
+bytesOf-wordsIn (a ∷ []) h z = absurd (omega arith)
+bytesOf-wordsIn (a ∷ b ∷ []) h z = absurd (omega arith)
+bytesOf-wordsIn (a ∷ b ∷ c ∷ []) h z = absurd (omega arith)
+bytesOf-wordsIn (a ∷ b ∷ c ∷ d ∷ bs) h z =
+    let ha : a < 2 ^ 8 = h 0 (omega arith) in
+    let hb : b < 2 ^ 8 = h 1 (omega arith) in
+    let hc : c < 2 ^ 8 = h 2 (omega arith) in
+    let hd : d < 2 ^ 8 = h 3 (omega arith) in
+    let w = wordOf a b c d in
+    let upper : w / 2 ^ 8 ≡ b + c * 2 ^ 8 + d * 2 ^ 16 = omega arith in
+    let half : w / 2 ^ 16 ≡ c + d * 2 ^ 8 = omega arith in
+    let top : w / 2 ^ 24 ≡ d = omega arith in
+    let ea : w % 2 ^ 8 ≡ a = omega arith in
+    let eb : w / 2 ^ 8 % 2 ^ 8 ≡ b = rw upper (omega arith) in
+    let ec : w / 2 ^ 16 % 2 ^ 8 ≡ c = rw half (omega arith) in
+    let ed : w / 2 ^ 24 % 2 ^ 8 ≡ d = rw top (omega arith) in
+    rw (ea, eb, ec, ed, bytesOf-wordsIn bs (λ i l. h (suc (suc (suc (suc i)))) (omega arith)) (omega arith))
+
+-- ---- the words of an input
+
+-- bytes that fit can be unpacked into 8,272 words
+pub fits-whole : (bs ws : List ℕ) → bytesFit bs ≡ true → length ws ≡ 8272 → Whole bs ws
+fits-whole bs ws fit room =
+    let four = eqb-true (length bs % 4) 0 (and-left (eqb (length bs % 4) 0) (leb (length bs) bytesLimit) fit) in
+    let few = leb-true (length bs) bytesLimit (and-right (eqb (length bs % 4) 0) (leb (length bs) bytesLimit) fit) in
+    record { whole = four; room = omega arith }
+
+module _ (bs ws y : List ℕ) (m : ℕ) (count : m ≡ length bs / 4) (placed-so : y ≡ placed ws 0 (wordsIn bs)) where
+  -- as many words as were unpacked are the words of the bytes
+  pub take-unpacked : take m y ≡ wordsIn bs
+  take-unpacked =
+      ap (take m) (placed-so ∙ placed-first ws (wordsIn bs))
+          ∙ take-at (wordsIn bs) (drop (length (wordsIn bs)) ws) m (length-wordsIn bs ∙ sym count)

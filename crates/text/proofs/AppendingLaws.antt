@@ -1,0 +1,35 @@
+-- One text put after another is the two put as one. Assumes nothing.
+use mathlib.Core.Path.{_≡_, refl, sym, ap, _∙_}
+use mathlib.Core.List.{List, [], _∷_, _++_}
+use Prim.Native.Nat.{ℕ, _+_, _≤_, _<_}
+use native.Mathlib.Omega.{arith}
+use lib.ListN.{length, set, length-append}
+use Rattle.octets.specs.Placing.{placed}
+use Rattle.octets.proofs.PlacingLaws.{placed-one, placed-then, length-placed}
+use Rattle.text.specs.Appending.{Appended}
+
+-- one byte
+pub appended-one : (d : List ℕ) (at b : ℕ) → at < length d → Appended d at (b ∷ []) (set d at b) (at + 1)
+appended-one d at b h = record { bytes-are = placed-one d at b h; end-is = refl }
+
+-- the same text by another name
+pub appended-as : {d s u y : List ℕ} {at e : ℕ} → s ≡ u → Appended d at s y e → Appended d at u y e
+appended-as {d} {at = at} same a =
+    record { bytes-are = a .bytes-are ∙ ap (placed d at) same; end-is = a .end-is ∙ ap (λ (l : List ℕ). at + length l) same }
+
+-- the composition law
+pub appended-then : {d s u y z : List ℕ} {at e f : ℕ} → at ≤ length d
+    → Appended d at s y e → Appended y e u z f → Appended d at (s ++ u) z f
+appended-then {d} {s} {u} {y} {z} {at} {e} {f} h a b =
+    record {
+      bytes-are =
+          b .bytes-are
+              ∙ ap (λ (l : List ℕ). placed l e u) (a .bytes-are)
+              ∙ ap (λ (k : ℕ). placed (placed d at s) k u) (a .end-is)
+              ∙ placed-then d at s u h;
+      end-is = omega (arith, a .end-is, b .end-is, length-append s u);
+    }
+
+-- the buffer is as long as it was
+pub length-appended : {d s y : List ℕ} {at e : ℕ} → at + length s ≤ length d → Appended d at s y e → length y ≡ length d
+length-appended {d} {s} {y} {at} h a = ap length (a .bytes-are) ∙ length-placed d at s h

@@ -1,0 +1,26 @@
+-- `text::fields::put_byte` meets its contract. Assumes nothing.
+use borrow.Author.Needs.{needs}
+use Rattle.text.proofs.AppendingLaws.{appended-one}
+use Rattle.text.proofs.fields.put_byte.Statement.{statement}
+use Rattle.text.proofs.fields.put_byte.Tie as tie
+use Rattle.text.proofs.fields.put_byte.Reads as reads
+use Rattle.text.proofs.fields.put_byte.Lts as lts
+
+-- src/fields.rt:15:5
+slice-write-out : tie.Need-slice-write-out
+slice-write-out c = search needs
+
+-- src/fields.rt:16:5
+add-result : tie.Need-add-result
+add-result c = search needs
+
+-- src/fields.rt:11:1
+same-length : tie.Need-same-length
+same-length c = search needs
+
+-- src/fields.rt:11:1
+returns : tie.Need-returns
+returns c = appended-one (c .args .out .now) (c .args .at) (c .args .b) (c .pre)
+
+pub put-byte-spec : {M : Type 1} → statement M
+put-byte-spec = tie.close (tie.spec slice-write-out add-result same-length returns)

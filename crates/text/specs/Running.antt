@@ -1,0 +1,63 @@
+-- What the functions that print a run require and promise.
+--
+--   lineOf t i w        ==   what is printed for word w, which is word i, at table t: its line, or the last line.
+--   Ready x d at n      <=>  the cells x hold a sound table, and the buffer d has room from `at` on for n words.
+--   WordPrinted ..      <=>  the line of a word is in the buffer, and the cells are as the step leaves them.
+--
+-- Assumes nothing.
+use Prim.Native.Nat.{ℕ, _+_, _*_, _≤_, _<_}
+use mathlib.Core.Path.{_≡_}
+use mathlib.Core.Bool.{Bool, true, false}
+use mathlib.Core.List.{List, [], _∷_, _++_}
+use lib.Dec.{eqb}
+use lib.ListN.{length}
+use Rattle.machine.specs.Refusals.{accepted}
+use Rattle.machine.specs.Tables.{Table, tableRefusal}
+use Rattle.machine.specs.Steps.{refusalOf, afterWord}
+use Rattle.machine.specs.Runs.{limit}
+use Rattle.machine.specs.Text.{wordLine, stopText, numbers}
+use Rattle.cells.specs.View.{rowsOf, Becomes}
+use Rattle.text.specs.Appending.{Appended}
+use Rattle.text.specs.declared.running.Line.{Line}
+use Rattle.text.specs.declared.running.Line.the-variants.{Taken, Stopped}
+
+-- whether a word is taken
+abbrev pub takes : Table → ℕ → Bool
+takes t w = eqb (refusalOf t w) accepted
+
+unfoldable pub lineOf : Table → ℕ → ℕ → List ℕ
+lineOf t i w = elim (takes t w) [ true ↦ wordLine t i w | false ↦ stopText ++ numbers (i ∷ refusalOf t w ∷ []) ]
+
+-- ---- the answer to a line
+
+abbrev pub goesOn : Line → Bool
+goesOn (Taken e) = true
+goesOn (Stopped e) = false
+
+abbrev pub endOf : Line → ℕ
+endOf (Taken e) = e
+endOf (Stopped e) = e
+
+-- ---- contracts
+
+-- the most bytes of a word's line, and of the last line
+abbrev pub lineRoom : ℕ
+lineRoom = 17
+
+abbrev pub lastRoom : ℕ
+lastRoom = 13
+
+pub record Ready (x : List (List ℕ)) (d : List ℕ) (at i : ℕ) : Type 0 where
+  pub sound : tableRefusal (rowsOf x) ≡ 0
+  pub room : at + lineRoom ≤ length d
+  pub few : i < limit
+
+pub record WordPrinted (x : List (List ℕ)) (d : List ℕ) (at i w : ℕ) (y : List (List ℕ)) (e : List ℕ) (r : Line) : Type 0 where
+  pub becomes : Becomes x (afterWord (rowsOf x) w) y
+  pub taken-is : goesOn r ≡ takes (rowsOf x) w
+  pub appended : Appended d at (lineOf (rowsOf x) i w) e (endOf r)
+
+pub record RunReady (x : List (List ℕ)) (d : List ℕ) (at n : ℕ) : Type 0 where
+  pub sound : tableRefusal (rowsOf x) ≡ 0
+  pub room : at + lineRoom * n + lastRoom ≤ length d
+  pub few : n ≤ limit
