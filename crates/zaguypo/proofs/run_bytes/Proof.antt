@@ -1,0 +1,65 @@
+-- `zaguypo::run_bytes` meets its contract. Assumes nothing.
+use native.Mathlib.Omega.{arith}
+use mathlib.Core.Path.{_≡_, sym, ap, _∙_}
+use mathlib.Core.List.{List}
+use Prim.Native.Nat.{ℕ}
+use lib.Seq.{length-take-le}
+use Rattle.octets.proofs.ByteLaws.{fits-whole, take-unpacked}
+use Rattle.zaguypo.specs.Calls.{wordsCall}
+use Rattle.zaguypo.proofs.CallLaws.{calls-as}
+use borrow.Author.Needs.{needs}
+use Rattle.zaguypo.proofs.run_bytes.Statement.{statement}
+use Rattle.zaguypo.proofs.run_bytes.Tie as tie
+use Rattle.zaguypo.proofs.run_bytes.Reads as reads
+use Rattle.zaguypo.proofs.run_bytes.Lts as lts
+use Rattle.octets.proofs.unpack.Reads as unpack-reads
+use Rattle.zaguypo.proofs.run_input.Reads as run-input-reads
+
+unpack-requires : tie.Need-unpack-requires
+unpack-requires c κs =
+    let start = c .before .before .before .before in
+    fits-whole (start .args .input .now) (start .args .words .now) (start .pre .fit) (start .pre .words-room)
+
+slice-reshare-prefix-run-input : tie.Need-slice-reshare-prefix-run-input
+slice-reshare-prefix-run-input c =
+    let start = c .before .before .before .before .before .before .before in
+    let whole = fits-whole (start .args .input .now) (start .args .words .now) (start .pre .fit) (start .pre .words-room) in
+    omega (arith, whole .room, c .before .before .unpack .ensures .0, c .before .before .unpack .kept .1 .0)
+
+slice-aggregate-run-input : tie.Need-slice-aggregate-run-input
+slice-aggregate-run-input c =
+    let start = c .before .before .before .before .before .before .before .before in
+    let whole = fits-whole (start .args .input .now) (start .args .words .now) (start .pre .fit) (start .pre .words-room) in
+    let unpacked = c .before .before .before .unpack in
+    sym (length-take-le (unpacked .result) (unpacked .last .1 .0) (omega (arith, whole .room, unpacked .ensures .0, unpacked .kept .1 .0)))
+
+run-input-requires : tie.Need-run-input-requires
+run-input-requires c κs = search needs
+
+same-length : tie.Need-same-length
+same-length c = search needs
+
+same-length-2 : tie.Need-same-length-2
+same-length-2 c = search needs
+
+returns : tie.Need-returns
+returns c =
+    let start = c .before .before .before .before .before .before .before .before .before .before .before .before in
+    let unpacked = c .before .before .before .before .before .before .before .unpack in
+    calls-as
+    (ap (λ (ws : List ℕ). wordsCall ws (start .args .image .now))
+    (take-unpacked (start .args .input .now) (start .args .words .now) (unpacked .last .1 .0) (unpacked .result)
+    (unpacked .ensures .0) (unpacked .ensures .1)))
+    (c .before .before .run-input .ensures)
+
+pub run-bytes-spec : {M : Type 1} → statement M
+run-bytes-spec =
+    tie.close
+    (tie.spec
+    unpack-requires
+    slice-reshare-prefix-run-input
+    slice-aggregate-run-input
+    run-input-requires
+    same-length
+    same-length-2
+    returns)

@@ -1,0 +1,95 @@
+-- `zaguypo::write_image` meets its contract: the image in 80 words, and those that it has as bytes. Assumes nothing.
+use native.Mathlib.Omega.{arith}
+use mathlib.Core.Path.{_≡_, sym, ap, _∙_}
+use mathlib.Core.List.{List}
+use Prim.Native.Nat.{ℕ, _*_}
+use lib.ListN.{length, take, drop, replicate, length-replicate}
+use lib.Seq.{take-at, length-take-le}
+use Rattle.machine.specs.Images.{imageOf}
+use Rattle.machine.specs.Bytes.{bytesOf}
+use Rattle.machine.proofs.SoundRows.{sound-rows}
+use Rattle.codec.proofs.RoundTrip.{length-image}
+use Rattle.cells.specs.View.{rowsOf}
+use Rattle.cells.proofs.ViewLaws.{rows-length}
+use Rattle.octets.specs.Placing.{placed}
+use borrow.Author.Needs.{needs}
+use Rattle.zaguypo.proofs.write_image.Statement.{statement}
+use Rattle.zaguypo.proofs.write_image.Tie as tie
+use Rattle.zaguypo.proofs.write_image.Reads as reads
+use Rattle.zaguypo.proofs.write_image.Lts as lts
+use Rattle.images.proofs.encoding.write_cells.Reads as write-cells-reads
+use Rattle.octets.proofs.pack.Reads as pack-reads
+
+slice-aggregate-write-cells : tie.Need-slice-aggregate-write-cells
+slice-aggregate-write-cells c = search needs
+
+write-cells-requires : tie.Need-write-cells-requires
+write-cells-requires c κs =
+    let start = c .before .before in
+    let x = start .args .cells .now in
+    let size = rows-length x in
+    let facts = sound-rows (rowsOf x) (start .pre .sound) in
+    let zeros = length-replicate {A = ℕ} 80 0 in
+    record { is-sound = start .pre .sound; long = omega (arith, facts .1) }
+
+mul-all : tie.Need-mul-all
+mul-all c = search needs
+
+array-share-prefix-words : tie.Need-array-share-prefix-words
+array-share-prefix-words c =
+    let start = c .before .before .before .before in
+    let x = start .args .cells .now in
+    let size = rows-length x in
+    let facts = sound-rows (rowsOf x) (start .pre .sound) in
+    let zeros = length-replicate {A = ℕ} 80 0 in
+    omega (arith, facts .1, c .before .write-cells .kept .1 .0)
+
+slice-aggregate-pack : tie.Need-slice-aggregate-pack
+slice-aggregate-pack c =
+    let start = c .before .before .before .before .before in
+    let x = start .args .cells .now in
+    let size = rows-length x in
+    let facts = sound-rows (rowsOf x) (start .pre .sound) in
+    let zeros = length-replicate {A = ℕ} 80 0 in
+    let put = c .before .before .write-cells in
+    sym (length-take-le (5 * length x) (put .last .1 .0) (omega (arith, facts .1, put .kept .1 .0)))
+
+pack-requires : tie.Need-pack-requires
+pack-requires c κs =
+    let start = c .before .before .before .before .before .before in
+    let x = start .args .cells .now in
+    let size = rows-length x in
+    let facts = sound-rows (rowsOf x) (start .pre .sound) in
+    let zeros = length-replicate {A = ℕ} 80 0 in
+    let put = c .before .before .before .write-cells in
+    omega (arith, length-take-le (5 * length x) (put .last .1 .0) (omega (arith, facts .1, put .kept .1 .0)), start .pre .room)
+
+same-length : tie.Need-same-length
+same-length c = search needs
+
+returns : tie.Need-returns
+returns c =
+    let start = c .before .before .before .before .before .before .before .before .before in
+    let x = start .args .cells .now in
+    let size = rows-length x in
+    let facts = sound-rows (rowsOf x) (start .pre .sound) in
+    let zeros = length-replicate {A = ℕ} 80 0 in
+    let put = c .before .before .before .before .before .before .write-cells in
+    let all = 5 * length x in
+    let words : take all (put .last .1 .0) ≡ imageOf (rowsOf x) =
+        ap (take all) (put .ensures)
+            ∙ take-at (imageOf (rowsOf x)) _ all (length-image (rowsOf x) (omega (arith, facts .0)) ∙ omega arith) in
+    c .before .before .pack .ensures ∙ ap (λ (l : List ℕ). placed (start .args .image .now) 0 (bytesOf l)) words
+
+pub write-image-spec : {M : Type 1} → statement M
+write-image-spec =
+    tie.close
+    (tie.spec
+    slice-aggregate-write-cells
+    write-cells-requires
+    mul-all
+    array-share-prefix-words
+    slice-aggregate-pack
+    pack-requires
+    same-length
+    returns)
