@@ -9,31 +9,34 @@ use borrow.Author.Tests.{le-leb, lt-leb}
 use Rattle.machine.specs.Rows.{blank}
 use Rattle.machine.specs.Tables.{Table, row, soundRow, soundFrom, tableRefusal}
 
-and-assoc : (a b d : Bool) → (a && (b && d)) ≡ ((a && b) && d)
-and-assoc true b d = refl
-and-assoc false b d = refl
-
 module _ (t : Table) where
-  -- whether a table is sound: so far, and in the rows from row q on
-  abbrev pub SoundSo : ℕ → Bool → ℕ → Type 0
-  SoundSo n good q = soundFrom n 0 t ≡ (good && soundFrom n q (drop q t))
+  -- every row before row q is sound: whether the table is, is up to the rows from row q on
+  abbrev pub SoundSo : ℕ → ℕ → Type 0
+  SoundSo n q = soundFrom n 0 t ≡ soundFrom n q (drop q t)
 
-  -- row q looked at as well
-  pub sound-suc : (n q : ℕ) (good : Bool)
-      → q < length t
-      → SoundSo n good q
-      → SoundSo n (good && soundRow n q (row t q)) (q + 1)
+  -- row q looked at
+  at-row : (n q : ℕ) → q < length t → SoundSo n q
+      → soundFrom n 0 t ≡ (soundRow n q (row t q) && soundFrom n (q + 1) (drop (q + 1) t))
   unfolding soundFrom
-  sound-suc n q good l h =
-      let rest = soundFrom n (q + 1) (drop (q + 1) t) in
-      let e : soundFrom n q (drop q t) ≡ (soundRow n q (row t q) && rest) =
+  at-row n q l h =
+      let e : soundFrom n q (drop q t) ≡ (soundRow n q (row t q) && soundFrom n (q + 1) (drop (q + 1) t)) =
       rw (drop-cons t q blank l, add-one q) refl in
-      h ∙ ap (λ (b : Bool). good && b) e ∙ and-assoc good (soundRow n q (row t q)) rest
+      h ∙ e
+
+  -- row q is sound as well
+  pub sound-suc : (n q : ℕ) → q < length t → SoundSo n q → soundRow n q (row t q) ≡ true → SoundSo n (q + 1)
+  sound-suc n q l h e =
+      at-row n q l h ∙ ap (λ (b : Bool). b && soundFrom n (q + 1) (drop (q + 1) t)) e
+
+  -- row q is not sound
+  pub sound-not : (n q : ℕ) → q < length t → SoundSo n q → soundRow n q (row t q) ≡ false → soundFrom n 0 t ≡ false
+  sound-not n q l h e =
+      at-row n q l h ∙ ap (λ (b : Bool). b && soundFrom n (q + 1) (drop (q + 1) t)) e
 
   -- after the last row
-  pub sound-all : (n : ℕ) (good : Bool) → SoundSo n good (length t) → soundFrom n 0 t ≡ (good && true)
+  pub sound-all : (n : ℕ) → SoundSo n (length t) → soundFrom n 0 t ≡ true
   unfolding soundFrom
-  sound-all n good h = h ∙ ap (λ (u : Table). good && soundFrom n (length t) u) (drop-length t)
+  sound-all n h = h ∙ ap (soundFrom n (length t)) (drop-length t)
 
   pub refused-few : length t < 2 → tableRefusal t ≡ 6
   unfolding tableRefusal

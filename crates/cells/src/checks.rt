@@ -4,8 +4,9 @@ ghost use mathlib.Core.Path.{_≡_};
 ghost use Rattle.machine.specs.Tables.{tableRefusal};
 ghost use Rattle.cells.specs.View.{rowsOf};
 
-// 0 for a sound table, else the number of its refusal: 6 or 7. Every row is looked at without a
-// branch, for a sound table has no row to stop at.
+// 0 for a sound table, else the number of its refusal: 6 or 7. A row is judged without a branch, and
+// the first that is not sound ends the loop: without that return the compiler turns the loop into
+// vector code that gathers single cells, and is slower.
 pub fn check(cells: &[[u16; 8]]) -> u16
     ensures { λ r. ⌜ r ≡ tableRefusal (rowsOf (now (cells .entry))) ⌝ }
 {
@@ -17,14 +18,12 @@ pub fn check(cells: &[[u16; 8]]) -> u16
         return machine::WRONG_SIZE;
     }
     let full = rows::full_set(n as u16);
-    let mut good = true;
     let mut q = 0;
     while q < n {
-        good = good & rows::sound_row(n as u16, full, q as u16, row_at(cells, q));
+        if !rows::sound_row(n as u16, full, q as u16, row_at(cells, q)) {
+            return machine::UNSOUND_ROW;
+        }
         q += 1;
-    }
-    if !good {
-        return machine::UNSOUND_ROW;
     }
     0
 }

@@ -1,7 +1,7 @@
 -- `checks::check` meets its contract. Assumes nothing.
-use Prim.Native.Nat.{ℕ, _+_, _≤_, _<_, _-_}
+use Prim.Native.Nat.{ℕ, _≤_, _<_, _-_}
 use mathlib.Core.Path.{_≡_, refl, ap, sym, subst, _∙_}
-use mathlib.Core.Bool.{Bool, true, false, _&&_}
+use mathlib.Core.Bool.{true, false}
 use native.Mathlib.Omega.{arith}
 use lib.ListN.{length}
 use borrow.Author.Needs.{needs}
@@ -11,7 +11,7 @@ use Rattle.machine.specs.declared.Row.{Row}
 use Rattle.rows.specs.Bounds.{Full}
 use Rattle.cells.specs.View.{rowsOf}
 use Rattle.cells.proofs.ViewLaws.{rows-length}
-use Rattle.cells.proofs.CheckLaws.{SoundSo, sound-suc, sound-all, refused-few, refused-many, refused-row, refused-none}
+use Rattle.cells.proofs.CheckLaws.{SoundSo, sound-suc, sound-not, sound-all, refused-few, refused-many, refused-row, refused-none}
 use Rattle.cells.proofs.checks.check.Statement.{statement}
 use Rattle.cells.proofs.checks.check.Tie as tie
 use Rattle.cells.proofs.checks.check.Reads as reads
@@ -21,11 +21,11 @@ use Rattle.rows.proofs.full_set.Reads as full-set-reads
 use Rattle.rows.proofs.sound_row.Reads as sound-row-reads
 
 abbrev Inv-loop : tie.InvT-loop
-Inv-loop cells n full good₀ q₀ good q =
-    (q ≤ n) × (n ≤ 16) × (2 ≤ n) × Full n full × SoundSo (rowsOf cells) n good q
+Inv-loop cells n full q₀ q =
+    (q ≤ n) × (n ≤ 16) × (2 ≤ n) × Full n full × SoundSo (rowsOf cells) n q
 
 abbrev μ-loop : tie.MeasureT-loop
-μ-loop cells n full good₀ q₀ good q = n - q
+μ-loop cells n full q₀ q = n - q
 
 returns : tie.Need-returns Inv-loop μ-loop
 returns c =
@@ -60,6 +60,23 @@ row-at-requires c κs = search needs
 sound-row-requires : tie.Need-sound-row-requires Inv-loop μ-loop
 sound-row-requires c κs = c .before .before .loop .inv .3
 
+-- what the code has found out of row q, in the words of the definition
+row-is : (c : tie.After-sound-row Inv-loop μ-loop)
+    → c .sound-row .result
+    ≡ soundRow (length (c .before .before .before .before .before .before .before .args .cells .now)) (c .before .before .before .loop .q)
+    (row (rowsOf (c .before .before .before .before .before .before .before .args .cells .now)) (c .before .before .before .loop .q))
+row-is c =
+    let x = c .before .before .before .before .before .before .before .args .cells .now in
+    c .sound-row .ensures ∙ ap (soundRow (length x) (c .before .before .before .loop .q)) (c .before .row-at .ensures)
+
+returns-3 : tie.Need-returns-3 Inv-loop μ-loop
+returns-3 c =
+    let x = c .before .before .before .before .before .before .before .before .args .cells .now in
+    let l = c .before .before .before .before .loop in
+    let n = rows-length x in
+    let e = sound-not (rowsOf x) (length x) (l .q) (omega arith) (l .inv .4) (sym (row-is (c .before)) ∙ not-true _ (c .if3 .taken)) in
+    sym (refused-row (rowsOf x) (omega arith) (omega arith) (subst (λ (k : ℕ). soundFrom k 0 (rowsOf x) ≡ false) (sym n) e))
+
 add-q : tie.Need-add-q Inv-loop μ-loop
 add-q c = search needs
 
@@ -68,44 +85,23 @@ loop-less c = search needs
 
 loop-again : tie.Need-loop-again Inv-loop μ-loop
 loop-again c =
-    let v = c .before .before .before .loop .inv in
-    let x = c .before .before .before .before .before .before .before .args .cells .now in
-    let q = c .before .before .before .loop .q in
-    let e = sym (c .sound-row .ensures ∙ ap (soundRow (length x) q) (c .before .row-at .ensures)) in (
+    let x = c .before .before .before .before .before .before .before .before .args .cells .now in
+    let l = c .before .before .before .before .loop in
+    let e = sym (row-is (c .before)) ∙ not-false _ (c .if3 .left) in (
       search needs,
       search needs,
       search needs,
-      v .3,
-      subst (λ (b : Bool). SoundSo (rowsOf x) (length x) (c .before .before .before .loop .good && b) (q + 1)) e
-          (sound-suc (rowsOf x) (length x) q (c .before .before .before .loop .good) (omega (arith, rows-length x)) (v .4)),
+      l .inv .3,
+      sound-suc (rowsOf x) (length x) (l .q) (omega (arith, rows-length x)) (l .inv .4) e,
     )
-
--- once every row was looked at
-every : (c : tie.After-loop Inv-loop μ-loop) (b : Bool) → c .before .loop .good ≡ b
-    → soundFrom (length (rowsOf (c .before .before .before .before .before .args .cells .now))) 0 (rowsOf (c .before .before .before .before .before .args .cells .now)) ≡ b
-every c b e =
-    let x = c .before .before .before .before .before .args .cells .now in
-    let n = rows-length x in
-    let q : c .before .loop .q ≡ length (rowsOf x) = omega arith in
-    let h = subst (λ (k : ℕ). SoundSo (rowsOf x) (length x) (c .before .loop .good) k) q (c .before .loop .inv .4) in
-    let l = subst (λ (k : ℕ). soundFrom k 0 (rowsOf x) ≡ (c .before .loop .good && true)) (sym n) (sound-all (rowsOf x) (length x) (c .before .loop .good) h) in
-    l ∙ ap (λ (g : Bool). g && true) e ∙ only b
-  where
-    only : (b : Bool) → (b && true) ≡ b
-    only true = refl
-    only false = refl
-
-returns-3 : tie.Need-returns-3 Inv-loop μ-loop
-returns-3 c =
-    let x = c .before .before .before .before .before .before .args .cells .now in
-    let n = rows-length x in
-    sym (refused-row (rowsOf x) (omega arith) (omega arith) (every (c .before) false (not-true _ (c .if3 .taken))))
 
 returns-4 : tie.Need-returns-4 Inv-loop μ-loop
 returns-4 c =
-    let x = c .before .before .before .before .before .before .args .cells .now in
+    let x = c .before .before .before .before .before .args .cells .now in
     let n = rows-length x in
-    sym (refused-none (rowsOf x) (omega arith) (omega arith) (every (c .before) true (not-false _ (c .if3 .left))))
+    let q : c .before .loop .q ≡ length (rowsOf x) = omega arith in
+    let e = sound-all (rowsOf x) (length x) (subst (SoundSo (rowsOf x) (length x)) q (c .before .loop .inv .4)) in
+    sym (refused-none (rowsOf x) (omega arith) (omega arith) (subst (λ (k : ℕ). soundFrom k 0 (rowsOf x) ≡ true) (sym n) e))
 
 pub check-spec : {M : Type 1} → statement M
 check-spec =
@@ -122,8 +118,8 @@ check-spec =
     cast-sound-row-2
     row-at-requires
     sound-row-requires
+    returns-3
     add-q
     loop-less
     loop-again
-    returns-3
     returns-4)
