@@ -40,7 +40,15 @@ use Rattle.machine.specs.declared.Row.{Row}
 use Rattle.machine.proofs.TestLaws.{and-left, and-right, and-intro, split}
 use Rattle.machine.proofs.SoundRows.{SoundRow}
 use Rattle.codec.proofs.Packing.{wordOf, packed}
-use Rattle.codec.proofs.Locations.{code-location, at-place, place-below, known-at, fits-true, fits-some, fits-none}
+use Rattle.codec.proofs.Locations.{
+  code-location,
+  at-place,
+  place-below,
+  known-at,
+  fits-true,
+  fits-some,
+  fits-none,
+}
 use Rattle.codec.proofs.WordChecks.{Passes, parts-made}
 use Rattle.codec.proofs.Slots.{Placed, state, est, lis, ahead, turn}
 
@@ -58,21 +66,32 @@ pub record StateFields (c a x v w : ℕ) : Type 0 where
   pub bb-is : bbIn w ≡ x
   pub level-is : levelIn w ≡ v
 
-state-fields : (q c a x v : ℕ) → c < 8 → a < 2 → x < 2 → v < 2 ^ 8 → StateFields c a x v (wordOf STATE q (stateBody c a x v))
+state-fields : (q c a x v : ℕ) → c < 8 → a < 2 → x < 2 → v < 2 ^ 8 → StateFields c a x v
+    (wordOf STATE q (stateBody c a x v))
 state-fields q c a x v h i j l =
-    record { code-is = omega arith; spare-is = omega arith; act-is = omega arith; bb-is = omega arith; level-is = omega arith }
+    record {
+      code-is = omega arith;
+      spare-is = omega arith;
+      act-is = omega arith;
+      bb-is = omega arith;
+      level-is =
+          omega arith;
+    }
 
 -- the lower half, field by field from the highest down
-add-fields : (r c r₁ s r₂ a r₃ x v : ℕ) → r ≡ c * 2 ^ 12 + r₁ → r₁ ≡ s * 2 ^ 10 + r₂ → s ≡ 0 → r₂ ≡ a * 2 ^ 9 + r₃ → r₃ ≡ x * 2 ^ 8 + v
+add-fields : (r c r₁ s r₂ a r₃ x v : ℕ) → r ≡ c * 2 ^ 12 + r₁ → r₁ ≡ s * 2 ^ 10 + r₂ → s ≡ 0 → r₂ ≡ a * 2 ^ 9 + r₃
+    → r₃ ≡ x * 2 ^ 8 + v
     → stateBody c a x v ≡ r
 add-fields r c r₁ s r₂ a r₃ x v e₁ e₂ z e₃ e₄ = omega arith
 
 state-body : (w : ℕ) → w / 2 ^ 10 % 2 ^ 2 ≡ 0 → stateBody (codeIn w) (actIn w) (bbIn w) (levelIn w) ≡ w % 2 ^ 16
 state-body w z =
-    add-fields (w % 2 ^ 16) (codeIn w) (w % 2 ^ 12) (w / 2 ^ 10 % 2 ^ 2) (w % 2 ^ 10) (actIn w) (w % 2 ^ 9) (bbIn w) (levelIn w)
+    add-fields (w % 2 ^ 16) (codeIn w) (w % 2 ^ 12) (w / 2 ^ 10 % 2 ^ 2) (w % 2 ^ 10) (actIn w) (w % 2 ^ 9) (bbIn w)
+    (levelIn w)
     (mod-pow-add w 4 12) (mod-pow-add w 2 10) z (mod-pow-add w 1 9) (mod-pow-add w 1 8)
 
-state-passes : (n q c a x v : ℕ) → c < 8 → a < 2 → x < 2 → v < n → n ≤ 16 → q < n → levelFits (getD locations c 0) v ≡ true
+state-passes : (n q c a x v : ℕ) → c < 8 → a < 2 → x < 2 → v < n → n ≤ 16 → q < n → levelFits (getD locations c 0) v
+    ≡ true
     → Passes n STATE q (wordOf STATE q (stateBody c a x v))
 unfolding spareBody inRange
 state-passes n q c a x v h i j l few m fits =
@@ -141,7 +160,8 @@ set-passes n k q s kind h few l =
       parts = parts-made k q s (omega arith) (set-low few h);
       body-spare = kind .no-spare (wordOf k q s);
       in-range =
-          kind .range-is n (wordOf k q s) ∙ lt-ltb _ _ (subst (λ (y : ℕ). y < 2 ^ n) (sym (set-back k q s (set-low few h))) h);
+          kind .range-is n (wordOf k q s) ∙ lt-ltb _ _
+          (subst (λ (y : ℕ). y < 2 ^ n) (sym (set-back k q s (set-low few h))) h);
       level-fits = rw (kind .no-level);
     }
 
@@ -170,10 +190,12 @@ turn-kept n q w p = (ltb-true _ _ (p .in-range), omega (arith, eqb-true (w / 2 ^
 -- ---- every kind
 
 -- the word of a sound row passes where it stands
-pub made : (n : ℕ) (r : Row) {i k q : ℕ} → Placed n i k q → SoundRow n q r → n ≤ 16 → Passes n k q (wordOf k q (bodyOf k r))
+pub made : (n : ℕ) (r : Row) {i k q : ℕ} → Placed n i k q → SoundRow n q r → n ≤ 16 → Passes n k q
+    (wordOf k q (bodyOf k r))
 unfolding bodyOf
 made n r (state q h) s few =
-    state-passes n q (codeOf (r .location)) (r .act) (r .bb) (r .level) (place-below (r .location) locations (s .location-known)) (s .act-low)
+    state-passes n q (codeOf (r .location)) (r .act) (r .bb) (r .level)
+    (place-below (r .location) locations (s .location-known)) (s .act-low)
     (s .bb-low) (s .level-low) few h
     (ap (λ (l : ℕ). levelFits l (r .level)) (at-place (r .location) locations (s .location-known))
     ∙ fits-true (r .location) (r .level) (s .level-some) (s .level-none))
@@ -200,7 +222,8 @@ module _ (n : ℕ) (ws : List ℕ) (q : ℕ) (l : q < n) where
   -- the cell of turn[q] is 0 for q = 0, which no word holds, or what its word holds
   turn-cases : (P : ℕ → Type 0) → (q ≡ 0 → P 0) → (0 < q → P (turnIn (getD ws (4 * n + q) 0))) → P (rowIn n ws q .turn)
   turn-cases P f g =
-      split (λ b. P (cond b 0 (turnIn (getD ws (4 * n + q) 0)))) (eqb q 0) (λ e. f (eqb-true q 0 e)) (λ e. g (omega (arith, eqb-false q 0 e)))
+      split (λ b. P (cond b 0 (turnIn (getD ws (4 * n + q) 0)))) (eqb q 0) (λ e. f (eqb-true q 0 e))
+      (λ e. g (omega (arith, eqb-false q 0 e)))
 
   -- a row whose words an image has is read from it
   pub row-back : (r : Row)
@@ -213,15 +236,18 @@ module _ (n : ℕ) (ws : List ℕ) (q : ℕ) (l : q < n) where
       let e = has (4 * q + 1) STATE (state q l) in
       let known = s .location-known in
       let f =
-      state-fields q (codeOf (r .location)) (r .act) (r .bb) (r .level) (place-below (r .location) locations known) (s .act-low) (s .bb-low)
+      state-fields q (codeOf (r .location)) (r .act) (r .bb) (r .level) (place-below (r .location) locations known)
+      (s .act-low) (s .bb-low)
       (omega (arith, s .level-low)) in
-      let location-is = ap locationIn e ∙ ap (λ (c : ℕ). getD locations c 0) (f .code-is) ∙ at-place (r .location) locations known in
+      let location-is = ap locationIn e ∙ ap (λ (c : ℕ). getD locations c 0) (f .code-is) ∙ at-place
+      (r .location) locations known in
       let act-is = ap actIn e ∙ f .act-is in
       let bb-is = ap bbIn e ∙ f .bb-is in
       let level-is = ap levelIn e ∙ f .level-is in
       let est-is = ap setIn (has (4 * q + 2) EST (est q l)) ∙ set-back EST q (r .est) (set-low few (s .est-low)) in
       let lis-is = ap setIn (has (4 * q + 3) LIS (lis q l)) ∙ set-back LIS q (r .lis) (set-low few (s .lis-low)) in
-      let ahead-is = ap setIn (has (4 * q + 4) AHEAD (ahead q l)) ∙ set-back AHEAD q (r .ahead) (set-low few (s .ahead-low)) in
+      let ahead-is = ap setIn (has (4 * q + 4) AHEAD (ahead q l)) ∙ set-back AHEAD q (r .ahead)
+      (set-low few (s .ahead-low)) in
       let turn-is =
       turn-cases (λ v. v ≡ r .turn) (λ z. sym (s .turn-none z))
       (λ g. ap turnIn (has (4 * n + q) TURN (turn q g l)) ∙ turn-back q (r .turn) (omega (arith, s .turn-low))) in

@@ -70,13 +70,15 @@ module _ (l v : ℕ) where
   fits-true f g =
       and-intro someFits noneFits
       (implies pushing (ltb 0 v)
-      (λ e. lt-ltb _ _ (f (leb-true _ _ (and-left (leb 22 l) (leb l 24) e)) (leb-true _ _ (and-right (leb 22 l) (leb l 24) e)))))
+      (λ e. lt-ltb _ _ (f (leb-true _ _ (and-left (leb 22 l) (leb l 24) e))
+      (leb-true _ _ (and-right (leb 22 l) (leb l 24) e)))))
       (implies (eqb l 30) (eqb v 0) (λ e. eq-eqb _ _ (g (eqb-true _ _ e))))
 
   pub fits-some : levelFits l v ≡ true → 22 ≤ l → l ≤ 24 → 0 < v
   fits-some h a b =
       ltb-true _ _
-      (implied pushing (ltb 0 v) (and-left someFits noneFits h) (and-intro (leb 22 l) (leb l 24) (le-leb _ _ a) (le-leb _ _ b)))
+      (implied pushing (ltb 0 v) (and-left someFits noneFits h)
+      (and-intro (leb 22 l) (leb l 24) (le-leb _ _ a) (le-leb _ _ b)))
 
   pub fits-none : levelFits l v ≡ true → l ≡ 30 → v ≡ 0
   fits-none h e = eqb-true _ _ (implied (eqb l 30) (eqb v 0) (and-right someFits noneFits h) (eq-eqb _ _ e))

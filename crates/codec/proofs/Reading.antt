@@ -14,7 +14,20 @@ use lib.Dec.{eqb, leb}
 use lib.ListN.{length, getD, drop, length-drop}
 use lib.Seq.{getD-drop}
 use borrow.Author.Tests.{eqb-true, eq-eqb, ne-eqb, leb-true, le-leb}
-use Rattle.machine.specs.Images.{Slot, slot, slots, headerOf, sizeIn, isHeader, slotRefusal, Found, firstRefusal, imageRefusal, tableIn, readImage}
+use Rattle.machine.specs.Images.{
+  Slot,
+  slot,
+  slots,
+  headerOf,
+  sizeIn,
+  isHeader,
+  slotRefusal,
+  Found,
+  firstRefusal,
+  imageRefusal,
+  tableIn,
+  readImage,
+}
 use Rattle.machine.specs.Tables.{handed}
 use Rattle.machine.specs.declared.NewTable.{NewTable}
 use Rattle.machine.proofs.TestLaws.{and-left, and-right, and-intro}
@@ -34,7 +47,11 @@ module _ (n i : ℕ) (s : Slot) (ss : List Slot) (w : ℕ) (ws : List ℕ) where
   first-zero = go (eqb (slotRefusal n s w) 0) refl
     where
       go : (b : Bool) → eqb (slotRefusal n s w) 0 ≡ b
-          → (elim b as (λ _. Found) [ true ↦ firstRefusal n (suc i) ss ws | false ↦ record { refusal = slotRefusal n s w; place = i } ]) .refusal ≡ 0
+          → (elim b as (λ _. Found) [
+            | true ↦ firstRefusal n
+                (suc i) ss ws
+            | false ↦ record { refusal = slotRefusal n s w; place = i }
+          ]) .refusal ≡ 0
           → slotRefusal n s w ≡ 0
       go true e h = eqb-true _ _ e
       go false e h = h
@@ -42,10 +59,15 @@ module _ (n i : ℕ) (s : Slot) (ss : List Slot) (w : ℕ) (ws : List ℕ) where
   pub first-next : slotRefusal n s w ≡ 0 → firstRefusal n i (s ∷ ss) (w ∷ ws) ≡ firstRefusal n (suc i) ss ws
   unfolding firstRefusal
   first-next z =
-      ap (λ (b : Bool). elim b as (λ _. Found) [ true ↦ firstRefusal n (suc i) ss ws | false ↦ record { refusal = slotRefusal n s w; place = i } ])
+      ap (λ (b : Bool). elim b as (λ _. Found) [
+        | true ↦ firstRefusal n
+            (suc i) ss ws
+        | false ↦ record { refusal = slotRefusal n s w; place = i }
+      ])
       (eq-eqb _ _ z)
 
-  pub first-stop : (slotRefusal n s w ≡ 0 → ⊥) → firstRefusal n i (s ∷ ss) (w ∷ ws) ≡ record { refusal = slotRefusal n s w; place = i }
+  pub first-stop : (slotRefusal n s w ≡ 0 → ⊥) → firstRefusal n i (s ∷ ss) (w ∷ ws)
+      ≡ record { refusal = slotRefusal n s w; place = i }
   unfolding firstRefusal
   first-stop ne =
       ap
@@ -65,9 +87,11 @@ first-some n i (s ∷ ss) us [] ne = absurd (ne refl)
 first-some n i (s ∷ ss) us (w ∷ ws) ne =
     let next = first-next n i s ss w ws in
     let nexts = first-next n i s (ss ++ us) w ws in
-    let go : Dec (slotRefusal n s w ≡ 0) → firstRefusal n i (s ∷ (ss ++ us)) (w ∷ ws) ≡ firstRefusal n i (s ∷ ss) (w ∷ ws) =
+    let go : Dec (slotRefusal n s w ≡ 0) → firstRefusal n i (s ∷ (ss ++ us)) (w ∷ ws) ≡ firstRefusal n i (s ∷ ss)
+    (w ∷ ws) =
     elim [
-      | yes z ↦ nexts z ∙ first-some n (suc i) ss us ws (λ e. ne (ap (λ (f : Found). f .refusal) (next z) ∙ e)) ∙ sym (next z)
+      | yes z ↦ nexts z ∙ first-some n (suc i) ss us ws (λ e. ne (ap (λ (f : Found). f .refusal) (next z) ∙ e)) ∙ sym
+          (next z)
       | no z ↦ first-stop n i s (ss ++ us) w ws z ∙ sym (first-stop n i s ss w ws z)
     ] in
     go (ℕ-discrete (slotRefusal n s w) 0)
@@ -81,8 +105,10 @@ first-none n i (s ∷ ss) us [] l z = absurd (omega arith)
 first-none n i (s ∷ ss) us (w ∷ ws) l z =
     let here = first-zero n i s ss w ws z in
     first-next n i s (ss ++ us) w ws here
-    ∙ first-none n (suc i) ss us ws (omega arith) (sym (ap (λ (f : Found). f .refusal) (first-next n i s ss w ws here)) ∙ z)
-    ∙ ap (λ (x : ℕ). firstRefusal n x us (drop (length ss) ws)) {x = suc i + length ss} {y = i + suc (length ss)} (omega arith)
+    ∙ first-none n (suc i) ss us ws (omega arith) (sym
+    (ap (λ (f : Found). f .refusal) (first-next n i s ss w ws here)) ∙ z)
+    ∙ ap (λ (x : ℕ). firstRefusal n x us (drop (length ss) ws)) {x = suc i + length ss} {y = i + suc (length ss)}
+    (omega arith)
 
 each-passes : (n i : ℕ) (ss : List Slot) (ws : List ℕ) → length ws ≡ length ss → firstRefusal n i ss ws .refusal ≡ 0
     → (j : ℕ) → j < length ss → slotRefusal n (getD ss j noSlot) (getD ws j 0) ≡ 0
@@ -100,7 +126,8 @@ unfolding firstRefusal
 none-refused n i [] ws e f = refl
 none-refused n i (s ∷ ss) [] e f = refl
 none-refused n i (s ∷ ss) (w ∷ ws) e f =
-    first-next n i s ss w ws (f 0 (omega arith)) ∙ none-refused n (suc i) ss ws (omega arith) (λ j l. f (suc j) (omega arith))
+    first-next n i s ss w ws (f 0 (omega arith)) ∙ none-refused n (suc i) ss ws (omega arith)
+    (λ j l. f (suc j) (omega arith))
 
 -- ---- an image
 
@@ -119,7 +146,8 @@ checked a b p x =
       | true ↦ elim b as (λ _. Found) [ false ↦ record { refusal = 2; place = p } | true ↦ x ]
     ]
 
-checked-zero : (a b : Bool) (p : ℕ) (x : Found) → checked a b p x .refusal ≡ 0 → (a ≡ true) × (b ≡ true) × (x .refusal ≡ 0)
+checked-zero : (a b : Bool) (p : ℕ) (x : Found) → checked a b p x .refusal ≡ 0 → (a ≡ true) × (b ≡ true) ×
+    (x .refusal ≡ 0)
 checked-zero true true p x h = (refl, refl, h)
 checked-zero true false p x h = absurd (omega arith)
 checked-zero false b p x h = absurd (omega arith)
@@ -136,10 +164,13 @@ module _ (ws : List ℕ) where
   accepted-facts z =
       let h = checked-zero (isHeader (getD ws 0 0)) (eqb (length ws) (5 * size)) (min (length ws) (5 * size))
       (firstRefusal size 1 (slots size) (drop 1 ws)) z in
-      let low : headerOf 2 ≤ getD ws 0 0 = leb-true _ _ (and-left (leb (headerOf 2) (getD ws 0 0)) (leb (getD ws 0 0) (headerOf 16)) (h .0)) in
-      let high : getD ws 0 0 ≤ headerOf 16 = leb-true _ _ (and-right (leb (headerOf 2) (getD ws 0 0)) (leb (getD ws 0 0) (headerOf 16)) (h .0)) in
+      let low : headerOf 2 ≤ getD ws 0 0 = leb-true _ _
+      (and-left (leb (headerOf 2) (getD ws 0 0)) (leb (getD ws 0 0) (headerOf 16)) (h .0)) in
+      let high : getD ws 0 0 ≤ headerOf 16 = leb-true _ _
+      (and-right (leb (headerOf 2) (getD ws 0 0)) (leb (getD ws 0 0) (headerOf 16)) (h .0)) in
       let long : length ws ≡ 5 * size = eqb-true _ _ (h .1) in
-      let each = each-passes size 1 (slots size) (drop 1 ws) (omega (arith, length-drop 1 ws, length-slots size (omega arith))) (h .2) in
+      let each = each-passes size 1 (slots size) (drop 1 ws)
+      (omega (arith, length-drop 1 ws, length-slots size (omega arith))) (h .2) in
       record {
         header-is = omega arith;
         some = omega arith;
@@ -148,7 +179,8 @@ module _ (ws : List ℕ) where
         passed = λ i k q p.
             let a = slot-at p in
             let e : getD (drop 1 ws) (a .index) 0 ≡ getD ws i 0 =
-            getD-drop 1 ws (a .index) 0 ∙ ap (λ (x : ℕ). getD ws x 0) {x = 1 + a .index} {y = i} (omega (arith, a .place-is)) in
+            getD-drop 1 ws (a .index) 0 ∙ ap (λ (x : ℕ). getD ws x 0) {x = 1 + a .index} {y = i}
+            (omega (arith, a .place-is)) in
             passes size k q (getD ws i 0)
             (ap₂ (λ (s : Slot) (w : ℕ). slotRefusal size s w) (sym (a .slot-is)) (sym e) ∙ each (a .index) (a .within));
       }
@@ -158,7 +190,8 @@ module _ (ws : List ℕ) where
   none-of-facts a =
       checked-on (isHeader (getD ws 0 0)) (eqb (length ws) (5 * size)) (min (length ws) (5 * size))
       (firstRefusal size 1 (slots size) (drop 1 ws))
-      (and-intro (leb (headerOf 2) (getD ws 0 0)) (leb (getD ws 0 0) (headerOf 16)) (le-leb (headerOf 2) (getD ws 0 0) (omega (arith, a .header-is)))
+      (and-intro (leb (headerOf 2) (getD ws 0 0)) (leb (getD ws 0 0) (headerOf 16))
+      (le-leb (headerOf 2) (getD ws 0 0) (omega (arith, a .header-is)))
       (le-leb (getD ws 0 0) (headerOf 16) (omega (arith, a .header-is))))
       (eq-eqb _ _ (a .length-is))
       ∙ none-refused size 1 (slots size) (drop 1 ws) (omega (arith, length-drop 1 ws, length-slots size (omega arith)))
@@ -170,7 +203,8 @@ module _ (ws : List ℕ) where
       let same : getD (slots size) j noSlot ≡ slot (p .kind) (p .number) =
       ap (λ (x : ℕ). getD (slots size) x noSlot) {x = j} {y = b .index} (omega (arith, b .place-is)) ∙ b .slot-is in
       ap₂ (λ (s : Slot) (w : ℕ). slotRefusal size s w) same e
-      ∙ refused-none size (p .kind) (p .number) (getD ws (suc j) 0) (a .passed (suc j) (p .kind) (p .number) (p .placed)))
+      ∙ refused-none size (p .kind) (p .number) (getD ws (suc j) 0)
+      (a .passed (suc j) (p .kind) (p .number) (p .placed)))
 
 pub size-is : (ws : List ℕ) (n : ℕ) → Accepted ws n → sizeIn (getD ws 0 0) ≡ n
 size-is ws n a = omega (arith, a .header-is)
@@ -189,7 +223,8 @@ module _ (ws : List ℕ) (n : ℕ) (is : sizeIn (getD ws 0 0) ≡ n) where
   unfolding imageRefusal byChecks
   by-checks =
       ap
-      (λ (m : ℕ). checked (isHeader (getD ws 0 0)) (eqb (length ws) (5 * m)) (min (length ws) (5 * m)) (firstRefusal m 1 (slots m) (drop 1 ws)))
+      (λ (m : ℕ). checked (isHeader (getD ws 0 0)) (eqb (length ws) (5 * m)) (min (length ws) (5 * m))
+      (firstRefusal m 1 (slots m) (drop 1 ws)))
       is
 
   pub refused-header : isHeader (getD ws 0 0) ≡ false → imageRefusal ws ≡ record { refusal = 1; place = 0 }

@@ -24,7 +24,8 @@ use Rattle.codec.proofs.Reading.{Accepted, size-is}
 
 -- ---- the words of an image
 
-getD-map-within : {A : Type 0} (f : A → ℕ) (l : List A) (i : ℕ) (d : A) → i < length l → getD (map f l) i 0 ≡ f (getD l i d)
+getD-map-within : {A : Type 0} (f : A → ℕ) (l : List A) (i : ℕ) (d : A) → i < length l → getD (map f l) i 0 ≡ f
+    (getD l i d)
 getD-map-within f [] i d h = absurd (omega arith)
 getD-map-within f (x ∷ l) zero d h = refl
 getD-map-within f (x ∷ l) (suc i) d h = getD-map-within f l i d (omega arith)
@@ -33,7 +34,8 @@ pub length-image : (t : Table) → 0 < length t → length (imageOf t) ≡ 5 * l
 unfolding imageOf
 length-image t h = ap suc (length-map (slots (length t)) (wordIn t)) ∙ length-slots (length t) h
 
-pub image-at : (t : Table) {i k q : ℕ} → Placed (length t) i k q → getD (imageOf t) i 0 ≡ wordOf k q (bodyOf k (row t q))
+pub image-at : (t : Table) {i k q : ℕ} → Placed (length t) i k q → getD (imageOf t) i 0 ≡ wordOf k q
+    (bodyOf k (row t q))
 unfolding imageOf wordIn
 image-at t {i} {k} {q} p =
     let a = slot-at p in
@@ -79,7 +81,8 @@ module _ (t : Table) (ok : tableRefusal t ≡ 0) where
         few = s .1;
         length-is = length-image t (omega arith);
         passed = λ i k q p.
-            subst (Passes (length t) k q) (sym (image-at t p)) (made (length t) (row t q) p (s .2 q (number-below p)) (s .1));
+            subst (Passes (length t) k q) (sym (image-at t p))
+            (made (length t) (row t q) p (s .2 q (number-below p)) (s .1));
       }
 
   pub image-back : tableIn (imageOf t) ≡ t

@@ -66,7 +66,8 @@ row-at q (suc m) zero j h l =
     pick (suc (suc (suc zero))) l = ap (slot AHEAD) (omega arith)
     pick (suc (suc (suc (suc j)))) l = absurd (omega arith)
 row-at q (suc m) (suc r) j h l =
-    ap (λ (x : ℕ). getD (rowSlots q (suc m)) x noSlot) {x = 4 * suc r + j} {y = suc (suc (suc (suc (4 * r + j))))} (omega arith)
+    ap (λ (x : ℕ). getD (rowSlots q (suc m)) x noSlot) {x = 4 * suc r + j} {y = suc (suc (suc (suc (4 * r + j))))}
+    (omega arith)
     ∙ row-at (suc q) m r j (omega arith) l
     ∙ ap (slot (STATE + j)) (omega arith)
 
@@ -103,7 +104,13 @@ at-turn n k h l =
       index = 4 * n + (k - 1);
       place-is = omega arith;
       within =
-          omega (arith, length-append (rowSlots 0 n) (turnSlots 1 (n - 1)), length-rowSlots 0 n, length-turnSlots 1 (n - 1));
+          omega (
+            arith,
+            length-append (rowSlots 0 n) (turnSlots 1 (n - 1)),
+            length-rowSlots 0 n,
+            length-turnSlots 1
+                (n - 1),
+          );
       slot-is =
           ap (λ (x : ℕ). getD (slots n) (x + (k - 1)) noSlot) (sym (length-rowSlots 0 n))
           ∙ getD-append-add (rowSlots 0 n) (turnSlots 1 (n - 1)) (k - 1) noSlot
@@ -126,8 +133,18 @@ pub record Some (n i : ℕ) : Type 0 where
   pub placed : Placed n i kind number
 
 some-row : (n i q j : ℕ) → q < n → j < 4 → 4 * q + suc j ≡ i → Some n i
-some-row n i q zero h l e = record { kind = STATE; number = q; placed = subst (λ (x : ℕ). Placed n x STATE q) e (state q h) }
-some-row n i q (suc zero) h l e = record { kind = EST; number = q; placed = subst (λ (x : ℕ). Placed n x EST q) e (est q h) }
+some-row n i q zero h l e = record {
+  kind = STATE;
+  number = q;
+  placed = subst (λ (x : ℕ). Placed n x STATE q) e
+      (state q h);
+}
+some-row n i q (suc zero) h l e = record {
+  kind = EST;
+  number = q;
+  placed = subst (λ (x : ℕ). Placed n x EST q) e
+      (est q h);
+}
 some-row n i q (suc (suc zero)) h l e =
     record { kind = LIS; number = q; placed = subst (λ (x : ℕ). Placed n x LIS q) e (lis q h) }
 some-row n i q (suc (suc (suc zero))) h l e =
@@ -143,6 +160,7 @@ placed-at n j h = go (decLe (suc j) (4 * n))
         record {
           kind = TURN;
           number = suc j - 4 * n;
-          placed = subst (λ (x : ℕ). Placed n x TURN (suc j - 4 * n)) {x = 4 * n + (suc j - 4 * n)} {y = suc j} (omega (arith, l))
+          placed = subst (λ (x : ℕ). Placed n x TURN (suc j - 4 * n)) {x = 4 * n + (suc j - 4 * n)} {y = suc j}
+              (omega (arith, l))
               (turn (suc j - 4 * n) (omega (arith, l)) (omega (arith, l)));
         }

@@ -15,7 +15,19 @@ use lib.Dec.{eqb, leb}
 use lib.ListN.{length, getD, take, drop, length-drop, List·getD-eq-default}
 use lib.Seq.{drop-drop}
 use borrow.Author.Tests.{leb-true, eq-eqb, ne-eqb}
-use Rattle.machine.specs.Images.{headerOf, sizeIn, isHeader, rowSlots, turnSlots, slots, Found, firstRefusal, rowsIn, tableIn, imageRefusal}
+use Rattle.machine.specs.Images.{
+  headerOf,
+  sizeIn,
+  isHeader,
+  rowSlots,
+  turnSlots,
+  slots,
+  Found,
+  firstRefusal,
+  rowsIn,
+  tableIn,
+  imageRefusal,
+}
 use Rattle.machine.proofs.TestLaws.{and-left, and-right, split}
 use Rattle.codec.proofs.Slots.{length-rowSlots}
 use Rattle.codec.proofs.Reading.{first-some, first-none}
@@ -42,7 +54,8 @@ module _ (w n : ℕ) (is : n ≡ cond (isHeader w) (sizeIn w) 0) where
   pub header-none : n ≡ 0 → isHeader w ≡ false
   header-none z =
       split (λ b. isHeader w ≡ b → isHeader w ≡ false) (isHeader w)
-      (λ t e. let h = header-true w t in absurd (omega (arith, is ∙ ap (λ (b : Bool). cond b (sizeIn w) 0) t, h .some))) (λ f e. e) refl
+      (λ t e. let h = header-true w t in absurd (omega
+      (arith, is ∙ ap (λ (b : Bool). cond b (sizeIn w) 0) t, h .some))) (λ f e. e) refl
 
   pub header-some : (n ≡ 0 → ⊥) → Header w n
   header-some ne =
@@ -57,14 +70,16 @@ module _ (ws : List ℕ) where
   abbrev answer : Bool → ℕ → ℕ → Reading
   answer b r p = elim b as (λ _. Reading) [ true ↦ Reading.Table (sizeIn (getD ws 0 0)) | false ↦ Reading.Refused r p ]
 
-  pub reading-refused : (r p : ℕ) → imageRefusal ws ≡ record { refusal = r; place = p } → (r ≡ 0 → ⊥) → Reading.Refused r p ≡ readingOf ws
+  pub reading-refused : (r p : ℕ) → imageRefusal ws ≡ record { refusal = r; place = p } → (r ≡ 0 → ⊥)
+      → Reading.Refused r p ≡ readingOf ws
   unfolding readingOf
   reading-refused r p e ne =
       sym
       (ap (λ (f : Found). answer (eqb (f .refusal) 0) (f .refusal) (f .place)) e
       ∙ ap (λ (b : Bool). answer b r p) (ne-eqb r 0 ne))
 
-  pub reading-accepted : (n : ℕ) → imageRefusal ws .refusal ≡ 0 → sizeIn (getD ws 0 0) ≡ n → Reading.Table n ≡ readingOf ws
+  pub reading-accepted : (n : ℕ) → imageRefusal ws .refusal ≡ 0 → sizeIn (getD ws 0 0) ≡ n → Reading.Table n
+      ≡ readingOf ws
   unfolding readingOf
   reading-accepted n z e =
       sym
@@ -74,7 +89,8 @@ module _ (ws : List ℕ) where
 -- ---- the whole
 
 module _ (ws : List ℕ) (x y : List (List ℕ)) (same : length y ≡ length x) where
-  pub into-refused : (r p : ℕ) → imageRefusal ws ≡ record { refusal = r; place = p } → (r ≡ 0 → ⊥) → ReadInto ws x y (Reading.Refused r p)
+  pub into-refused : (r p : ℕ) → imageRefusal ws ≡ record { refusal = r; place = p } → (r ≡ 0 → ⊥) → ReadInto ws x y
+      (Reading.Refused r p)
   into-refused r p e ne =
       record {
         answer-is = reading-refused ws r p e ne;
@@ -91,7 +107,8 @@ module _ (ws : List ℕ) (x y : List (List ℕ)) (same : length y ≡ length x) 
   into-accepted n is z rows =
       record {
         answer-is = reading-accepted ws n z is;
-        rows-are = λ _. ap (λ (k : ℕ). rowsOf (take k y)) (length-tableIn ws n is) ∙ rows ∙ ap (λ (k : ℕ). rowsIn k ws 0 k) (sym is);
+        rows-are = λ _. ap (λ (k : ℕ). rowsOf (take k y)) (length-tableIn ws n is) ∙ rows ∙ ap
+            (λ (k : ℕ). rowsIn k ws 0 k) (sym is);
         size-is = same;
       }
 

@@ -86,7 +86,8 @@ module _ (k q w : ℕ) (low : q < 16) where
       (eqb-true _ _ (and-right (isKind && isSpare) isNumber h))))
       (λ h.
       let p = parts-of-whole (eqb-true _ _ h) in
-      and-intro (isKind && isSpare) isNumber (and-intro isKind isSpare (eq-eqb _ _ (p .0)) (eq-eqb _ _ (p .1))) (eq-eqb _ _ (p .2)))
+      and-intro (isKind && isSpare) isNumber (and-intro isKind isSpare (eq-eqb _ _ (p .0)) (eq-eqb _ _ (p .1)))
+      (eq-eqb _ _ (p .2)))
 
 -- ---- the kinds
 
@@ -100,12 +101,15 @@ pub state-slot : (n q w : ℕ) → q < 16
     (not (levelFits (locationIn w) (levelIn w)))
 unfolding slotRefusal
 state-slot n q w low =
-    ap (λ (u : Bool). byTests (u && spareBody STATE w) (inRange n STATE w) (not (levelFits (locationIn w) (levelIn w)))) (upper-half STATE q w low)
+    ap (λ (u : Bool). byTests (u && spareBody STATE w) (inRange n STATE w)
+    (not (levelFits (locationIn w) (levelIn w)))) (upper-half STATE q w low)
 
 pub turn-slot : (n q w : ℕ) → q < 16
-    → slotRefusal n (slot TURN q) w ≡ byTests (eqb (w / 65536) (53248 + q) && eqb (w / 256 % 256) 0) (ltb (w % 256) n) false
+    → slotRefusal n (slot TURN q) w ≡ byTests (eqb (w / 65536) (53248 + q) && eqb (w / 256 % 256) 0)
+    (ltb (w % 256) n) false
 unfolding slotRefusal
-turn-slot n q w low = ap (λ (u : Bool). byTests (u && spareBody TURN w) (inRange n TURN w) false) (upper-half TURN q w low)
+turn-slot n q w low = ap (λ (u : Bool). byTests (u && spareBody TURN w) (inRange n TURN w) false)
+    (upper-half TURN q w low)
 
 -- a set kind has no spare bits below, no level, and the range of a set
 record SetTests (n k w full : ℕ) : Type 0 where
@@ -130,13 +134,15 @@ pub set-slot : (n k q w full : ℕ) → SetKind k → full + 1 ≡ 2 ^ n → q <
 unfolding slotRefusal
 set-slot n k q w full kind is low =
     let t = set-tests n k w full kind is in
-    let fits = and-true (isKind k q w low && isSpare k q w low && isNumber k q w low) (spareBody k w) (t .no-spare) ∙ upper-half k q w low in
+    let fits = and-true (isKind k q w low && isSpare k q w low && isNumber k q w low) (spareBody k w) (t .no-spare)
+    ∙ upper-half k q w low in
     let level = ap (λ (b : Bool). b && not (levelFits (locationIn w) (levelIn w))) (t .no-level) in
     λ i. byTests (fits i) (t .range-is i) (level i)
 
 -- ---- the first refusal
 
-pub stop-at : (n i p r : ℕ) (s : Slot) (ss : List Slot) (w : ℕ) (ws : List ℕ) → i ≡ p → r ≡ slotRefusal n s w → (r ≡ 0 → ⊥)
+pub stop-at : (n i p r : ℕ) (s : Slot) (ss : List Slot) (w : ℕ) (ws : List ℕ) → i ≡ p → r ≡ slotRefusal n s w →
+    (r ≡ 0 → ⊥)
     → foundOf (firstRefusal n i (s ∷ ss) (w ∷ ws)) ≡ record { refusal = r; place = p }
 stop-at n i p r s ss w ws here is some =
     ap foundOf (first-stop n i s ss w ws (λ z. some (is ∙ z))) ∙ (λ x. record { refusal = sym is x; place = here x })
@@ -171,7 +177,8 @@ module _ (n q a b c d : ℕ) where
       to-est = ap foundOf (pass-at n (4 * q + 1) r₁ (slot STATE q) est-on a (b ∷ c ∷ d ∷ []) is₁ none₁)
 
       pub est-stops : (r₂ ≡ 0 → ⊥) → record { refusal = r₂; place = 4 * q + 2 } ≡ first
-      est-stops some = sym (to-est ∙ stop-at n (suc (4 * q + 1)) (4 * q + 2) r₂ (slot EST q) lis-on b (c ∷ d ∷ []) (omega arith) is₂ some)
+      est-stops some = sym (to-est ∙ stop-at n (suc (4 * q + 1)) (4 * q + 2) r₂ (slot EST q) lis-on b (c ∷ d ∷ [])
+          (omega arith) is₂ some)
 
       module _ (none₂ : r₂ ≡ 0) (r₃ : ℕ) (is₃ : r₃ ≡ slotRefusal n (slot LIS q) c) where
         to-lis : first ≡ foundOf (firstRefusal n (suc (suc (4 * q + 1))) lis-on (c ∷ d ∷ []))
@@ -179,16 +186,19 @@ module _ (n q a b c d : ℕ) where
 
         pub lis-stops : (r₃ ≡ 0 → ⊥) → record { refusal = r₃; place = 4 * q + 3 } ≡ first
         lis-stops some =
-            sym (to-lis ∙ stop-at n (suc (suc (4 * q + 1))) (4 * q + 3) r₃ (slot LIS q) ahead-on c (d ∷ []) (omega arith) is₃ some)
+            sym (to-lis ∙ stop-at n (suc (suc (4 * q + 1))) (4 * q + 3) r₃ (slot LIS q) ahead-on c (d ∷ [])
+            (omega arith) is₃ some)
 
         module _ (none₃ : r₃ ≡ 0) (r₄ : ℕ) (is₄ : r₄ ≡ slotRefusal n (slot AHEAD q) d) where
           to-ahead : first ≡ foundOf (firstRefusal n (suc (suc (suc (4 * q + 1)))) ahead-on (d ∷ []))
-          to-ahead = to-lis ∙ ap foundOf (pass-at n (suc (suc (4 * q + 1))) r₃ (slot LIS q) ahead-on c (d ∷ []) is₃ none₃)
+          to-ahead = to-lis ∙ ap foundOf (pass-at n (suc (suc (4 * q + 1))) r₃ (slot LIS q) ahead-on c
+              (d ∷ []) is₃ none₃)
 
           pub ahead-stops : (r₄ ≡ 0 → ⊥) → record { refusal = r₄; place = 4 * q + 4 } ≡ first
           ahead-stops some =
               sym
-              (to-ahead ∙ stop-at n (suc (suc (suc (4 * q + 1)))) (4 * q + 4) r₄ (slot AHEAD q) [] d [] (omega arith) is₄ some)
+              (to-ahead ∙ stop-at n (suc (suc (suc (4 * q + 1)))) (4 * q + 4) r₄ (slot AHEAD q) [] d []
+              (omega arith) is₄ some)
 
           pub none-stops : r₄ ≡ 0 → record { refusal = 0; place = 0 } ≡ first
           unfolding firstRefusal

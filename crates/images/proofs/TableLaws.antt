@@ -71,7 +71,8 @@ module _ (ws : List ℕ) (x y : List (List ℕ)) where
   unfolding readingOf
   table-answer n e = go (eqb (imageRefusal ws .refusal) 0) refl e
     where
-      go : (b : Bool) → eqb (imageRefusal ws .refusal) 0 ≡ b → Reading.Table n ≡ answer b → (n ≡ sizeIn (getD ws 0 0)) × (imageRefusal ws .refusal ≡ 0)
+      go : (b : Bool) → eqb (imageRefusal ws .refusal) 0 ≡ b → Reading.Table n ≡ answer b →
+          (n ≡ sizeIn (getD ws 0 0)) × (imageRefusal ws .refusal ≡ 0)
       go true z h = (cc, eqb-true _ _ z)
       go false z h = let no : _≡_ {A = ℕ} 0 1 = cc in absurd (omega arith)
 
@@ -79,7 +80,8 @@ module _ (ws : List ℕ) (x y : List (List ℕ)) where
   read-table n r =
       let a = table-answer n (r .answer-is) in
       let size : n ≡ length (tableIn ws) = a .0 ∙ sym (length-tableIn ws _ refl) in
-      ap (λ (k : ℕ). handed 0 0 (rowsOf (take k y))) size ∙ ap (handed 0 0) (r .rows-are (a .1)) ∙ sym (read-accepted ws (a .1))
+      ap (λ (k : ℕ). handed 0 0 (rowsOf (take k y))) size ∙ ap (handed 0 0) (r .rows-are (a .1)) ∙ sym
+      (read-accepted ws (a .1))
 
   pub read-few : (n : ℕ) → ReadInto ws x y (Reading.Table n) → n ≤ 16
   read-few n r =

@@ -57,11 +57,13 @@ four-words ws q h =
     ∙ ap (λ (l : List ℕ). getD ws (4 * q + 3) 0 ∷ l) (next-word ws (4 * q + 4) (4 * q + 5) (omega arith) h)))
 
 module _ (n : ℕ) (ws : List ℕ) (q : ℕ) (within : 4 * q + 4 < length ws) where
-  pub row-found : firstRefusal n (4 * q + 1) (rowSlots q 1) (wordsOf ws q []) ≡ firstRefusal n (4 * q + 1) (rowSlots q 1) (drop (4 * q + 1) ws)
+  pub row-found : firstRefusal n (4 * q + 1) (rowSlots q 1) (wordsOf ws q []) ≡ firstRefusal n (4 * q + 1)
+      (rowSlots q 1) (drop (4 * q + 1) ws)
   unfolding firstRefusal rowSlots
   row-found = sym (ap (firstRefusal n (4 * q + 1) (rowSlots q 1)) (four-words ws q within))
 
-  pub row-passes : firstRefusal n (4 * q + 1) (rowSlots q 1) (wordsOf ws q []) .refusal ≡ 0 → codeIn (getD ws (4 * q + 1) 0) < 8
+  pub row-passes : firstRefusal n (4 * q + 1) (rowSlots q 1) (wordsOf ws q []) .refusal ≡ 0 → codeIn
+      (getD ws (4 * q + 1) 0) < 8
   unfolding rowSlots
   row-passes z =
       let a = getD ws (4 * q + 1) 0 in
@@ -85,16 +87,20 @@ module _ (n : ℕ) (ws : List ℕ) where
 
   pub rows-end : fromRow n ≡ record { refusal = 0; place = 0 }
   unfolding rowSlots firstRefusal
-  rows-end = ap (λ (m : ℕ). firstRefusal n (4 * n + 1) (rowSlots n m) (drop (4 * n + 1) ws)) {x = n - n} {y = 0} (omega arith)
+  rows-end = ap (λ (m : ℕ). firstRefusal n (4 * n + 1) (rowSlots n m) (drop (4 * n + 1) ws)) {x = n - n} {y = 0}
+      (omega arith)
 
   module _ (q : ℕ) (l : q < n) (long : length ws ≡ 5 * n) where
-    split-rows : fromRow q ≡ firstRefusal n (4 * q + 1) (rowSlots q 1 ++ rowSlots (suc q) (n - suc q)) (drop (4 * q + 1) ws)
+    split-rows : fromRow q ≡ firstRefusal n (4 * q + 1) (rowSlots q 1 ++ rowSlots (suc q) (n - suc q))
+        (drop (4 * q + 1) ws)
     unfolding rowSlots
     split-rows =
-        ap (λ (m : ℕ). firstRefusal n (4 * q + 1) (rowSlots q m) (drop (4 * q + 1) ws)) {x = n - q} {y = suc (n - suc q)} (omega arith)
+        ap (λ (m : ℕ). firstRefusal n (4 * q + 1) (rowSlots q m) (drop (4 * q + 1) ws)) {x = n - q}
+        {y = suc (n - suc q)} (omega arith)
 
     pub rows-stop : (ofRow q .refusal ≡ 0 → ⊥) → fromRow q ≡ ofRow q
-    rows-stop some = split-rows ∙ first-some n (4 * q + 1) (rowSlots q 1) (rowSlots (suc q) (n - suc q)) (drop (4 * q + 1) ws) some
+    rows-stop some = split-rows ∙ first-some n (4 * q + 1) (rowSlots q 1) (rowSlots (suc q) (n - suc q))
+        (drop (4 * q + 1) ws) some
 
     pub rows-on : ofRow q .refusal ≡ 0 → fromRow q ≡ fromRow (q + 1)
     unfolding rowSlots
@@ -103,8 +109,10 @@ module _ (n : ℕ) (ws : List ℕ) where
         ∙ first-none n (4 * q + 1) (rowSlots q 1) (rowSlots (suc q) (n - suc q)) (drop (4 * q + 1) ws)
         (subst (λ (v : List ℕ). 4 ≤ length v) (sym (four-words ws q (omega arith))) (omega arith)) none
         ∙ ap (firstRefusal n (4 * q + 1 + 4) (rowSlots (suc q) (n - suc q))) (drop-drop 4 (4 * q + 1) ws)
-        ∙ ap (λ (x : ℕ). firstRefusal n x (rowSlots (suc q) (n - suc q)) (drop x ws)) {x = 4 * q + 1 + 4} {y = 4 * (q + 1) + 1} (omega arith)
-        ∙ ap (λ (x : ℕ). firstRefusal n (4 * (q + 1) + 1) (rowSlots x (n - x)) (drop (4 * (q + 1) + 1) ws)) {x = suc q} {y = q + 1} (omega arith)
+        ∙ ap (λ (x : ℕ). firstRefusal n x (rowSlots (suc q) (n - suc q)) (drop x ws)) {x = 4 * q + 1 + 4}
+        {y = 4 * (q + 1) + 1} (omega arith)
+        ∙ ap (λ (x : ℕ). firstRefusal n (4 * (q + 1) + 1) (rowSlots x (n - x)) (drop (4 * (q + 1) + 1) ws))
+        {x = suc q} {y = q + 1} (omega arith)
 
 -- ---- the rows that the cells stand for
 
@@ -113,7 +121,8 @@ unfolding rowsIn
 rowsIn-snoc n ws q zero = ap (λ (x : ℕ). rowIn n ws x ∷ []) {x = q} {y = q + 0} (omega arith)
 rowsIn-snoc n ws q (suc m) =
     ap (λ (t : Table). rowIn n ws q ∷ t)
-    (rowsIn-snoc n ws (suc q) m ∙ ap (λ (x : ℕ). rowsIn n ws (suc q) m ++ (rowIn n ws x ∷ [])) {x = suc q + m} {y = q + suc m} (omega arith))
+    (rowsIn-snoc n ws (suc q) m ∙ ap (λ (x : ℕ). rowsIn n ws (suc q) m ++ (rowIn n ws x ∷ [])) {x = suc q + m}
+    {y = q + suc m} (omega arith))
 
 pub filled-start : (n : ℕ) (ws : List ℕ) (t : Table) → take 0 t ≡ rowsIn n ws 0 0
 unfolding rowsIn
@@ -144,14 +153,18 @@ module _ (n : ℕ) (ws : List ℕ) where
 
   pub turns-end : fromTurn n ≡ record { refusal = 0; place = 0 }
   unfolding turnSlots firstRefusal
-  turns-end = ap (λ (m : ℕ). firstRefusal n (4 * n + n) (turnSlots n m) (drop (4 * n + n) ws)) {x = n - n} {y = 0} (omega arith)
+  turns-end = ap (λ (m : ℕ). firstRefusal n (4 * n + n) (turnSlots n m) (drop (4 * n + n) ws)) {x = n - n} {y = 0}
+      (omega arith)
 
-  module _ (k r : ℕ) (l : k < n) (long : length ws ≡ 5 * n) (is : r ≡ slotRefusal n (slot TURN k) (getD ws (4 * n + k) 0)) where
+  module _ (k r : ℕ) (l : k < n) (long : length ws ≡ 5 * n)
+      (is : r ≡ slotRefusal n (slot TURN k) (getD ws (4 * n + k) 0)) where
     split-turns : fromTurn k
-        ≡ firstRefusal n (4 * n + k) (slot TURN k ∷ turnSlots (suc k) (n - suc k)) (getD ws (4 * n + k) 0 ∷ drop (suc (4 * n + k)) ws)
+        ≡ firstRefusal n (4 * n + k) (slot TURN k ∷ turnSlots (suc k) (n - suc k))
+        (getD ws (4 * n + k) 0 ∷ drop (suc (4 * n + k)) ws)
     unfolding turnSlots
     split-turns =
-        ap₂ (λ (m : ℕ) (v : List ℕ). firstRefusal n (4 * n + k) (turnSlots k m) v) {x = n - k} {y = suc (n - suc k)} (omega arith)
+        ap₂ (λ (m : ℕ) (v : List ℕ). firstRefusal n (4 * n + k) (turnSlots k m) v) {x = n - k} {y = suc (n - suc k)}
+        (omega arith)
         (drop-cons ws (4 * n + k) 0 (omega arith))
 
     pub turns-stop : (r ≡ 0 → ⊥) → record { refusal = r; place = 4 * n + k } ≡ foundOf (fromTurn k)
@@ -164,6 +177,9 @@ module _ (n : ℕ) (ws : List ℕ) where
     pub turns-on : r ≡ 0 → fromTurn k ≡ fromTurn (k + 1)
     turns-on none =
         split-turns
-        ∙ pass-at n (4 * n + k) r (slot TURN k) (turnSlots (suc k) (n - suc k)) (getD ws (4 * n + k) 0) (drop (suc (4 * n + k)) ws) is none
-        ∙ ap (λ (x : ℕ). firstRefusal n x (turnSlots (suc k) (n - suc k)) (drop x ws)) {x = suc (4 * n + k)} {y = 4 * n + (k + 1)} (omega arith)
-        ∙ ap (λ (x : ℕ). firstRefusal n (4 * n + (k + 1)) (turnSlots x (n - x)) (drop (4 * n + (k + 1)) ws)) {x = suc k} {y = k + 1} (omega arith)
+        ∙ pass-at n (4 * n + k) r (slot TURN k) (turnSlots (suc k) (n - suc k)) (getD ws (4 * n + k) 0)
+        (drop (suc (4 * n + k)) ws) is none
+        ∙ ap (λ (x : ℕ). firstRefusal n x (turnSlots (suc k) (n - suc k)) (drop x ws)) {x = suc (4 * n + k)}
+        {y = 4 * n + (k + 1)} (omega arith)
+        ∙ ap (λ (x : ℕ). firstRefusal n (4 * n + (k + 1)) (turnSlots x (n - x)) (drop (4 * n + (k + 1)) ws))
+        {x = suc k} {y = k + 1} (omega arith)

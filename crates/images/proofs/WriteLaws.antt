@@ -56,26 +56,32 @@ module _ (t : Table) (o : List ℕ) (ok : tableRefusal t ≡ 0) (long : 5 * leng
   write-next {k} {q} i j p e h =
       next (imageOf t) o i j (wordFor k q (row t q)) e (omega (arith, whole)) (omega arith) (sym (image-at t p))
 
-  pub write-row : (q : ℕ) → q < length t → rowWritten (wordsTo t o (4 * q + 1)) q (row t q) ≡ wordsTo t o (4 * (q + 1) + 1)
+  pub write-row : (q : ℕ) → q < length t → rowWritten (wordsTo t o (4 * q + 1)) q (row t q) ≡ wordsTo t o
+      (4 * (q + 1) + 1)
   write-row q h =
-      ap (λ (l : List ℕ). set (set (set l (4 * q + 2) (wordFor EST q (row t q))) (4 * q + 3) (wordFor LIS q (row t q))) (4 * q + 4) (wordFor AHEAD q (row t q)))
+      ap (λ (l : List ℕ). set (set (set l (4 * q + 2) (wordFor EST q (row t q))) (4 * q + 3)
+      (wordFor LIS q (row t q))) (4 * q + 4) (wordFor AHEAD q (row t q)))
       (write-next (4 * q + 1) (4 * q + 2) (state q h) (omega arith) (omega arith))
       ∙ ap (λ (l : List ℕ). set (set l (4 * q + 3) (wordFor LIS q (row t q))) (4 * q + 4) (wordFor AHEAD q (row t q)))
       (write-next (4 * q + 2) (4 * q + 3) (est q h) (omega arith) (omega arith))
-      ∙ ap (λ (l : List ℕ). set l (4 * q + 4) (wordFor AHEAD q (row t q))) (write-next (4 * q + 3) (4 * q + 4) (lis q h) (omega arith) (omega arith))
+      ∙ ap (λ (l : List ℕ). set l (4 * q + 4) (wordFor AHEAD q (row t q)))
+      (write-next (4 * q + 3) (4 * q + 4) (lis q h) (omega arith) (omega arith))
       ∙ write-next (4 * q + 4) (4 * (q + 1) + 1) (ahead q h) (omega arith) (omega arith)
 
   pub write-turn : (k : ℕ) → 0 < k → k < length t
-      → set (wordsTo t o (4 * length t + k)) (4 * length t + k) (wordFor TURN k (row t k)) ≡ wordsTo t o (4 * length t + (k + 1))
+      → set (wordsTo t o (4 * length t + k)) (4 * length t + k) (wordFor TURN k (row t k)) ≡ wordsTo t o
+      (4 * length t + (k + 1))
   write-turn k g h = write-next (4 * length t + k) (4 * length t + (k + 1)) (turn k g h) (omega arith) (omega arith)
 
   pub write-header : set o 0 (headerOf (length t)) ≡ wordsTo t o 1
   unfolding imageOf
   write-header =
-      next (imageOf t) o 0 1 (headerOf (length t)) refl (omega (arith, whole, sound-rows t ok .0)) (omega (arith, sound-rows t ok .0)) refl
+      next (imageOf t) o 0 1 (headerOf (length t)) refl (omega (arith, whole, sound-rows t ok .0))
+      (omega (arith, sound-rows t ok .0)) refl
 
   pub write-end : wordsTo t o (5 * length t) ≡ imageOf t ++ drop (5 * length t) o
-  write-end = ap (λ (l : List ℕ). l ++ drop (5 * length t) o) (take-all (5 * length t) (imageOf t) (omega (arith, whole)))
+  write-end = ap (λ (l : List ℕ). l ++ drop (5 * length t) o)
+      (take-all (5 * length t) (imageOf t) (omega (arith, whole)))
 
 -- ---- the fields of a sound row
 
@@ -96,23 +102,38 @@ module _ (t : Table) (l : List ℕ) where
   abbrev outcome : Bool → Bool → Written
   outcome a b =
       cond (not a) (record { refusal = tableRefusal t; words = l })
-      (cond (not b) (record { refusal = 13; words = l }) (record { refusal = 0; words = imageOf t ++ drop (5 * length t) l }))
+      (cond (not b) (record { refusal = 13; words = l })
+      (record { refusal = 0; words = imageOf t ++ drop (5 * length t) l }))
 
   module _ (r : ℕ) (is : r ≡ tableRefusal t) where
     pub written-sound : (r ≡ 0 → ⊥) → Writes t l l r
     unfolding writtenOf
     written-sound ne =
-        let e = ap (λ (a : Bool). outcome a (leb (5 * length t) (length l))) (ne-eqb (tableRefusal t) 0 (λ z. ne (is ∙ z))) in
-        record { refusal-is = is ∙ sym (ap (λ (w : Written). w .refusal) e); words-are = sym (ap (λ (w : Written). w .words) e) }
+        let e = ap (λ (a : Bool). outcome a (leb (5 * length t) (length l)))
+        (ne-eqb (tableRefusal t) 0 (λ z. ne (is ∙ z))) in
+        record {
+          refusal-is = is ∙ sym (ap (λ (w : Written). w .refusal) e);
+          words-are = sym
+              (ap (λ (w : Written). w .words) e);
+        }
 
     pub written-few : r ≡ 0 → length l < 5 * length t → Writes t l l 13
     unfolding writtenOf
     written-few z few =
         let e = ap₂ outcome (eq-eqb (tableRefusal t) 0 (sym is ∙ z)) (lt-leb (5 * length t) (length l) few) in
-        record { refusal-is = sym (ap (λ (w : Written). w .refusal) e); words-are = sym (ap (λ (w : Written). w .words) e) }
+        record {
+          refusal-is = sym (ap (λ (w : Written). w .refusal) e);
+          words-are = sym
+              (ap (λ (w : Written). w .words) e);
+        }
 
-    pub written-image : (m : List ℕ) → r ≡ 0 → 5 * length t ≤ length l → m ≡ imageOf t ++ drop (5 * length t) l → Writes t l m 0
+    pub written-image : (m : List ℕ) → r ≡ 0 → 5 * length t ≤ length l → m ≡ imageOf t ++ drop (5 * length t) l
+        → Writes t l m 0
     unfolding writtenOf
     written-image m z long words =
         let e = ap₂ outcome (eq-eqb (tableRefusal t) 0 (sym is ∙ z)) (le-leb (5 * length t) (length l) long) in
-        record { refusal-is = sym (ap (λ (w : Written). w .refusal) e); words-are = words ∙ sym (ap (λ (w : Written). w .words) e) }
+        record {
+          refusal-is = sym (ap (λ (w : Written). w .refusal) e);
+          words-are = words ∙ sym
+              (ap (λ (w : Written). w .words) e);
+        }

@@ -34,7 +34,8 @@ abbrev pub rowWritten : List ℕ → ℕ → Row → List ℕ
 rowWritten l q r =
     set
     (set
-    (set (set l (4 * q + 1) (wordFor STATE q r)) (4 * q + 2) (wordFor EST q r)) (4 * q + 3) (wordFor LIS q r)) (4 * q + 4)
+    (set (set l (4 * q + 1) (wordFor STATE q r)) (4 * q + 2) (wordFor EST q r)) (4 * q + 3) (wordFor LIS q r))
+    (4 * q + 4)
     (wordFor AHEAD q r)
 
 -- lent words o of which the first i are those of t's image

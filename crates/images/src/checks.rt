@@ -1,6 +1,6 @@
-// The check of a word of an image where it stands. `n` is the number of processes, `full` the set of
-// all of them, `q` the number that the word is to have. The upper half of a word, its kind, spare
-// bits and number, is compared at once.
+// The check of a word of an image where it stands. `n` is the number of processes, `full` the set
+// of all of them, `q` the number that the word is to have. The upper half of a word, its kind,
+// spare bits and number, is compared at once.
 use crate::Found;
 use machine::LEVEL_MISFIT;
 use machine::MALFORMED;

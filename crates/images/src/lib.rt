@@ -1,4 +1,4 @@
-// Images: a table as 32-bit words, read and written (machine/specs/Images.antt says what each means).
+// Images: a table as 32-bit words, read and written. machine/specs/Images.antt says what each means.
 pub mod checks; // the check of one word, of the words of a row
 pub mod decoding; // words into cells
 pub mod encoding; // cells into words

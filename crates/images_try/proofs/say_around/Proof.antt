@@ -37,7 +37,8 @@ array-share-prefix-first c = search needs
 
 slice-aggregate-read-cells : tie.Need-slice-aggregate-read-cells
 slice-aggregate-read-cells c =
-    sym (length-take-le (5 * length (c .before .before .before .before .before .before .before .args .cells .now)) (c .before .before .before .before .write .last .1 .0) (search needs))
+    sym (length-take-le (5 * length (c .before .before .before .before .before .before .before .args .cells .now))
+    (c .before .before .before .before .write .last .1 .0) (search needs))
 
 slice-aggregate-read-cells-2 : tie.Need-slice-aggregate-read-cells-2
 slice-aggregate-read-cells-2 c = search needs
@@ -59,7 +60,9 @@ array-share-prefix-back c = search needs
 
 slice-aggregate-write-2 : tie.Need-slice-aggregate-write-2
 slice-aggregate-write-2 c =
-    sym (length-take-le (length (c .before .before .before .before .before .before .before .before .before .before .before .before .before .before .args .cells .now)) (c .before .before .before .before .before .read-cells .last .1 .0) (search needs))
+    sym (length-take-le (length (c .before .before .before .before .before .before .before .before .before .before
+    .before .before .before .before .args .cells .now))
+    (c .before .before .before .before .before .read-cells .last .1 .0) (search needs))
 
 slice-aggregate-write-3 : tie.Need-slice-aggregate-write-3
 slice-aggregate-write-3 c = search needs

@@ -44,7 +44,8 @@ returns-2 : tie.Need-returns-2
 returns-2 c =
     let x = c .before .before .before .before .args in
     est-stops (x .n) (x .q) (x .a) (x .b) (x .c) (x .d)
-    (c .before .before .before .state-refusal .result) (c .before .before .before .state-refusal .ensures) (c .before .before .if1 .left)
+    (c .before .before .before .state-refusal .result) (c .before .before .before .state-refusal .ensures)
+    (c .before .before .if1 .left)
     (c .before .set-refusal .result) (c .before .set-refusal .ensures) (c .if2 .taken)
 
 -- src/checks.rt:83:9
@@ -64,8 +65,11 @@ returns-3 : tie.Need-returns-3
 returns-3 c =
     let x = c .before .before .before .before .before .before .args in
     lis-stops (x .n) (x .q) (x .a) (x .b) (x .c) (x .d)
-    (c .before .before .before .before .before .state-refusal .result) (c .before .before .before .before .before .state-refusal .ensures) (c .before .before .before .before .if1 .left)
-    (c .before .before .before .set-refusal .result) (c .before .before .before .set-refusal .ensures) (c .before .before .if2 .left)
+    (c .before .before .before .before .before .state-refusal .result)
+    (c .before .before .before .before .before .state-refusal .ensures)
+    (c .before .before .before .before .if1 .left)
+    (c .before .before .before .set-refusal .result) (c .before .before .before .set-refusal .ensures)
+    (c .before .before .if2 .left)
     (c .before .set-refusal2 .result) (c .before .set-refusal2 .ensures) (c .if3 .taken)
 
 -- src/checks.rt:87:9
@@ -85,9 +89,13 @@ returns-4 : tie.Need-returns-4
 returns-4 c =
     let x = c .before .before .before .before .before .before .before .before .args in
     ahead-stops (x .n) (x .q) (x .a) (x .b) (x .c) (x .d)
-    (c .before .before .before .before .before .before .before .state-refusal .result) (c .before .before .before .before .before .before .before .state-refusal .ensures) (c .before .before .before .before .before .before .if1 .left)
-    (c .before .before .before .before .before .set-refusal .result) (c .before .before .before .before .before .set-refusal .ensures) (c .before .before .before .before .if2 .left)
-    (c .before .before .before .set-refusal2 .result) (c .before .before .before .set-refusal2 .ensures) (c .before .before .if3 .left)
+    (c .before .before .before .before .before .before .before .state-refusal .result)
+    (c .before .before .before .before .before .before .before .state-refusal .ensures)
+    (c .before .before .before .before .before .before .if1 .left)
+    (c .before .before .before .before .before .set-refusal .result)
+    (c .before .before .before .before .before .set-refusal .ensures) (c .before .before .before .before .if2 .left)
+    (c .before .before .before .set-refusal2 .result) (c .before .before .before .set-refusal2 .ensures)
+    (c .before .before .if3 .left)
     (c .before .set-refusal3 .result) (c .before .set-refusal3 .ensures) (c .if4 .taken)
 
 -- src/checks.rt:70:1
@@ -95,9 +103,13 @@ returns-5 : tie.Need-returns-5
 returns-5 c =
     let x = c .before .before .before .before .before .before .before .before .args in
     none-stops (x .n) (x .q) (x .a) (x .b) (x .c) (x .d)
-    (c .before .before .before .before .before .before .before .state-refusal .result) (c .before .before .before .before .before .before .before .state-refusal .ensures) (c .before .before .before .before .before .before .if1 .left)
-    (c .before .before .before .before .before .set-refusal .result) (c .before .before .before .before .before .set-refusal .ensures) (c .before .before .before .before .if2 .left)
-    (c .before .before .before .set-refusal2 .result) (c .before .before .before .set-refusal2 .ensures) (c .before .before .if3 .left)
+    (c .before .before .before .before .before .before .before .state-refusal .result)
+    (c .before .before .before .before .before .before .before .state-refusal .ensures)
+    (c .before .before .before .before .before .before .if1 .left)
+    (c .before .before .before .before .before .set-refusal .result)
+    (c .before .before .before .before .before .set-refusal .ensures) (c .before .before .before .before .if2 .left)
+    (c .before .before .before .set-refusal2 .result) (c .before .before .before .set-refusal2 .ensures)
+    (c .before .before .if3 .left)
     (c .before .set-refusal3 .result) (c .before .set-refusal3 .ensures) (c .if4 .left)
 
 pub row-refusal-spec : {M : Type 1} → statement M

@@ -20,19 +20,24 @@ add-if1 c = search needs
 returns : tie.Need-returns
 returns c =
     let a = c .before .args in
-    sym (set-slot (a .n) (a .kind) (a .q) (a .w) (a .full) (c .before .pre .1 .1) (c .before .pre .0 .is) (omega arith) ∙ choice-on _ _ _ (c .if1 .taken))
+    sym (set-slot (a .n) (a .kind) (a .q) (a .w) (a .full) (c .before .pre .1 .1) (c .before .pre .0 .is)
+    (omega arith) ∙ choice-on _ _ _ (c .if1 .taken))
 
 -- src/checks.rt:50:9
 returns-2 : tie.Need-returns-2
 returns-2 c =
     let a = c .before .before .args in
-    sym (set-slot (a .n) (a .kind) (a .q) (a .w) (a .full) (c .before .before .pre .1 .1) (c .before .before .pre .0 .is) (omega arith) ∙ choice-off _ _ _ (c .before .if1 .left) ∙ choice-on _ _ _ (c .if2 .taken))
+    sym (set-slot (a .n) (a .kind) (a .q) (a .w) (a .full) (c .before .before .pre .1 .1)
+    (c .before .before .pre .0 .is) (omega arith) ∙ choice-off _ _ _ (c .before .if1 .left) ∙ choice-on _ _ _
+    (c .if2 .taken))
 
 -- src/checks.rt:40:1
 returns-3 : tie.Need-returns-3
 returns-3 c =
     let a = c .before .before .args in
-    sym (set-slot (a .n) (a .kind) (a .q) (a .w) (a .full) (c .before .before .pre .1 .1) (c .before .before .pre .0 .is) (omega arith) ∙ choice-off _ _ _ (c .before .if1 .left) ∙ choice-off _ _ _ (c .if2 .left))
+    sym (set-slot (a .n) (a .kind) (a .q) (a .w) (a .full) (c .before .before .pre .1 .1)
+    (c .before .before .pre .0 .is) (omega arith) ∙ choice-off _ _ _ (c .before .if1 .left) ∙ choice-off _ _ _
+    (c .if2 .left))
 
 pub set-refusal-spec : {M : Type 1} → statement M
 set-refusal-spec = tie.close (tie.spec mul-if1 add-if1 returns returns-2 returns-3)

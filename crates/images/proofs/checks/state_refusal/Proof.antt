@@ -38,7 +38,8 @@ cast-level c = search needs
 returns-2 : tie.Need-returns-2
 returns-2 c =
     let a = c .before .before .args in
-    sym (state-slot (a .n) (a .q) (a .w) (omega arith) ∙ choice-off _ _ _ (c .before .if1 .left) ∙ choice-on _ _ _ (c .if2 .taken))
+    sym (state-slot (a .n) (a .q) (a .w) (omega arith) ∙ choice-off _ _ _ (c .before .if1 .left) ∙ choice-on _ _ _
+    (c .if2 .taken))
 
 -- src/checks.rt:33:20
 location-of-requires : tie.Need-location-of-requires
@@ -53,7 +54,8 @@ level-fits-requires c κs = search needs
 returns-3 : tie.Need-returns-3
 returns-3 c =
     let a = c .before .before .before .before .before .args in
-    let fits = c .before .level-fits .ensures ∙ ap (λ (l : ℕ). levelFits l (levelIn (a .w))) (c .before .before .location-of .ensures) in
+    let fits = c .before .level-fits .ensures ∙ ap (λ (l : ℕ). levelFits l (levelIn (a .w)))
+    (c .before .before .location-of .ensures) in
     sym
     (state-slot (a .n) (a .q) (a .w) (omega arith)
     ∙ choice-off _ _ _ (c .before .before .before .before .if1 .left)
@@ -64,7 +66,8 @@ returns-3 c =
 returns-4 : tie.Need-returns-4
 returns-4 c =
     let a = c .before .before .before .before .before .args in
-    let fits = c .before .level-fits .ensures ∙ ap (λ (l : ℕ). levelFits l (levelIn (a .w))) (c .before .before .location-of .ensures) in
+    let fits = c .before .level-fits .ensures ∙ ap (λ (l : ℕ). levelFits l (levelIn (a .w)))
+    (c .before .before .location-of .ensures) in
     sym
     (state-slot (a .n) (a .q) (a .w) (omega arith)
     ∙ choice-off _ _ _ (c .before .before .before .before .if1 .left)

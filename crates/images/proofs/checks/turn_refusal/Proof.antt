@@ -22,13 +22,15 @@ returns c =
 returns-2 : tie.Need-returns-2
 returns-2 c =
     let a = c .before .before .args in
-    sym (turn-slot (a .n) (a .k) (a .w) (omega arith) ∙ choice-off _ _ _ (c .before .if1 .left) ∙ choice-on _ _ _ (c .if2 .taken))
+    sym (turn-slot (a .n) (a .k) (a .w) (omega arith) ∙ choice-off _ _ _ (c .before .if1 .left) ∙ choice-on _ _ _
+    (c .if2 .taken))
 
 -- src/checks.rt:56:1
 returns-3 : tie.Need-returns-3
 returns-3 c =
     let a = c .before .before .args in
-    sym (turn-slot (a .n) (a .k) (a .w) (omega arith) ∙ choice-off _ _ _ (c .before .if1 .left) ∙ choice-off _ _ _ (c .if2 .left))
+    sym (turn-slot (a .n) (a .k) (a .w) (omega arith) ∙ choice-off _ _ _ (c .before .if1 .left) ∙ choice-off _ _ _
+    (c .if2 .left))
 
 pub turn-refusal-spec : {M : Type 1} → statement M
 turn-refusal-spec = tie.close (tie.spec add-if1 returns returns-2 returns-3)

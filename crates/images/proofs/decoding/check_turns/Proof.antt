@@ -43,7 +43,13 @@ mul-turn-refusal c =
 
 shared-slice-read-turn-refusal : tie.Need-shared-slice-read-turn-refusal Inv-loop μ-loop
 shared-slice-read-turn-refusal c =
-    omega (arith, c .before .before .before .before .pre .length-is, c .before .before .loop .inv .2, c .before .loop-test .taken)
+    omega (
+      arith,
+      c .before .before .before .before .pre .length-is,
+      c .before .before .loop .inv .2,
+      c .before
+          .loop-test .taken,
+    )
 
 turn-refusal-requires : tie.Need-turn-refusal-requires Inv-loop μ-loop
 turn-refusal-requires c κs =
@@ -51,7 +57,13 @@ turn-refusal-requires c κs =
 
 cast-t12 : tie.Need-cast-t12 Inv-loop μ-loop
 cast-t12 c =
-    omega (arith, c .before .before .before .before .before .before .pre .few, c .before .before .before .before .loop .inv .2, c .before .before .before .loop-test .taken)
+    omega (
+      arith,
+      c .before .before .before .before .before .before .pre .few,
+      c .before .before .before .before .loop
+          .inv .2,
+      c .before .before .before .loop-test .taken,
+    )
 
 returns : tie.Need-returns Inv-loop μ-loop
 returns c =
@@ -63,12 +75,18 @@ returns c =
     let place = ap (λ (x : ℕ). x + k) (inv .2) in
     let is = c .before .turn-refusal .ensures ∙ ap (λ (x : ℕ). slotRefusal n (slot TURN k) (getD ws x 0)) place in
     (λ i. record { refusal = c .before .turn-refusal .result; place = place i })
-    ∙ turns-stop n ws k (c .before .turn-refusal .result) (c .before .before .before .loop-test .taken) long is (c .if1 .taken)
+    ∙ turns-stop n ws k (c .before .turn-refusal .result) (c .before .before .before .loop-test .taken) long is
+    (c .if1 .taken)
     ∙ sym (ap foundOf (inv .3))
 
 add-k : tie.Need-add-k Inv-loop μ-loop
 add-k c =
-    omega (arith, c .before .before .before .before .before .before .pre .few, c .before .before .before .loop-test .taken)
+    omega (
+      arith,
+      c .before .before .before .before .before .before .pre .few,
+      c .before .before .before .loop-test
+          .taken,
+    )
 
 loop-less : tie.Need-loop-less Inv-loop μ-loop
 loop-less c = omega (arith, c .before .before .before .loop-test .taken)
@@ -82,8 +100,13 @@ loop-again c =
     let long = c .before .before .before .before .before .before .pre .length-is in
     let l : k < n = c .before .before .before .loop-test .taken in
     let place = ap (λ (x : ℕ). x + k) (inv .2) in
-    let is = c .before .turn-refusal .ensures ∙ ap (λ (x : ℕ). slotRefusal n (slot TURN k) (getD ws x 0)) place in
-    (omega arith, omega arith, inv .2, inv .3 ∙ turns-on n ws k (c .before .turn-refusal .result) l long is (c .if1 .left))
+    let is = c .before .turn-refusal .ensures ∙ ap (λ (x : ℕ). slotRefusal n (slot TURN k) (getD ws x 0)) place in (
+      omega arith,
+      omega arith,
+      inv .2,
+      inv .3 ∙ turns-on n ws k (c .before .turn-refusal .result) l long is
+          (c .if1 .left),
+    )
 
 returns-2 : tie.Need-returns-2 Inv-loop μ-loop
 returns-2 c =

@@ -66,18 +66,24 @@ read-words-requires c κs =
     let ws = c .before .before .before .before .before .before .before .args .words .now in
     let x = c .before .before .before .before .before .before .before .args .cells .now in
     let n = c .before .before .before .size-in .result in
-    let h = header-some (getD ws 0 0) n (c .before .before .before .size-in .ensures) (c .before .before .if2 .left) in
-    (record { some = h .some; few = h .few; length-is = c .before .if3 .left }, omega (arith, h .few, c .before .before .before .before .before .before .before .pre))
+    let h = header-some (getD ws 0 0) n (c .before .before .before .size-in .ensures) (c .before .before .if2 .left) in (
+      record { some = h .some; few = h .few; length-is = c .before .if3 .left },
+      omega
+          (arith, h .few, c .before .before .before .before .before .before .before .pre),
+    )
 
 same-length : tie.Need-same-length
 same-length c = search needs
 
 returns-4 : tie.Need-returns-4
 returns-4 c =
-    let ws = c .before .before .before .before .before .before .before .before .before .before .before .args .words .now in
-    let x = c .before .before .before .before .before .before .before .before .before .before .before .args .cells .now in
+    let ws = c .before .before .before .before .before .before .before .before .before .before .before .args .words
+    .now in
+    let x = c .before .before .before .before .before .before .before .before .before .before .before .args .cells
+    .now in
     let n = c .before .before .before .before .before .before .before .size-in .result in
-    let h = header-some (getD ws 0 0) n (c .before .before .before .before .before .before .before .size-in .ensures) (c .before .before .before .before .before .before .if2 .left) in
+    let h = header-some (getD ws 0 0) n (c .before .before .before .before .before .before .before .size-in .ensures)
+    (c .before .before .before .before .before .before .if2 .left) in
     let read = c .before .before .before .read-words .ensures in
     into-refused ws x _ (read .size-is) _ _
     (refused-words ws n (h .size-is) (h .is-header) (c .before .before .before .before .before .if3 .left)
@@ -93,10 +99,13 @@ same-length-2 c = search needs
 
 returns-5 : tie.Need-returns-5
 returns-5 c =
-    let ws = c .before .before .before .before .before .before .before .before .before .before .before .args .words .now in
-    let x = c .before .before .before .before .before .before .before .before .before .before .before .args .cells .now in
+    let ws = c .before .before .before .before .before .before .before .before .before .before .before .args .words
+    .now in
+    let x = c .before .before .before .before .before .before .before .before .before .before .before .args .cells
+    .now in
     let n = c .before .before .before .before .before .before .before .size-in .result in
-    let h = header-some (getD ws 0 0) n (c .before .before .before .before .before .before .before .size-in .ensures) (c .before .before .before .before .before .before .if2 .left) in
+    let h = header-some (getD ws 0 0) n (c .before .before .before .before .before .before .before .size-in .ensures)
+    (c .before .before .before .before .before .before .if2 .left) in
     let read = c .before .before .before .read-words .ensures in
     let words = refused-words ws n (h .size-is) (h .is-header) (c .before .before .before .before .before .if3 .left) in
     into-accepted ws x _ (read .size-is) n (h .size-is)

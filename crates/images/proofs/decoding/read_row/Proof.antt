@@ -63,7 +63,12 @@ row-refusal-requires c κs = search needs
 returns : tie.Need-returns
 returns c =
     let a = c .before .before .before .before .before .before .before .before .args in
-    let within : 4 * (a .q) + 4 < length (a .words .now) = omega (arith, c .before .before .before .before .before .before .before .before .pre .1 .0 .length-is, c .before .before .before .before .before .before .before .before .pre .1 .1 .0) in
+    let within : 4 * (a .q) + 4 < length (a .words .now) = omega (
+      arith,
+      c .before .before .before .before .before .before .before .before .pre .1 .0 .length-is,
+      c .before
+          .before .before .before .before .before .before .before .pre .1 .1 .0,
+    ) in
     record {
       found-is = c .before .before .row-refusal .ensures ∙ ap foundOf (row-found (a .n) (a .words .now) (a .q) within);
       rows-are = λ z. absurd (c .if1 .taken z);
@@ -76,8 +81,15 @@ turn-of-requires c κs = search needs
 row-of-requires : tie.Need-row-of-requires
 row-of-requires c κs =
     let a = c .before .before .before .before .before .before .before .before .before .before .args in
-    let within : 4 * (a .q) + 4 < length (a .words .now) = omega (arith, c .before .before .before .before .before .before .before .before .before .before .pre .1 .0 .length-is, c .before .before .before .before .before .before .before .before .before .before .pre .1 .1 .0) in
-    row-passes (a .n) (a .words .now) (a .q) within (sym (ap (λ (f : Found). f .refusal) (c .before .before .before .before .row-refusal .ensures)) ∙ c .before .before .if1 .left)
+    let within : 4 * (a .q) + 4 < length (a .words .now) = omega (
+      arith,
+      c .before .before .before .before .before .before .before .before .before .before .pre .1 .0
+          .length-is,
+      c .before .before .before .before .before .before .before .before .before .before .pre .1 .1 .0,
+    ) in
+    row-passes (a .n) (a .words .now) (a .q) within
+    (sym (ap (λ (f : Found). f .refusal) (c .before .before .before .before .row-refusal .ensures))
+    ∙ c .before .before .if1 .left)
 
 put-row-requires : tie.Need-put-row-requires
 put-row-requires c κs = search needs
@@ -87,10 +99,18 @@ same-length c = search needs
 
 returns-2 : tie.Need-returns-2
 returns-2 c =
-    let a = c .before .before .before .before .before .before .before .before .before .before .before .before .before .args in
-    let within : 4 * (a .q) + 4 < length (a .words .now) = omega (arith, c .before .before .before .before .before .before .before .before .before .before .before .before .before .pre .1 .0 .length-is, c .before .before .before .before .before .before .before .before .before .before .before .before .before .pre .1 .1 .0) in
+    let a = c .before .before .before .before .before .before .before .before .before .before .before .before .before
+    .args in
+    let within : 4 * (a .q) + 4 < length (a .words .now) = omega (
+      arith,
+      c .before .before .before .before .before .before .before .before .before .before .before .before
+          .before .pre .1 .0 .length-is,
+      c .before .before .before .before .before .before .before .before .before
+          .before .before .before .before .pre .1 .1 .0,
+    ) in
     record {
-      found-is = c .before .before .before .before .before .before .before .row-refusal .ensures ∙ ap foundOf (row-found (a .n) (a .words .now) (a .q) within);
+      found-is = c .before .before .before .before .before .before .before .row-refusal .ensures ∙ ap foundOf
+          (row-found (a .n) (a .words .now) (a .q) within);
       rows-are =
           λ z.
           c .before .put-row .ensures .rows-are

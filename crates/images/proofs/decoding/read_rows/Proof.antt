@@ -1,4 +1,5 @@
--- `images::decoding::read_rows` meets its contract. The invariant: what is left of the rows' words decides the refusal, and
+-- `images::decoding::read_rows` meets its contract. The invariant: what is left of the rows' words decides the
+-- refusal, and
 -- the first cells stand for the rows read so far. Assumes nothing.
 use Prim.Native.Nat.{ℕ, _-_, _≤_, _<_}
 use mathlib.Core.Path.{_≡_, refl, sym, ap, _∙_, subst}
@@ -9,7 +10,17 @@ use Rattle.cells.specs.View.{rowOf, rowsOf}
 use Rattle.cells.proofs.ViewLaws.{rows-length}
 use Rattle.images.specs.Bounds.{foundOf}
 use Rattle.images.specs.declared.Found.{Found}
-use Rattle.images.proofs.WalkLaws.{fromRow, ofRow, rows-start, rows-stop, rows-on, rows-end, filled-start, filled-on, map-take}
+use Rattle.images.proofs.WalkLaws.{
+  fromRow,
+  ofRow,
+  rows-start,
+  rows-stop,
+  rows-on,
+  rows-end,
+  filled-start,
+  filled-on,
+  map-take,
+}
 use Rattle.images.proofs.decoding.read_rows.Statement.{statement}
 use Rattle.images.proofs.decoding.read_rows.Tie as tie
 use Rattle.images.proofs.decoding.read_rows.Reads as reads
@@ -31,16 +42,27 @@ full-set-requires : tie.Need-full-set-requires Inv-loop μ-loop
 full-set-requires c κs = omega (arith, c .before .pre .0 .few)
 
 loop-holds : tie.Need-loop-holds Inv-loop μ-loop
-loop-holds c =
-    (omega arith, refl, rows-start (c .before .before .args .n) (c .before .before .args .words .now), filled-start _ _ (rowsOf (c .before .before .args .cells .now)))
+loop-holds c = (
+  omega arith,
+  refl,
+  rows-start (c .before .before .args .n)
+      (c .before .before .args .words .now),
+  filled-start _ _ (rowsOf (c .before .before .args .cells .now)),
+)
 
 read-row-requires : tie.Need-read-row-requires Inv-loop μ-loop
-read-row-requires c κs =
-    (c .before .before .before .full-set .ensures, (c .before .before .before .before .before .pre .0, (c .before .loop-test .taken, omega (arith, c .before .before .loop .inv .1))))
+read-row-requires c κs = (
+  c .before .before .before .full-set .ensures,
+  (
+    c .before .before .before .before .before .pre .0,
+    (c .before .loop-test .taken, omega (arith, c .before .before .loop .inv .1)),
+  ),
+)
 
 same-length : tie.Need-same-length Inv-loop μ-loop
 same-length c =
-    c .before .before .before .read-row .ensures .size-is ∙ c .before .before .before .before .before .before .loop .inv .1
+    c .before .before .before .read-row .ensures .size-is
+    ∙ c .before .before .before .before .before .before .loop .inv .1
 
 returns : tie.Need-returns Inv-loop μ-loop
 returns c =
@@ -50,11 +72,13 @@ returns c =
     let row = c .before .before .before .read-row .ensures in
     let inv = c .before .before .before .before .before .before .loop .inv in
     let long = c .before .before .before .before .before .before .before .before .before .pre .0 .length-is in
-    let some : ofRow n ws q .refusal ≡ 0 → ⊥ = λ z. c .if1 .taken (ap (λ (f : Found). f .refusal) (row .found-is) ∙ z) in
+    let some : ofRow n ws q .refusal ≡ 0 → ⊥ = λ z. c .if1 .taken
+    (ap (λ (f : Found). f .refusal) (row .found-is) ∙ z) in
     record {
       found-is =
           row .found-is
-          ∙ sym (ap foundOf (inv .2 ∙ rows-stop n ws q (c .before .before .before .before .before .loop-test .taken) long some));
+          ∙ sym (ap foundOf (inv .2 ∙ rows-stop n ws q
+          (c .before .before .before .before .before .loop-test .taken) long some));
       rows-are = λ z. absurd (c .if1 .taken z);
       size-is = row .size-is ∙ inv .1;
     }
@@ -80,7 +104,8 @@ loop-again c =
       omega arith,
       row .size-is ∙ inv .1,
       inv .2 ∙ rows-on n ws q l (pre .0 .length-is) none,
-      filled-on n ws (rowsOf x) _ q (omega (arith, rows-length x, inv .1, pre .1)) (inv .3) (row .rows-are (c .if1 .left)),
+      filled-on n ws (rowsOf x) _ q (omega (arith, rows-length x, inv .1, pre .1)) (inv .3)
+          (row .rows-are (c .if1 .left)),
     )
 
 same-length-2 : tie.Need-same-length-2 Inv-loop μ-loop

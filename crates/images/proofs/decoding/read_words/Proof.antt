@@ -1,4 +1,5 @@
--- `images::decoding::read_words` meets its contract: the rows decide where they refuse, else the turn cells. Assumes nothing.
+-- `images::decoding::read_words` meets its contract: the rows decide where they refuse, else the turn cells. Assumes
+-- nothing.
 use mathlib.Core.Path.{_≡_, sym, ap, _∙_}
 use lib.ListN.{drop}
 use Rattle.machine.specs.Images.{rowSlots, firstRefusal}
@@ -27,7 +28,8 @@ returns c =
     let some : firstRefusal n 1 (rowSlots 0 n) (drop 1 ws) .refusal ≡ 0 → ⊥ =
     λ z. c .if1 .taken (ap (λ (f : Found). f .refusal) (rows .found-is) ∙ z) in
     record {
-      found-is = rows .found-is ∙ sym (ap foundOf (image-rows n ws (c .before .before .before .before .before .before .pre .0 .length-is) some));
+      found-is = rows .found-is ∙ sym (ap foundOf (image-rows n ws
+          (c .before .before .before .before .before .before .pre .0 .length-is) some));
       rows-are = λ z. absurd (c .if1 .taken z);
       size-is = rows .size-is;
     }

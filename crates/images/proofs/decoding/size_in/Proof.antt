@@ -20,7 +20,8 @@ add-if1-2 : tie.Need-add-if1-2
 add-if1-2 c = search needs
 
 returns : tie.Need-returns
-returns c = sym (choice-off (isHeader (c .before .args .head)) (sizeIn (c .before .args .head)) 0 (not-true _ (c .if1 .taken)))
+returns c = sym (choice-off (isHeader (c .before .args .head)) (sizeIn (c .before .args .head)) 0
+    (not-true _ (c .if1 .taken)))
 
 sub-result : tie.Need-sub-result
 sub-result c =
@@ -39,7 +40,8 @@ cast-result c =
     omega (arith, low, high)
 
 returns-2 : tie.Need-returns-2
-returns-2 c = sym (choice-on (isHeader (c .before .args .head)) (sizeIn (c .before .args .head)) 0 (not-false _ (c .if1 .left)))
+returns-2 c = sym (choice-on (isHeader (c .before .args .head)) (sizeIn (c .before .args .head)) 0
+    (not-false _ (c .if1 .left)))
 
 pub size-in-spec : {M : Type 1} → statement M
 size-in-spec = tie.close (tie.spec add-if1 add-if1-2 returns sub-result cast-result returns-2)

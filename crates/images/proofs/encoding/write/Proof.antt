@@ -30,14 +30,19 @@ returns-2 c =
     let x = c .before .before .before .before .args .cells .now in
     let l = c .before .before .before .before .args .out .now in
     let checked = c .before .before .check in
-    written-few (rowsOf x) l (checked .result) (checked .ensures) (c .before .if1 .left) (omega (arith, c .if2 .taken, rows-length x))
+    written-few (rowsOf x) l (checked .result) (checked .ensures) (c .before .if1 .left)
+    (omega (arith, c .if2 .taken, rows-length x))
 
 write-cells-requires : tie.Need-write-cells-requires
 write-cells-requires c κs =
     let x = c .before .before .before .before .before .args .cells .now in
     let l = c .before .before .before .before .before .args .out .now in
     let checked = c .before .before .before .check in
-    record { is-sound = sym (checked .ensures) ∙ c .before .before .if1 .left; long = omega (arith, c .before .if2 .left, rows-length x) }
+    record {
+      is-sound = sym (checked .ensures) ∙ c .before .before .if1 .left;
+      long = omega
+          (arith, c .before .if2 .left, rows-length x);
+    }
 
 same-length : tie.Need-same-length
 same-length c = search needs
@@ -47,7 +52,9 @@ returns-3 c =
     let x = c .before .before .before .before .before .before .before .before .args .cells .now in
     let l = c .before .before .before .before .before .before .before .before .args .out .now in
     let checked = c .before .before .before .before .before .before .check in
-    written-image (rowsOf x) l (checked .result) (checked .ensures) _ (c .before .before .before .before .before .if1 .left) (omega (arith, c .before .before .before .before .if2 .left, rows-length x))
+    written-image (rowsOf x) l (checked .result) (checked .ensures) _
+    (c .before .before .before .before .before .if1 .left)
+    (omega (arith, c .before .before .before .before .if2 .left, rows-length x))
     (c .before .before .write-cells .ensures)
 
 pub write-spec : {M : Type 1} → statement M

@@ -1,4 +1,5 @@
--- `images::encoding::write_cells` meets its contract: header, rows and turn cells, each where the last ended. Assumes nothing.
+-- `images::encoding::write_cells` meets its contract: header, rows and turn cells, each where the last ended. Assumes
+-- nothing.
 use Prim.Native.Nat.{ℕ, _+_}
 use mathlib.Core.Path.{sym, ap, _∙_}
 use native.Mathlib.Omega.{arith}
@@ -46,7 +47,11 @@ write-turns-requires c κs =
     let room = c .before .before .before .before .before .before .pre in
     let o = c .before .before .before .before .before .before .args .out .now in
     let same = length-set o 0 (2147483648 + length x) in
-    record { is-sound = room .is-sound; long = omega (arith, room .long, same, c .before .before .before .write-rows .ensures .size-is) }
+    record {
+      is-sound = room .is-sound;
+      long = omega
+          (arith, room .long, same, c .before .before .before .write-rows .ensures .size-is);
+    }
 
 same-length : tie.Need-same-length
 same-length c =
@@ -55,7 +60,8 @@ same-length c =
     let room = c .before .before .before .before .before .before .before .before .before .pre in
     let o = c .before .before .before .before .before .before .before .before .before .args .out .now in
     let same = length-set o 0 (2147483648 + length x) in
-    c .before .before .write-turns .ensures .size-is ∙ c .before .before .before .before .before .before .write-rows .ensures .size-is ∙ same
+    c .before .before .write-turns .ensures .size-is
+    ∙ c .before .before .before .before .before .before .write-rows .ensures .size-is ∙ same
 
 returns : tie.Need-returns
 returns c =
@@ -67,7 +73,8 @@ returns c =
     let ok = room .is-sound in
     let rows = c .before .before .before .before .before .before .write-rows .ensures in
     let head = ap (λ (n : ℕ). set o 0 (2147483648 + n)) (sym (rows-length x)) ∙ write-header t o ok (room .long) in
-    c .before .before .write-turns .ensures .words-are o (sym (rows .size-is ∙ same)) (rows .words-are o (sym same) head)
+    c .before .before .write-turns .ensures .words-are o (sym (rows .size-is ∙ same))
+    (rows .words-are o (sym same) head)
     ∙ write-end t o ok (room .long)
 
 pub write-cells-spec : {M : Type 1} → statement M

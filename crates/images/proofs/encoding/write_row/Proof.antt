@@ -75,7 +75,8 @@ unfolding bodyOf
 returns c =
     let a = c .before .before .before .before .before .before .args in
     let q = a .q in
-    let first = c .before .before .before .word .ensures ∙ ap (λ (b : ℕ). 9 * 2 ^ 28 + q * 2 ^ 16 + b) (c .before .before .before .before .state-body .ensures) in
+    let first = c .before .before .before .word .ensures ∙ ap (λ (b : ℕ). 9 * 2 ^ 28 + q * 2 ^ 16 + b)
+    (c .before .before .before .before .state-body .ensures) in
     λ i.
     set
     (set

@@ -73,7 +73,8 @@ loop-again c =
         words-are =
             λ o e h.
             wrote
-            ∙ ap₂ (λ (v : List ℕ) (r : Row). rowWritten v q r) (inv .2 .words-are o e h) (c .before .before .before .row-at .ensures)
+            ∙ ap₂ (λ (v : List ℕ) (r : Row). rowWritten v q r) (inv .2 .words-are o e h)
+            (c .before .before .before .row-at .ensures)
             ∙ write-row t o (room .is-sound) (omega (arith, room .long)) q l;
         size-is = ap length wrote ∙ simp length-set (inv .2 .size-is);
       },
@@ -87,7 +88,8 @@ returns c =
     let t = rowsOf (c .before .before .before .args .cells .now) in
     let inv = c .before .loop .inv in
     let end : c .before .loop .q ≡ length t = omega (arith, c .loop-test .left, inv .0, inv .1) in
-    subst (λ (k : ℕ). Filled t 1 (4 * k + 1) (c .before .before .before .args .out .now) (c .before .loop .out)) end (inv .2)
+    subst (λ (k : ℕ). Filled t 1 (4 * k + 1) (c .before .before .before .args .out .now) (c .before .loop .out)) end
+    (inv .2)
 
 pub write-rows-spec : {M : Type 1} → statement M
 write-rows-spec =

@@ -1,4 +1,5 @@
--- `images::encoding::write_turns` meets its contract. The invariant: the words up to turn[k] are written. Assumes nothing.
+-- `images::encoding::write_turns` meets its contract. The invariant: the words up to turn[k] are written. Assumes
+-- nothing.
 use Prim.Native.Nat.{ℕ, _+_, _-_, _*_, _≤_, _<_}
 use mathlib.Core.Path.{_≡_, refl, sym, ap, _∙_, subst}
 use native.Mathlib.Omega.{arith}
@@ -20,7 +21,8 @@ use Rattle.images.proofs.encoding.word.Reads as word-reads
 
 abbrev Inv-loop : tie.InvT-loop
 Inv-loop cells out₀ n first k₀ out k =
-    (1 ≤ k) × (k ≤ n) × (n ≡ length (rowsOf cells)) × (first ≡ 4 * n) × Filled (rowsOf cells) (4 * length (rowsOf cells) + 1) (4 * length (rowsOf cells) + k) out₀ out
+    (1 ≤ k) × (k ≤ n) × (n ≡ length (rowsOf cells)) × (first ≡ 4 * n) × Filled (rowsOf cells)
+    (4 * length (rowsOf cells) + 1) (4 * length (rowsOf cells) + k) out₀ out
 
 abbrev μ-loop : tie.MeasureT-loop
 μ-loop cells out₀ n first k₀ out k = n - k
@@ -31,8 +33,14 @@ mul-first c = search needs
 loop-holds : tie.Need-loop-holds Inv-loop μ-loop
 loop-holds c =
     let x = c .before .args .cells .now in
-    let some = sound-rows (rowsOf x) (c .before .pre .is-sound) .0 in
-    (omega arith, omega (arith, some, rows-length x), sym (rows-length x), refl, record { words-are = λ o e h. h; size-is = refl })
+    let some = sound-rows (rowsOf x) (c .before .pre .is-sound) .0 in (
+      omega arith,
+      omega (arith, some, rows-length x),
+      sym
+          (rows-length x),
+      refl,
+      record { words-are = λ o e h. h; size-is = refl },
+    )
 
 row-at-requires : tie.Need-row-at-requires Inv-loop μ-loop
 row-at-requires c κs = c .loop-test .taken
@@ -48,22 +56,44 @@ word-requires : tie.Need-word-requires Inv-loop μ-loop
 word-requires c κs =
     let x = c .before .before .before .before .args .cells .now in
     let t = rowsOf x in
-    let room = c .before .before .before .before .pre in
-    (omega arith, omega (arith, sound-rows t (room .is-sound) .1, c .before .before .loop .inv .2, c .before .loop-test .taken))
+    let room = c .before .before .before .before .pre in (
+      omega arith,
+      omega (
+        arith,
+        sound-rows t (room .is-sound) .1,
+        c .before .before .loop .inv .2,
+        c .before
+            .loop-test .taken,
+      ),
+    )
 
 add-out : tie.Need-add-out Inv-loop μ-loop
 add-out c =
     let x = c .before .before .before .before .before .args .cells .now in
     let t = rowsOf x in
     let room = c .before .before .before .before .before .pre in
-    omega (arith, sound-rows t (room .is-sound) .1, c .before .before .before .loop .inv .2, c .before .before .before .loop .inv .3, c .before .before .loop-test .taken)
+    omega (
+      arith,
+      sound-rows t (room .is-sound) .1,
+      c .before .before .before .loop .inv .2,
+      c .before .before .before
+          .loop .inv .3,
+      c .before .before .loop-test .taken,
+    )
 
 mul-out : tie.Need-mul-out Inv-loop μ-loop
 mul-out c =
     let x = c .before .before .before .before .before .args .cells .now in
     let t = rowsOf x in
     let room = c .before .before .before .before .before .pre in
-    omega (arith, sound-rows t (room .is-sound) .1, c .before .before .before .loop .inv .2, c .before .before .before .loop .inv .3, c .before .before .loop-test .taken)
+    omega (
+      arith,
+      sound-rows t (room .is-sound) .1,
+      c .before .before .before .loop .inv .2,
+      c .before .before .before
+          .loop .inv .3,
+      c .before .before .loop-test .taken,
+    )
 
 slice-write-out : tie.Need-slice-write-out Inv-loop μ-loop
 slice-write-out c =
@@ -97,7 +127,8 @@ loop-again c =
       record {
         words-are =
             λ o e h.
-            (λ i. set (inv .4 .words-are o e h i) (place i) (word i)) ∙ write-turn t o (room .is-sound) (omega (arith, room .long)) k (inv .0) l;
+            (λ i. set (inv .4 .words-are o e h i) (place i) (word i)) ∙ write-turn t o (room .is-sound)
+            (omega (arith, room .long)) k (inv .0) l;
         size-is = simp length-set (inv .4 .size-is);
       },
     )
@@ -110,7 +141,8 @@ returns c =
     let t = rowsOf (c .before .before .before .args .cells .now) in
     let inv = c .before .loop .inv in
     let end : 4 * length t + c .before .loop .k ≡ 5 * length t = omega (arith, c .loop-test .left, inv .1, inv .2) in
-    subst (λ (j : ℕ). Filled t (4 * length t + 1) j (c .before .before .before .args .out .now) (c .before .loop .out)) end (inv .4)
+    subst (λ (j : ℕ). Filled t (4 * length t + 1) j (c .before .before .before .args .out .now)
+    (c .before .loop .out)) end (inv .4)
 
 pub write-turns-spec : {M : Type 1} → statement M
 write-turns-spec =

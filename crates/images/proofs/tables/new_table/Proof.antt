@@ -1,4 +1,5 @@
--- `images::tables::new_table` meets its contract. The invariant: the first q rows are those of the cells, the others blank.
+-- `images::tables::new_table` meets its contract. The invariant: the first q rows are those of the cells, the others
+-- blank.
 -- Assumes nothing.
 use Prim.Native.Nat.{_-_, _≤_}
 use mathlib.Core.Path.{_≡_, refl, ap, _∙_}
@@ -48,7 +49,8 @@ loop-again c =
     let inv = c .before .before .loop .inv in
     let q = c .before .before .loop .q in
     let l = c .before .loop-test .taken in
-    let next = pad-next (rowsOf x) q (omega (arith, l, inv .1, pre .0, pre .1, rows-length x)) (omega (arith, l, inv .1, pre .0)) in
+    let next = pad-next (rowsOf x) q (omega (arith, l, inv .1, pre .0, pre .1, rows-length x))
+    (omega (arith, l, inv .1, pre .0)) in
     (omega (arith, l), inv .1, (λ i. set (inv .2 i) q (c .row-at .ensures i)) ∙ next)
 
 returns : tie.Need-returns Inv-loop μ-loop

@@ -40,7 +40,8 @@ returns : tie.Need-returns
 returns c =
     let ws = c .before .before .before .before .before .before .before .before .before .args .words .now in
     let told = c .before .before .before .answer .given in
-    let into = subst (ReadInto ws _ _) (told .1) (c .before .before .before .before .before .before .read-cells .ensures) in
+    let into = subst (ReadInto ws _ _) (told .1) (c .before .before .before .before .before .before .read-cells
+    .ensures) in
     c .new-table .ensures ∙ read-table ws _ _ (told .0 .0) into
 
 returns-2 : tie.Need-returns-2
