@@ -6,7 +6,7 @@ use Prim.Native.Nat.{ℕ, _≤_, _<_}
 use native.Mathlib.Nat.{zero-add}
 use native.Mathlib.Omega.{arith}
 use lib.Dec.{leb, eqb}
-use lib.ListN.{length, drop}
+use lib.ListN.{length, drop, length-append}
 use borrow.Author.Tests.{le-leb, lt-leb, eq-eqb, ne-eqb}
 use Rattle.machine.specs.Refusals.{accepted, tooManyWords, badBytes}
 use Rattle.machine.specs.Tables.{Table, tableRefusal}
@@ -144,3 +144,15 @@ module _ (bs l : List ℕ) where
         ap Printed.Bytes (a .end-is ∙ zero-add (length s) ∙ ap length (sym same)) ∙ sym (ap answers e),
         a .bytes-are ∙ ap (placed l 0) (sym same) ∙ placed-first l (printed bs) ∙ sym (ap buffers e),
       )
+
+-- the text is within the buffer
+pub bytes-within : (bs l y : List ℕ) (n : ℕ) → Printed.Bytes n ≡ answerTo bs l → y ≡ bufferAfter bs l → n ≤ length y
+unfolding answerTo bufferAfter
+bytes-within bs l y n answer after = go (leb textRoom (length l)) refl where
+  go : (b : Bool) → leb textRoom (length l) ≡ b → n ≤ length y
+  go false e = let r = answer ∙ ap (answers bs l) e in let z : _≡_ {A = ℕ} 0 1 = cc in absurd (omega arith)
+  go true e =
+      let r : Printed.Bytes n ≡ Printed.Bytes (length (printed bs)) = answer ∙ ap (answers bs l) e in
+      let count : n ≡ length (printed bs) = cc in
+      let whole = ap length (after ∙ ap (buffers bs l) e) in
+      omega (arith, length-append (printed bs) (drop (length (printed bs)) l))
