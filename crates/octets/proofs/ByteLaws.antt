@@ -71,7 +71,7 @@ wordsIn-bytesOf [] h = refl
 wordsIn-bytesOf (w ∷ ws) h =
     let small : w < 2 ^ 32 = h 0 (omega arith) in
     let e : wordOf (w % 2 ^ 8) (w / 2 ^ 8 % 2 ^ 8) (w / 2 ^ 16 % 2 ^ 8) (w / 2 ^ 24 % 2 ^ 8) ≡ w =
-        omega (arith, recompose {n = w} 8 24 small, mod-pow-add w 8 16, mod-pow-add w 8 8) in
+    omega (arith, recompose {n = w} 8 24 small, mod-pow-add w 8 16, mod-pow-add w 8 8) in
     rw (e, wordsIn-bytesOf ws (λ i l. h (suc i) (omega arith)))
 
 pub bytesOf-wordsIn : (bs : List ℕ) → AllBelow (2 ^ 8) bs → length bs % 4 ≡ 0 → bytesOf (wordsIn bs) ≡ bs
@@ -109,4 +109,4 @@ module _ (bs ws y : List ℕ) (m : ℕ) (count : m ≡ length bs / 4) (placed-so
   pub take-unpacked : take m y ≡ wordsIn bs
   take-unpacked =
       ap (take m) (placed-so ∙ placed-first ws (wordsIn bs))
-          ∙ take-at (wordsIn bs) (drop (length (wordsIn bs)) ws) m (length-wordsIn bs ∙ sym count)
+      ∙ take-at (wordsIn bs) (drop (length (wordsIn bs)) ws) m (length-wordsIn bs ∙ sym count)

@@ -40,7 +40,7 @@ module _ (d : List ℕ) (at : ℕ) (s : List ℕ) where
   length-placed h =
       let e = length-head (omega arith) in
       ap length placed-head
-          ∙ omega (arith, length-append head (drop (at + length s) d), length-drop (at + length s) d)
+      ∙ omega (arith, length-append head (drop (at + length s) d), length-drop (at + length s) d)
 
   -- what stands up to the end of s
   pub take-placed : at ≤ length d → take (at + length s) (placed d at s) ≡ take at d ++ s
@@ -51,9 +51,9 @@ module _ (d : List ℕ) (at : ℕ) (s : List ℕ) where
   pub drop-placed : (k : ℕ) → at ≤ length d → drop (at + length s + k) (placed d at s) ≡ drop (at + length s + k) d
   drop-placed k h =
       ap (drop (at + length s + k)) placed-head
-          ∙ ap (λ (n : ℕ). drop (n + k) (head ++ drop (at + length s) d)) (sym (length-head h))
-          ∙ drop-append-add head (drop (at + length s) d) k
-          ∙ drop-drop k (at + length s) d
+      ∙ ap (λ (n : ℕ). drop (n + k) (head ++ drop (at + length s) d)) (sym (length-head h))
+      ∙ drop-append-add head (drop (at + length s) d) k
+      ∙ drop-drop k (at + length s) d
 
   -- u put right after s
   pub placed-then : (u : List ℕ) → at ≤ length d → placed (placed d at s) (at + length s) u ≡ placed d at (s ++ u)
@@ -62,7 +62,7 @@ module _ (d : List ℕ) (at : ℕ) (s : List ℕ) where
       let n = at + length s in
       let e : n + length u ≡ at + length (s ++ u) = omega (arith, length-append s u) in
       ap (λ (p : List ℕ). p ++ (u ++ drop (n + length u) (placed d at s))) (take-placed h)
-          ∙ ap (λ (p : List ℕ). head ++ (u ++ p)) (drop-placed (length u) h)
-          ∙ append-assoc (take at d) s (u ++ drop (n + length u) d)
-          ∙ ap (λ (p : List ℕ). take at d ++ p) (sym (append-assoc s u (drop (n + length u) d)))
-          ∙ ap (λ (k : ℕ). take at d ++ ((s ++ u) ++ drop k d)) e
+      ∙ ap (λ (p : List ℕ). head ++ (u ++ p)) (drop-placed (length u) h)
+      ∙ append-assoc (take at d) s (u ++ drop (n + length u) d)
+      ∙ ap (λ (p : List ℕ). take at d ++ p) (sym (append-assoc s u (drop (n + length u) d)))
+      ∙ ap (λ (k : ℕ). take at d ++ ((s ++ u) ++ drop k d)) e

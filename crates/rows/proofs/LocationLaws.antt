@@ -2,12 +2,12 @@
 -- a location.
 --
 --   fits-zero, fits-above   the two masks mark the locations that go with level 0, and with a level above 0
---   codes-right, code-over  the masks of the binary digits of a code
+--   codes-right, code-under, code-over  the table of codes
 --   allowed-right           ALLOWED and lis say which kinds are allowed
 --   allowed-none            at no location nothing is
 --
 -- Assumes nothing.
-use Prim.Native.Nat.{ℕ, _+_, _*_, _/_, _%_, _^_, _≤_, _<_}
+use Prim.Native.Nat.{ℕ, _+_, _-_, _/_, _%_, _^_, _≤_, _<_}
 use mathlib.Core.Path.{_≡_, refl, sym, ap, _∙_}
 use mathlib.Core.Bool.{Bool, true, false, cond, _&&_, _||_, not, Bool·beq}
 use mathlib.Core.List.{List, [], _∷_}
@@ -15,7 +15,7 @@ use native.Mathlib.Decide.{decLt}
 use native.Mathlib.Omega.{arith}
 use lib.Dec.{eqb, leb, ltb}
 use lib.ListN.{getD}
-use borrow.Author.Tests.{lt-ltb, le-ltb, le-leb, lt-leb, ne-eqb, eqb-true}
+use borrow.Author.Tests.{ltb-true, lt-ltb, le-ltb, le-leb, lt-leb, ne-eqb, eqb-true}
 use Rattle.machine.specs.Words.{STAY, COME, FLICKER, GO, LOOK}
 use Rattle.machine.specs.Tables.{oneOf, locations, levelFits}
 use Rattle.machine.specs.Images.{codeOf}
@@ -55,6 +55,11 @@ module _ (l : ℕ) (h : 41 ≤ l) where
         past 40 (omega arith),
       )
 
+-- below the first
+pub code-under : (l : ℕ) → l < 10 → codeOf l ≡ 8
+unfolding every
+code-under l h = eqb-true (codeOf l) 8 (every-at (λ l. eqb (codeOf l) 8) 10 refl l h)
+
 -- ---- the masks
 
 -- what `marked` computes
@@ -85,15 +90,23 @@ fits-above l v h =
 
 -- ---- the codes
 
--- what the code computes at location l
-abbrev pub codeDigits : ℕ → ℕ
-codeDigits l =
-    1099533647872 / 2 ^ l % 2 + 2 * (1100591661056 / 2 ^ l % 2)
-    + 4 * (1100610535424 / 2 ^ l % 2 + 2 * (18446742973091675135 / 2 ^ l % 2))
+-- the codes of 10 to 40
+abbrev pub codes : List ℕ
+codes =
+    0 ∷ 8 ∷ 8 ∷ 8 ∷ 8 ∷ 8 ∷ 8 ∷ 8 ∷ 8 ∷ 8 ∷ 1 ∷ 2 ∷ 3 ∷ 4 ∷ 5 ∷ 8 ∷ 8 ∷ 8 ∷ 8 ∷ 8
+    ∷ 6 ∷ 8 ∷ 8 ∷ 8 ∷ 8 ∷ 8 ∷ 8 ∷ 8 ∷ 8 ∷ 8 ∷ 7 ∷ []
 
-pub codes-right : (l : ℕ) → l < 64 → codeDigits l ≡ codeOf l
+pub codes-right : (l : ℕ) → 10 ≤ l → l - 10 < 31 → getD codes (l - 10) 0 ≡ codeOf l
 unfolding every
-codes-right l h = eqb-true (codeDigits l) (codeOf l) (every-at (λ l. eqb (codeDigits l) (codeOf l)) 64 refl l h)
+codes-right l h k =
+    let back : l - 10 + 10 ≡ l = omega arith in
+    eqb-true (getD codes (l - 10) 0) (codeOf (l - 10 + 10))
+    (every-at (λ i. eqb (getD codes i 0) (codeOf (i + 10))) 31 refl (l - 10) k)
+    ∙ ap codeOf back
+
+pub codes-low : (i : ℕ) → i < 31 → getD codes i 0 < 256
+unfolding every
+codes-low i h = ltb-true (getD codes i 0) 256 (every-at (λ i. ltb (getD codes i 0) 256) 31 refl i h)
 
 -- ---- the kinds
 

@@ -21,15 +21,41 @@ const LOCATIONS_AT_ZERO: u64 = 0x100_4030_0400;
 // Bit l is set where location l goes with a level above 0: 10, 20 to 24, 40.
 const LOCATIONS_ABOVE_ZERO: u64 = 0x100_01f0_0400;
 
-// The code of each location below 64 in LOCATIONS, a mask for each of its binary digits; a number that
-// is no location has code 8. (A const array of codes would be built anew at every read.)
-const CODE_ONES: u64 = 0x100_0150_0000;
-
-const CODE_TWOS: u64 = 0x100_4060_0000;
-
-const CODE_FOURS: u64 = 0x100_4180_0000;
-
-const CODE_EIGHTS: u64 = 0xffff_feff_be0f_fbff;
+// The code in LOCATIONS of each number from 10 to 40; 8 for one that is no location. Bytes, for a
+// const array is built anew where it is read.
+const CODES: [u8; 31] = [
+    0,
+    8,
+    8,
+    8,
+    8,
+    8,
+    8,
+    8,
+    8,
+    8,
+    1,
+    2,
+    3,
+    4,
+    5,
+    8,
+    8,
+    8,
+    8,
+    8,
+    6,
+    8,
+    8,
+    8,
+    8,
+    8,
+    8,
+    8,
+    8,
+    8,
+    7,
+];
 
 // ---- sound
 
@@ -81,25 +107,18 @@ pub fn competes(r: Row) -> bool
 
 // ---- what is allowed
 
-// Bit l of a mask.
-fn digit(mask: u64, l: u16) -> u64
-    requires { ⌜ l < 64 ⌝ }
-    ensures { λ d. ⌜ d ≡ mask / 2 ^ l % 2 ⌝ }
-{
-    (mask >> l) % 2
-}
-
 // The code of a location, its place among the eight; 8 for a number that is no location.
 pub fn code_of(location: u16) -> u16
     ensures { λ c. ⌜ c ≡ codeOf location ⌝ }
 {
-    let l = location;
-    if 64 <= l {
+    if location < 10 {
         return 8;
     }
-    let low = digit(CODE_ONES, l) + 2 * digit(CODE_TWOS, l);
-    let high = digit(CODE_FOURS, l) + 2 * digit(CODE_EIGHTS, l);
-    (low + 4 * high) as u16
+    let at = (location - 10) as usize;
+    if 31 <= at {
+        return 8;
+    }
+    CODES[at] as u16
 }
 
 // The location of a code.

@@ -24,9 +24,9 @@ appended-then {d} {s} {u} {y} {z} {at} {e} {f} h a b =
     record {
       bytes-are =
           b .bytes-are
-              ∙ ap (λ (l : List ℕ). placed l e u) (a .bytes-are)
-              ∙ ap (λ (k : ℕ). placed (placed d at s) k u) (a .end-is)
-              ∙ placed-then d at s u h;
+          ∙ ap (λ (l : List ℕ). placed l e u) (a .bytes-are)
+          ∙ ap (λ (k : ℕ). placed (placed d at s) k u) (a .end-is)
+          ∙ placed-then d at s u h;
       end-is = omega (arith, a .end-is, b .end-is, length-append s u);
     }
 

@@ -41,8 +41,8 @@ digits-same (suc k) n h = case (digits-same k (n / 10) (tenth (suc k) n h)) (ltb
   case less true e = digits-one (suc (suc k)) n (ltb-true n 10 e) ∙ sym (digits-one (suc k) n (ltb-true n 10 e))
   case less false e =
       digits-more (suc (suc k)) n (ltb-false n 10 e)
-          ∙ ap (λ (l : List ℕ). l ++ ((48 + n % 10) ∷ [])) less
-          ∙ sym (digits-more (suc k) n (ltb-false n 10 e))
+      ∙ ap (λ (l : List ℕ). l ++ ((48 + n % 10) ∷ [])) less
+      ∙ sym (digits-more (suc k) n (ltb-false n 10 e))
 
 -- a number below 10 ^ (k + 1) has at most k + 1 digits
 pub length-digits : (j k n : ℕ) → n < 10 ^ suc k → length (digits j n) ≤ suc k
@@ -64,7 +64,7 @@ decimal-one n h = digits-one 19 n h
 pub decimal-more : (n : ℕ) → n < 2 ^ 32 → 10 ≤ n → decimal n ≡ decimal (n / 10) ++ ((48 + n % 10) ∷ [])
 decimal-more n small h =
     digits-more 19 n h
-        ∙ ap (λ (l : List ℕ). l ++ ((48 + n % 10) ∷ [])) (sym (digits-same 18 (n / 10) (omega arith)))
+    ∙ ap (λ (l : List ℕ). l ++ ((48 + n % 10) ∷ [])) (sym (digits-same 18 (n / 10) (omega arith)))
 
 -- its length
 pub length-decimal-more : (n : ℕ) → n < 2 ^ 32 → 10 ≤ n → length (decimal n) ≡ length (decimal (n / 10)) + 1

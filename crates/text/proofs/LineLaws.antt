@@ -27,7 +27,7 @@ length-last n = ap length (numbers-last n) ∙ length-field n 10
 pub length-next : (n m : ℕ) (ns : List ℕ) → length (numbers (n ∷ m ∷ ns)) ≡ length (decimal n) + 1 + length (numbers (m ∷ ns))
 length-next n m ns =
     ap length (numbers-next n m ns) ∙ length-append (field n 32) (numbers (m ∷ ns))
-        ∙ ap (λ (k : ℕ). k + length (numbers (m ∷ ns))) (length-field n 32)
+    ∙ ap (λ (k : ℕ). k + length (numbers (m ∷ ns))) (length-field n 32)
 
 -- ---- lines of two and of five numbers
 
@@ -44,6 +44,6 @@ numbers-five a b c d e =
 
 pub length-five : (a b c d e : ℕ)
     → length (numbers (a ∷ b ∷ c ∷ d ∷ e ∷ []))
-        ≡ length (decimal a) + length (decimal b) + length (decimal c) + length (decimal d) + length (decimal e) + 5
+    ≡ length (decimal a) + length (decimal b) + length (decimal c) + length (decimal d) + length (decimal e) + 5
 length-five a b c d e =
     omega (arith, length-next a b (c ∷ d ∷ e ∷ []), length-next b c (d ∷ e ∷ []), length-next c d (e ∷ []), length-two d e)

@@ -74,25 +74,25 @@ module _ (ws : List ℕ) where
         → wordsText ws ≡ imageText ++ numbers (place ∷ number ∷ [])
     words-refused number place answer =
         wordsText-refused (λ z. refused-some l number place answer (ap (λ (k : List ℕ). imageRefusal k .refusal) image ∙ z))
-            ∙ ap (λ (n : ℕ). imageText ++ numbers (imageRefusal (imagePart ws) .place ∷ n ∷ []))
-                (ap (λ (k : List ℕ). imageRefusal k .refusal) (sym image) ∙ refused-number l number place answer)
-            ∙ ap (λ (n : ℕ). imageText ++ numbers (n ∷ number ∷ []))
-                (ap (λ (k : List ℕ). imageRefusal k .place) (sym image) ∙ refused-place l number place answer)
+        ∙ ap (λ (n : ℕ). imageText ++ numbers (imageRefusal (imagePart ws) .place ∷ n ∷ []))
+        (ap (λ (k : List ℕ). imageRefusal k .refusal) (sym image) ∙ refused-number l number place answer)
+        ∙ ap (λ (n : ℕ). imageText ++ numbers (n ∷ number ∷ []))
+        (ap (λ (k : List ℕ). imageRefusal k .place) (sym image) ∙ refused-place l number place answer)
 
     pub words-run : (e : List ℕ) (t : Table) → e ≡ eventPart ws → t ≡ tableIn l → imageRefusal l .refusal ≡ 0
         → wordsText ws ≡ tableText t e
     words-run e t events table ok =
         wordsText-run (ap (λ (k : List ℕ). imageRefusal k .refusal) (sym image) ∙ ok)
-            ∙ ap (λ (u : Table). tableText u (eventPart ws)) (sym (table ∙ ap tableIn image))
-            ∙ ap (tableText t) (sym events)
+        ∙ ap (λ (u : Table). tableText u (eventPart ws)) (sym (table ∙ ap tableIn image))
+        ∙ ap (tableText t) (sym events)
 
 -- ---- the bytes of an input
 
 -- three tests in a row, with what is shared taken out
 regrouped : (bad wrong first over lines : List ℕ) (a b c : Bool)
     → _≡_ {A = List ℕ}
-      (elim a [ false ↦ bad | true ↦ elim b [ false ↦ wrong | true ↦ elim c [ false ↦ first ++ over | true ↦ first ++ lines ] ] ])
-      (elim a [ false ↦ bad | true ↦ elim b [ false ↦ wrong | true ↦ first ++ elim c [ false ↦ over | true ↦ lines ] ] ])
+    (elim a [ false ↦ bad | true ↦ elim b [ false ↦ wrong | true ↦ elim c [ false ↦ first ++ over | true ↦ first ++ lines ] ] ])
+    (elim a [ false ↦ bad | true ↦ elim b [ false ↦ wrong | true ↦ first ++ elim c [ false ↦ over | true ↦ lines ] ] ])
 regrouped bad wrong first over lines false b c = refl
 regrouped bad wrong first over lines true false c = refl
 regrouped bad wrong first over lines true true false = refl

@@ -55,17 +55,17 @@ module _ (d : List ℕ) (at : ℕ) (t : Table) (ws y : List ℕ) (u : Table) (e 
         appended = appended-then inside (p .appended) line;
         goes-on =
             append-assoc done (lineOf u i word) (runLines v (i + 1) (drop (i + 1) ws))
-                ∙ ap (λ (k : ℕ). done ++ (lineOf u i word ++ runLines v k (drop k ws))) (add-one i)
-                ∙ ap (λ (a : Table). done ++ (lineOf u i word ++ runLines a (suc i) (drop (suc i) ws))) next
-                ∙ ap (λ (l : List ℕ). done ++ l) (sym (runLines-taken u i word (drop (suc i) ws) taken))
-                ∙ ap (λ (l : List ℕ). done ++ runLines u i l) (sym (drop-cons ws i 0 more))
-                ∙ p .goes-on;
+            ∙ ap (λ (k : ℕ). done ++ (lineOf u i word ++ runLines v k (drop k ws))) (add-one i)
+            ∙ ap (λ (a : Table). done ++ (lineOf u i word ++ runLines a (suc i) (drop (suc i) ws))) next
+            ∙ ap (λ (l : List ℕ). done ++ l) (sym (runLines-taken u i word (drop (suc i) ws) taken))
+            ∙ ap (λ (l : List ℕ). done ++ runLines u i l) (sym (drop-cons ws i 0 more))
+            ∙ p .goes-on;
         room =
             omega (
               arith,
               p .room,
               length-append done (lineOf u i word),
-              length-wordLine u i word (p .sound) few taken
+              length-wordLine u i word (p .sound) few taken,
             );
         sound = ap tableRefusal next ∙ word-keeps-sound u word (p .sound);
         within = omega arith;
@@ -77,8 +77,8 @@ module _ (d : List ℕ) (at : ℕ) (t : Table) (ws y : List ℕ) (u : Table) (e 
   progress-stopped z f more stopped line =
       appended-as
       (ap (λ (l : List ℕ). p .text ++ l) (sym (runLines-stopped u i word (drop (suc i) ws) stopped))
-          ∙ ap (λ (l : List ℕ). p .text ++ runLines u i l) (sym (drop-cons ws i 0 more))
-          ∙ p .goes-on)
+      ∙ ap (λ (l : List ℕ). p .text ++ runLines u i l) (sym (drop-cons ws i 0 more))
+      ∙ p .goes-on)
       (appended-then inside (p .appended) line)
 
   -- no word is left
@@ -87,6 +87,6 @@ module _ (d : List ℕ) (at : ℕ) (t : Table) (ws y : List ℕ) (u : Table) (e 
   progress-done z f all line =
       appended-as
       (ap (λ (l : List ℕ). p .text ++ l) (sym (runLines-done u i))
-          ∙ ap (λ (l : List ℕ). p .text ++ runLines u i l) (sym (ap (λ (k : ℕ). drop k ws) all ∙ drop-length ws))
-          ∙ p .goes-on)
+      ∙ ap (λ (l : List ℕ). p .text ++ runLines u i l) (sym (ap (λ (k : ℕ). drop k ws) all ∙ drop-length ws))
+      ∙ p .goes-on)
       (appended-then inside (p .appended) line)

@@ -43,13 +43,13 @@ module _ (t : Table) (i w : ℕ) where
   runLines-taken ws e =
       let rest = runLines (afterWord t w) (suc i) ws in
       ap (λ (b : Bool). elim b [ true ↦ wordLine t i w ++ rest | false ↦ stopLine ]) e
-          ∙ ap (λ (l : List ℕ). l ++ rest) (sym (lineOf-taken e))
+      ∙ ap (λ (l : List ℕ). l ++ rest) (sym (lineOf-taken e))
 
   pub runLines-stopped : (ws : List ℕ) → takes t w ≡ false → runLines t i (w ∷ ws) ≡ lineOf t i w
   unfolding runLines
   runLines-stopped ws e =
       ap (λ (b : Bool). elim b [ true ↦ wordLine t i w ++ runLines (afterWord t w) (suc i) ws | false ↦ stopLine ]) e
-          ∙ sym (lineOf-stopped e)
+      ∙ sym (lineOf-stopped e)
 
 pub runLines-done : (t : Table) (i : ℕ) → runLines t i [] ≡ doneText ++ numbers (i ∷ [])
 unfolding runLines
@@ -69,10 +69,10 @@ line-is t u i w p before after inside pe be ue ae ie =
     let l = row t q .location in
     let m = row v q .location in
     ap (λ (a : ℕ). numbers (i ∷ a ∷ before ∷ after ∷ inside ∷ [])) pe
-        ∙ ap (λ (a : ℕ). numbers (i ∷ q ∷ a ∷ after ∷ inside ∷ [])) (be ∙ ap (λ (a : ℕ). row t a .location) pe)
-        ∙ ap (λ (a : ℕ). numbers (i ∷ q ∷ l ∷ a ∷ inside ∷ []))
-            (ae ∙ ap (λ (a : ℕ). row u a .location) pe ∙ ap (λ (a : Table). row a q .location) ue)
-        ∙ ap (λ (a : ℕ). numbers (i ∷ q ∷ l ∷ m ∷ a ∷ [])) (ie ∙ ap critical ue)
+    ∙ ap (λ (a : ℕ). numbers (i ∷ q ∷ a ∷ after ∷ inside ∷ [])) (be ∙ ap (λ (a : ℕ). row t a .location) pe)
+    ∙ ap (λ (a : ℕ). numbers (i ∷ q ∷ l ∷ a ∷ inside ∷ []))
+    (ae ∙ ap (λ (a : ℕ). row u a .location) pe ∙ ap (λ (a : Table). row a q .location) ue)
+    ∙ ap (λ (a : ℕ). numbers (i ∷ q ∷ l ∷ m ∷ a ∷ [])) (ie ∙ ap critical ue)
 
 -- ---- the step's answer
 
@@ -127,7 +127,7 @@ length-wordLine t i w sound few e =
       length-digits 20 1 p (omega (arith, says .process-in)),
       length-digits 20 1 (row t p .location) (omega arith),
       length-digits 20 1 (row u p .location) (omega arith),
-      length-digits 20 1 (critical u) (omega arith)
+      length-digits 20 1 (critical u) (omega arith),
     )
 
 -- the last line, with a number of 16 bits

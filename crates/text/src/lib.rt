@@ -3,8 +3,8 @@ pub mod fields; // bytes and numbers
 pub mod lines; // a text and numbers on a line
 pub mod running; // the lines of a run
 
-use images::decoding::read_cells;
 use images::Reading;
+use images::decoding::read_cells;
 use lines::put_one;
 use lines::put_two;
 use running::put_run;
@@ -18,7 +18,14 @@ ghost use Rattle.machine.specs.Text.{stopText, inputText, numbers};
 ghost use Rattle.cells.specs.View.{rowsOf};
 ghost use Rattle.text.specs.Appending.{Appended};
 ghost use Rattle.text.specs.Printing.{
-    firstLine, tableText, wordsText, textRoom, answerTo, bufferAfter, TableReady, InputReady,
+  firstLine,
+  tableText,
+  wordsText,
+  textRoom,
+  answerTo,
+  bufferAfter,
+  TableReady,
+  InputReady,
 };
 
 // A buffer of this many bytes has room for every text.

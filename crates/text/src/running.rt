@@ -1,10 +1,10 @@
 // The lines of a run, put into a lent buffer from place `at` on.
-use cells::access::row_at;
 use crate::lines::put_five;
 use crate::lines::put_one;
 use crate::lines::put_two;
-use steps::stepping::advance;
+use cells::access::row_at;
 use machine::Stepped;
+use steps::stepping::advance;
 ghost use mathlib.Core.Path.{_≡_};
 ghost use mathlib.Core.List.{_∷_, [], _++_};
 ghost use Prim.Native.Nat.{_+_, _≤_};

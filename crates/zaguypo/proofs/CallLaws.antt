@@ -68,13 +68,13 @@ module _ (t : Table) (ws l : List ℕ) where
   unfolding ranCall
   calls-ran u m taken refusal r last size some te re ne me =
       let room : length (bytesOf (imageOf u)) ≡ roomFor t =
-          omega (arith, length-bytesOf (imageOf u), length-image u some) in
+      omega (arith, length-bytesOf (imageOf u), length-image u some) in
       record {
         number-is = ne ∙ ap (λ (a : ℕ). numberOf a refusal) te ∙ ap (numberOf (runFrom t zeroTally ws .tally .words)) re;
         lent-is =
             me ∙ placed-first l (bytesOf (imageOf u))
-                ∙ ap (λ (k : ℕ). bytesOf (imageOf u) ++ drop k l) room
-                ∙ ap (λ (v : Table). bytesOf (imageOf v) ++ drop (roomFor t) l) last;
+            ∙ ap (λ (k : ℕ). bytesOf (imageOf u) ++ drop k l) room
+            ∙ ap (λ (v : Table). bytesOf (imageOf v) ++ drop (roomFor t) l) last;
       }
 
 -- ---- the words of an input, of which i are its image
@@ -95,14 +95,14 @@ module _ (ws l i : List ℕ) (image : i ≡ imagePart ws) where
       → wordsCall ws l ≡ refusedCall l number
   wordsCall-refused number place answer =
       words-by false (ne-eqb _ _ (λ z. refused-some i number place answer (ap found image ∙ z)))
-          ∙ ap (refusedCall l) (ap found (sym image) ∙ refused-number i number place answer)
+      ∙ ap (refusedCall l) (ap found (sym image) ∙ refused-number i number place answer)
 
   pub wordsCall-table : (e : List ℕ) (t : Table) → e ≡ eventPart ws → t ≡ tableIn i → found i ≡ 0
       → wordsCall ws l ≡ tableCall t e l
   wordsCall-table e t events table ok =
       words-by true (eq-eqb _ _ (ap found (sym image) ∙ ok))
-          ∙ ap (λ (u : Table). tableCall u (eventPart ws) l) (sym (table ∙ ap tableIn image))
-          ∙ ap (λ (k : List ℕ). tableCall t k l) (sym events)
+      ∙ ap (λ (u : Table). tableCall u (eventPart ws) l) (sym (table ∙ ap tableIn image))
+      ∙ ap (λ (k : List ℕ). tableCall t k l) (sym events)
 
 -- ---- the bytes of an input
 

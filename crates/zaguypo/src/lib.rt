@@ -1,7 +1,7 @@
 // The run as C calls it: input bytes in, the last image out in lent bytes (include/zaguypo.h).
+use images::Reading;
 use images::decoding::read_cells;
 use images::encoding::write_cells;
-use images::Reading;
 use runs::run_words;
 ghost use mathlib.Core.Path.{_≡_};
 ghost use Prim.Native.Nat.{_≤_, _*_};

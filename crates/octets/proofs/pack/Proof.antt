@@ -34,9 +34,9 @@ next words bytes i h =
     let s = bytesOf (take i words) in
     let e : 4 * i ≡ 0 + length s = omega (arith, length-bytesOf (take i words), length-take-le i words (omega arith)) in
     ap (λ (k : ℕ). placed (placed bytes 0 s) k (bytesOf (getD words i 0 ∷ []))) e
-        ∙ placed-then bytes 0 s (bytesOf (getD words i 0 ∷ [])) (omega arith)
-        ∙ ap (placed bytes 0) (sym (bytesOf-append (take i words) (getD words i 0 ∷ [])) ∙ ap bytesOf (sym (take-suc words i 0 h)))
-        ∙ ap (after words bytes) (sym (add-one i))
+    ∙ placed-then bytes 0 s (bytesOf (getD words i 0 ∷ [])) (omega arith)
+    ∙ ap (placed bytes 0) (sym (bytesOf-append (take i words) (getD words i 0 ∷ [])) ∙ ap bytesOf (sym (take-suc words i 0 h)))
+    ∙ ap (after words bytes) (sym (add-one i))
 
 loop-holds : tie.Need-loop-holds Inv-loop μ-loop
 unfolding bytesOf
@@ -64,8 +64,7 @@ loop-again : tie.Need-loop-again Inv-loop μ-loop
 loop-again c =
     let a = c .before .before .before .before .before .before .before .before .before .args in
     let l = c .before .before .before .before .before .before .loop in
-    let i = l .i in
-    (
+    let i = l .i in (
       omega arith,
       c .before .before .put-word .kept .0 ∙ l .inv .1,
       c .before .before .put-word .ensures
@@ -82,7 +81,7 @@ returns c =
     let l = c .before .loop in
     let past : l .i ≡ length (a .words .now) = omega arith in
     l .inv .2 ∙ ap (after (a .words .now) (a .bytes .now)) past
-        ∙ ap (λ (ws : List ℕ). placed (a .bytes .now) 0 (bytesOf ws)) (take-length (a .words .now))
+    ∙ ap (λ (ws : List ℕ). placed (a .bytes .now) 0 (bytesOf ws)) (take-length (a .words .now))
 
 pub pack-spec : {M : Type 1} → statement M
 pack-spec =

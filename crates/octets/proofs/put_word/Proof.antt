@@ -58,7 +58,7 @@ returns c =
     let fourth : at + 3 ≡ suc (suc (suc at)) = omega arith in
     rw (second, third, fourth)
     (sets-eq bytes (c .args .bytes .now) at (c .pre)
-        ∙ append-assoc (take at (c .args .bytes .now)) bytes (drop (at + 4) (c .args .bytes .now)))
+    ∙ append-assoc (take at (c .args .bytes .now)) bytes (drop (at + 4) (c .args .bytes .now)))
 
 pub put-word-spec : {M : Type 1} → statement M
 put-word-spec =

@@ -46,11 +46,11 @@ next bytes words i h room =
     let fourth : fours i + 3 ≡ suc (suc (suc (fours i))) = omega arith in
     rw (first, second, third, fourth)
     (ap (set (after bytes words i) i) (sym (getD-wordsIn i bytes (omega arith)))
-        ∙ placed-one (after bytes words i) i (getD ws i 0) (omega arith)
-        ∙ ap (λ (k : ℕ). placed (after bytes words i) k (getD ws i 0 ∷ [])) (omega arith)
-        ∙ placed-then words 0 (take i ws) (getD ws i 0 ∷ []) (omega arith)
-        ∙ ap (placed words 0) (sym (take-suc ws i 0 (omega arith)))
-        ∙ ap (after bytes words) (sym (add-one i)))
+    ∙ placed-one (after bytes words i) i (getD ws i 0) (omega arith)
+    ∙ ap (λ (k : ℕ). placed (after bytes words i) k (getD ws i 0 ∷ [])) (omega arith)
+    ∙ placed-then words 0 (take i ws) (getD ws i 0 ∷ []) (omega arith)
+    ∙ ap (placed words 0) (sym (take-suc ws i 0 (omega arith)))
+    ∙ ap (after bytes words) (sym (add-one i)))
 
 loop-holds : tie.Need-loop-holds Inv-loop μ-loop
 loop-holds c = (omega arith, refl, sym (placed-none (c .before .before .args .words .now) 0))
@@ -98,8 +98,7 @@ loop-again : tie.Need-loop-again Inv-loop μ-loop
 loop-again c =
     let a = c .before .before .before .before .before .before .before .before .before .args in
     let l = c .before .before .before .before .before .before .loop in
-    let i = l .i in
-    (
+    let i = l .i in (
       omega arith,
       length-set (l .words) i (c .word-of .result) ∙ l .inv .1,
       ap (set (l .words) i) (c .word-of .ensures)
@@ -115,8 +114,7 @@ returns c =
     let a = c .before .before .before .before .args in
     let l = c .before .loop in
     let ws = wordsIn (a .bytes .now) in
-    let past : l .i ≡ length ws = omega (arith, length-wordsIn (a .bytes .now)) in
-    (
+    let past : l .i ≡ length ws = omega (arith, length-wordsIn (a .bytes .now)) in (
       refl,
       l .inv .2 ∙ ap (after (a .bytes .now) (a .words .now)) past ∙ ap (placed (a .words .now) 0) (take-length ws),
     )

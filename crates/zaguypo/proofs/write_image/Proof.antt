@@ -77,8 +77,8 @@ returns c =
     let put = c .before .before .before .before .before .before .write-cells in
     let all = 5 * length x in
     let words : take all (put .last .1 .0) ≡ imageOf (rowsOf x) =
-        ap (take all) (put .ensures)
-            ∙ take-at (imageOf (rowsOf x)) _ all (length-image (rowsOf x) (omega (arith, facts .0)) ∙ omega arith) in
+    ap (take all) (put .ensures)
+    ∙ take-at (imageOf (rowsOf x)) _ all (length-image (rowsOf x) (omega (arith, facts .0)) ∙ omega arith) in
     c .before .before .pack .ensures ∙ ap (λ (l : List ℕ). placed (start .args .image .now) 0 (bytesOf l)) words
 
 pub write-image-spec : {M : Type 1} → statement M

@@ -48,7 +48,7 @@ put-number-put-byte-requires : (t : ℕ) → put-number-lts.Need-put-byte-requir
   put-number-below t,
   put-number.Post,
 ) (put-number-at t) put-number.Post
-put-number-put-byte-requires t c κs = 
+put-number-put-byte-requires t c κs =
     let a = c .before .before .before .before .args in
     omega (arith, ap length (decimal-one (a .n) (c .before .before .if1 .taken)))
 
@@ -70,7 +70,7 @@ put-number-returns : (t : ℕ) → put-number-lts.Need-returns (
   put-number-below t,
   put-number.Post,
 ) (put-number-at t) put-number.Post
-put-number-returns t c = 
+put-number-returns t c =
     let n = c .before .before .before .before .before .before .before .args .n in
     appended-as
     (ap (λ (b : ℕ). b ∷ []) (c .before .before .before .digit .ensures) ∙ sym (decimal-one n (c .before .before .before .before .before .if1 .taken)))
@@ -84,7 +84,7 @@ put-number-put-number-requires : (t : ℕ) → put-number-lts.Need-put-number-re
   put-number-below t,
   put-number.Post,
 ) (put-number-at t) put-number.Post
-put-number-put-number-requires t c κs = 
+put-number-put-number-requires t c κs =
     let a = c .before .before .before .args in
     let more = length-decimal-more (a .n) (c .before .before .before .fits .n .fits) (c .before .if1 .left) in
     (omega arith, omega arith)
@@ -107,7 +107,7 @@ put-number-put-byte-requires-2 : (t : ℕ) → put-number-lts.Need-put-byte-requ
   put-number-below t,
   put-number.Post,
 ) (put-number-at t) put-number.Post
-put-number-put-byte-requires-2 t c κs = 
+put-number-put-byte-requires-2 t c κs =
     let start = c .before .before .before .before .before .before .before .before in
     let more = length-decimal-more (start .args .n) (start .fits .n .fits) (c .before .before .before .before .before .before .if1 .left) in
     let put = c .before .before .before .before .put-number in
@@ -131,12 +131,12 @@ put-number-returns-2 : (t : ℕ) → put-number-lts.Need-returns-2 (
   put-number-below t,
   put-number.Post,
 ) (put-number-at t) put-number.Post
-put-number-returns-2 t c = 
+put-number-returns-2 t c =
     let start = c .before .before .before .before .before .before .before .before .before .before .before in
     let n = start .args .n in
     appended-as
     (ap (λ (b : ℕ). decimal (n / 10) ++ (b ∷ [])) (c .before .before .before .digit2 .ensures)
-        ∙ sym (decimal-more n (start .fits .n .fits) (c .before .before .before .before .before .before .before .before .before .if1 .left)))
+    ∙ sym (decimal-more n (start .fits .n .fits) (c .before .before .before .before .before .before .before .before .before .if1 .left)))
     (appended-then (omega arith) (c .before .before .before .before .before .before .before .put-number .ensures) (c .before .before .put-byte2 .ensures))
 
 pub +put-number-spec : {M : Type 1} → statement M

@@ -31,10 +31,10 @@ next out at s i room h =
     let count = length-take-le i s (omega arith) in
     let inside = length-placed out at (take i s) (omega arith) in
     placed-one (after out at s i) (at + i) (getD s i 0) (omega arith)
-        ∙ ap (λ (k : ℕ). placed (after out at s i) (at + k) (getD s i 0 ∷ [])) (sym count)
-        ∙ placed-then out at (take i s) (getD s i 0 ∷ []) (omega arith)
-        ∙ ap (placed out at) (sym (take-suc s i 0 h))
-        ∙ ap (after out at s) (sym (add-one i))
+    ∙ ap (λ (k : ℕ). placed (after out at s i) (at + k) (getD s i 0 ∷ [])) (sym count)
+    ∙ placed-then out at (take i s) (getD s i 0 ∷ []) (omega arith)
+    ∙ ap (placed out at) (sym (take-suc s i 0 h))
+    ∙ ap (after out at s) (sym (add-one i))
 
 loop-holds : tie.Need-loop-holds Inv-loop μ-loop
 loop-holds c = (omega arith, refl, sym (placed-none (c .args .out .now) (c .args .at)))
@@ -58,8 +58,7 @@ loop-again : tie.Need-loop-again Inv-loop μ-loop
 loop-again c =
     let a = c .before .before .before .args in
     let l = c .before .before .loop in
-    let b = getD (a .s .now) (l .i) 0 in
-    (
+    let b = getD (a .s .now) (l .i) 0 in (
       omega arith,
       length-set (l .out) (a .at + l .i) b ∙ l .inv .1,
       ap (λ (d : List ℕ). set d (a .at + l .i) b) (l .inv .2)
@@ -80,7 +79,7 @@ returns c =
     record {
       bytes-are =
           l .inv .2 ∙ ap (after (a .out .now) (a .at) (a .s .now)) past
-              ∙ ap (placed (a .out .now) (a .at)) (take-length (a .s .now));
+          ∙ ap (placed (a .out .now) (a .at)) (take-length (a .s .now));
       end-is = omega arith;
     }
 

@@ -74,7 +74,7 @@ returns c =
     let w = getD (a .words .now) (l .i) 0 in
     let is = c .before .last .given .1 in
     progress-stopped (a .out .now) (a .at) (rowsOf (a .cells .now)) (a .words .now) (l .out) (rowsOf (l .cells)) (l .end) (l .i) (l .inv .0)
-        (omega (arith, start .pre .room))
+    (omega (arith, start .pre .room))
     (put .last .0) _ (omega arith) (sym (put .ensures .taken-is) ∙ ap goesOn is)
     (rw is at (put .ensures .appended))
 
@@ -91,14 +91,13 @@ loop-again c =
     let l = c .before .before .before .before .before .before .before .before .before .before .before .loop in
     let put = c .before .before .before .before .before .before .put-word in
     let w = getD (a .words .now) (l .i) 0 in
-    let is = c .before .next .given .1 in
-    (
+    let is = c .before .next .given .1 in (
       progress-taken (a .out .now) (a .at) (rowsOf (a .cells .now)) (a .words .now) (l .out) (rowsOf (l .cells)) (l .end) (l .i) (l .inv .0)
-        (omega (arith, start .pre .room))
-      (put .last .0) (rowsOf (put .last .1 .1 .0)) _ (omega arith) (omega (arith, start .pre .few))
-      (sym (put .ensures .taken-is) ∙ ap goesOn is)
-      (put .ensures .becomes .rows-are)
-      (rw is at (put .ensures .appended)),
+          (omega (arith, start .pre .room))
+          (put .last .0) (rowsOf (put .last .1 .1 .0)) _ (omega arith) (omega (arith, start .pre .few))
+          (sym (put .ensures .taken-is) ∙ ap goesOn is)
+          (put .ensures .becomes .rows-are)
+          (rw is at (put .ensures .appended)),
       put .kept .0 ∙ l .inv .1,
       put .kept .1 .1 .0 ∙ l .inv .2,
     )
@@ -126,7 +125,7 @@ returns-2 c =
     let l = c .before .before .before .before .before .loop in
     let all : l .i ≡ length (a .words .now) = omega (arith, l .inv .0 .within) in
     progress-done (a .out .now) (a .at) (rowsOf (a .cells .now)) (a .words .now) (l .out) (rowsOf (l .cells)) (l .end) (l .i) (l .inv .0)
-        (omega (arith, start .pre .room))
+    (omega (arith, start .pre .room))
     _ _ all (c .before .before .put-done .ensures)
 
 pub put-run-spec : {M : Type 1} → statement M

@@ -64,16 +64,16 @@ put-five-requires c κs =
     let step = c .before .before .before .before .before .before .before .before .advance in
     let taken = moved-takes (rowsOf x) w _ (sym (step .ensures .answer-is) ∙ c .before .before .before .before .before .enum-told .given .1) in
     let line =
-        line-is (rowsOf x) (rowsOf (step .last .0)) i w
-        (c .before .before .before .before .before .before .before .before .before .before .before .before .process-of .result)
-        (c .before .before .before .before .before .before .before .before .before .before .location-at .result)
-        (c .before .before .before .location-at2 .result)
-        (c .before .count-critical .result)
-        (c .before .before .before .before .before .before .before .before .before .before .before .before .process-of .ensures)
-        (c .before .before .before .before .before .before .before .before .before .before .location-at .ensures)
-        (step .ensures .becomes .rows-are)
-        (c .before .before .before .location-at2 .ensures)
-        (c .before .count-critical .ensures) in
+    line-is (rowsOf x) (rowsOf (step .last .0)) i w
+    (c .before .before .before .before .before .before .before .before .before .before .before .before .process-of .result)
+    (c .before .before .before .before .before .before .before .before .before .before .location-at .result)
+    (c .before .before .before .location-at2 .result)
+    (c .before .count-critical .result)
+    (c .before .before .before .before .before .before .before .before .before .before .before .before .process-of .ensures)
+    (c .before .before .before .before .before .before .before .before .before .before .location-at .ensures)
+    (step .ensures .becomes .rows-are)
+    (c .before .before .before .location-at2 .ensures)
+    (c .before .count-critical .ensures) in
     omega (arith, ap length line, length-wordLine (rowsOf x) i w (start .pre .sound) (start .pre .few) taken, start .pre .room)
 
 enum-known-why : tie.Need-enum-known-why
@@ -106,16 +106,16 @@ returns c =
     let step = c .before .before .before .before .before .before .before .before .before .before .before .advance in
     let taken = moved-takes (rowsOf x) w _ (sym (step .ensures .answer-is) ∙ c .before .before .before .before .before .before .before .before .enum-told .given .1) in
     let line =
-        line-is (rowsOf x) (rowsOf (step .last .0)) i w
-        (c .before .before .before .before .before .before .before .before .before .before .before .before .before .before .before .process-of .result)
-        (c .before .before .before .before .before .before .before .before .before .before .before .before .before .location-at .result)
-        (c .before .before .before .before .before .before .location-at2 .result)
-        (c .before .before .before .before .count-critical .result)
-        (c .before .before .before .before .before .before .before .before .before .before .before .before .before .before .before .process-of .ensures)
-        (c .before .before .before .before .before .before .before .before .before .before .before .before .before .location-at .ensures)
-        (step .ensures .becomes .rows-are)
-        (c .before .before .before .before .before .before .location-at2 .ensures)
-        (c .before .before .before .before .count-critical .ensures) in
+    line-is (rowsOf x) (rowsOf (step .last .0)) i w
+    (c .before .before .before .before .before .before .before .before .before .before .before .before .before .before .before .process-of .result)
+    (c .before .before .before .before .before .before .before .before .before .before .before .before .before .location-at .result)
+    (c .before .before .before .before .before .before .location-at2 .result)
+    (c .before .before .before .before .count-critical .result)
+    (c .before .before .before .before .before .before .before .before .before .before .before .before .before .before .before .process-of .ensures)
+    (c .before .before .before .before .before .before .before .before .before .before .before .before .before .location-at .ensures)
+    (step .ensures .becomes .rows-are)
+    (c .before .before .before .before .before .before .location-at2 .ensures)
+    (c .before .before .before .before .count-critical .ensures) in
     record {
       becomes = step .ensures .becomes;
       taken-is = sym taken;
