@@ -112,7 +112,7 @@ pub enum Stepped {
     Refused(u16),
 }
 
-// What went along with a run: words taken, COMEs, arrivals at 30.
+// The tally of a run, counters of its events: words taken, COMEs, arrivals at 30.
 #[repr(C)]
 pub struct Tally {
     pub words: u32,
@@ -135,7 +135,7 @@ pub struct Ran {
     pub refusal: u32,
 }
 
-// The figures of a table, for each k from 0 to N; what stands past N is 0. Where the table is
+// The census, the counts of a table, for each k from 0 to N; what stands past N is 0. Where the table is
 // refused there are no figures: all are 0.
 #[repr(C)]
 pub struct Census {

@@ -8,10 +8,10 @@ use borrow.Author.Tests.{ne-eqb, lt-ltb, le-ltb}
 use Rattle.machine.specs.Rows.{withLocation}
 use Rattle.machine.specs.Tables.{Table, row, competitors}
 use Rattle.machine.specs.Words.{STAY, COME, FLICKER, GO, LOOK, kindOf, processOf, argumentOf, formed}
-use Rattle.machine.specs.Steps.{goRow, entered, passed, pushed, turned, forgets, looked, flickered, gone, moved}
+use Rattle.machine.specs.Steps.{goRow, entered, passed, reconsidered, pushed, turned, forgets, looked, flickered, gone, moved}
 use Rattle.machine.specs.Steps.{allowed, argumentFits, wordRefusal}
 use Rattle.machine.specs.declared.Row.{Row}
-use Rattle.machine.proofs.Forms.{gone-20, gone-21, gone-24}
+use Rattle.machine.proofs.Forms.{gone-20, gone-21, gone-23, gone-24}
 use Rattle.cells.specs.View.{rowsOf}
 use Rattle.cells.proofs.ViewLaws.{rows-length}
 
@@ -30,7 +30,7 @@ module _ (t : Table) (p : ℕ) where
   abbrev pub ownPut : Table
   ownPut = set t p (goRow (length t) p 0 (row t (row t p .level) .turn) (row t p))
 
-  -- at 22, 23 and 40 GO does no more
+  -- at 22 and 40, and at 23, GO does no more
   pub gone-own : (row t p .location ≡ 20 → ⊥)
       → (row t p .location ≡ 24 → ⊥)
       → (row t p .location ≡ 30 → ⊥)
@@ -64,6 +64,14 @@ module _ (x : List (List ℕ)) (p : ℕ) (r s : Row) (own : r ≡ row (rowsOf x)
       let d = ap (λ (m : ℕ). entered (length t) p m r) k in
       ap (set t p) (h ∙ n ∙ d ∙ ap (entered (length t) p (competitors t)) own)
       ∙ sym (gone-20 t p (ap (λ (q : Row). q .location) (sym own) ∙ e))
+
+  pub put-reconsidered : (v : ℕ) → r .location ≡ 23 → v ≡ row (rowsOf x) (r .level) .turn → s ≡ reconsidered p v r
+      → set (rowsOf x) p s ≡ gone (rowsOf x) p
+  put-reconsidered v e k h =
+      let t = rowsOf x in
+      let d = ap (λ (m : ℕ). reconsidered p m r) k in
+      ap (set t p) (h ∙ d ∙ ap (λ (q : Row). reconsidered p (row t (q .level) .turn) q) own)
+      ∙ sym (gone-23 t p (ap (λ (q : Row). q .location) (sym own) ∙ e))
 
   pub put-pushed : (c : ℕ) → r .location ≡ 24 → c ≡ competitors (rowsOf x) → s ≡ pushed (length x) p c r
       → turned (r .level) p (set (rowsOf x) p s) ≡ gone (rowsOf x) p

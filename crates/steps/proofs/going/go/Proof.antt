@@ -8,7 +8,7 @@ use Rattle.machine.specs.Tables.{row}
 use Rattle.machine.specs.Steps.{forgets, turned}
 use Rattle.machine.specs.declared.Row.{Row}
 use Rattle.cells.specs.View.{rowsOf}
-use Rattle.steps.proofs.MoveLaws.{put-passed, put-entered, put-pushed, put-own, gone-own, gone-leaves, ownPut}
+use Rattle.steps.proofs.MoveLaws.{put-passed, put-entered, put-reconsidered, put-pushed, put-own, gone-own, gone-leaves, ownPut}
 use Rattle.steps.proofs.EventLaws.{quiet-elsewhere, quiet-above, arrives}
 use borrow.Author.Needs.{needs}
 use Rattle.steps.proofs.going.go.Statement.{statement}
@@ -24,6 +24,7 @@ use Rattle.rows.proofs.entered.Reads as entered-reads
 use Rattle.rows.proofs.go_row.Reads as go-row-reads
 use Rattle.rows.proofs.passed.Reads as passed-reads
 use Rattle.rows.proofs.pushed.Reads as pushed-reads
+use Rattle.rows.proofs.reconsidered.Reads as reconsidered-reads
 
 cast-n : tie.Need-cast-n
 cast-n c = search needs
@@ -148,55 +149,80 @@ row-at-requires-2 : tie.Need-row-at-requires-2
 row-at-requires-2 c κs =
     subst (λ (q : Row). q .level < length (c .before .before .before .before .before .before .before .args .cells .now)) (sym (c .before .before .before .before .before .row-at .ensures)) (c .before .before .before .before .before .before .before .pre .low)
 
-go-row-requires : tie.Need-go-row-requires
-go-row-requires c κs = search needs
+reconsidered-requires : tie.Need-reconsidered-requires
+reconsidered-requires c κs = search needs
 
 put-row-requires-4 : tie.Need-put-row-requires-4
 put-row-requires-4 c κs = search needs
 
-forget-requires : tie.Need-forget-requires
-forget-requires c κs = search needs
-
 same-length-5 : tie.Need-same-length-5
 same-length-5 c = search needs
 
--- the row of p is put
-puts : (c : tie.After-put-row4) → rowsOf (c .put-row4 .last .0) ≡ ownPut (rowsOf (c .before .before .before .before .before .before .before .before .before .before .before .args .cells .now)) (c .before .before .before .before .before .before .before .before .before .before .before .args .p)
-puts c =
-    c .put-row4 .ensures .rows-are
-    ∙ put-own (c .before .before .before .before .before .before .before .before .before .before .before .args .cells .now) (c .before .before .before .before .before .before .before .before .before .before .before .args .p) _ _ (c .before .before .before .before .before .before .before .before .before .row-at .ensures) _ (ap (λ (q : Row). q .turn) (c .before .before .before .row-at2 .ensures)) (c .before .go-row .ensures)
-
 returns-5 : tie.Need-returns-5
 returns-5 c =
-    let x = c .before .before .before .before .before .before .before .before .before .before .before .before .before .before .before .before .args .cells .now in
-    let p = c .before .before .before .before .before .before .before .before .before .before .before .before .before .before .before .before .args .p in
-    let own = c .before .before .before .before .before .before .before .before .before .before .before .before .before .before .row-at .ensures in
-    let there = ap (λ (q : Row). q .location) (sym own) ∙ c .before .before .before .if5 .taken in
+    let x = c .before .before .before .before .before .before .before .before .before .before .before .before .before .args .cells .now in
+    let p = c .before .before .before .before .before .before .before .before .before .before .before .before .before .args .p in
+    let own = c .before .before .before .before .before .before .before .before .before .before .before .row-at .ensures in
     record {
-      event-is = sym (quiet-elsewhere (row (rowsOf x) p) (λ z. c .before .before .before .before .before .before .before .before .before .before .before .before .before .if1 .left (ap (λ (q : Row). q .location) own ∙ z)));
+      event-is = sym (quiet-elsewhere (row (rowsOf x) p) (λ z. c .before .before .before .before .before .before .before .before .before .before .if1 .left (ap (λ (q : Row). q .location) own ∙ z)));
       becomes =
           record {
-            rows-are = c .before .forget .ensures .rows-are ∙ ap (map (forgets p)) (puts (c .before .before .before .before .before)) ∙ sym (gone-leaves (rowsOf x) p there);
-            size-is = c .before .forget .ensures .size-is ∙ c .before .before .before .before .before .put-row4 .ensures .size-is;
+            rows-are =
+                c .before .put-row4 .ensures .rows-are
+                ∙ put-reconsidered x p _ _ own _ (c .before .before .before .before .if5 .taken) (ap (λ (q : Row). q .turn) (c .before .before .before .before .before .row-at2 .ensures)) (c .before .before .reconsidered .ensures);
+            size-is = c .before .put-row4 .ensures .size-is;
           };
     }
+
+go-row-requires : tie.Need-go-row-requires
+go-row-requires c κs = search needs
+
+put-row-requires-5 : tie.Need-put-row-requires-5
+put-row-requires-5 c κs = search needs
+
+forget-requires : tie.Need-forget-requires
+forget-requires c κs = search needs
 
 same-length-6 : tie.Need-same-length-6
 same-length-6 c = search needs
 
+-- the row of p is put
+puts : (c : tie.After-put-row5) → rowsOf (c .put-row5 .last .0) ≡ ownPut (rowsOf (c .before .before .before .before .before .before .before .before .before .before .before .before .args .cells .now)) (c .before .before .before .before .before .before .before .before .before .before .before .before .args .p)
+puts c =
+    c .put-row5 .ensures .rows-are
+    ∙ put-own (c .before .before .before .before .before .before .before .before .before .before .before .before .args .cells .now) (c .before .before .before .before .before .before .before .before .before .before .before .before .args .p) _ _ (c .before .before .before .before .before .before .before .before .before .before .row-at .ensures) _ (ap (λ (q : Row). q .turn) (c .before .before .before .before .row-at2 .ensures)) (c .before .go-row .ensures)
+
 returns-6 : tie.Need-returns-6
 returns-6 c =
-    let x = c .before .before .before .before .before .before .before .before .before .before .before .before .before .args .cells .now in
-    let p = c .before .before .before .before .before .before .before .before .before .before .before .before .before .args .p in
-    let at = ap (λ (q : Row). q .location) (c .before .before .before .before .before .before .before .before .before .before .before .row-at .ensures) in
+    let x = c .before .before .before .before .before .before .before .before .before .before .before .before .before .before .before .before .before .args .cells .now in
+    let p = c .before .before .before .before .before .before .before .before .before .before .before .before .before .before .before .before .before .args .p in
+    let own = c .before .before .before .before .before .before .before .before .before .before .before .before .before .before .before .row-at .ensures in
+    let there = ap (λ (q : Row). q .location) (sym own) ∙ c .before .before .before .if6 .taken in
     record {
-      event-is = sym (quiet-elsewhere (row (rowsOf x) p) (λ z. c .before .before .before .before .before .before .before .before .before .before .if1 .left (at ∙ z)));
+      event-is = sym (quiet-elsewhere (row (rowsOf x) p) (λ z. c .before .before .before .before .before .before .before .before .before .before .before .before .before .before .if1 .left (ap (λ (q : Row). q .location) own ∙ z)));
+      becomes =
+          record {
+            rows-are = c .before .forget .ensures .rows-are ∙ ap (map (forgets p)) (puts (c .before .before .before .before .before)) ∙ sym (gone-leaves (rowsOf x) p there);
+            size-is = c .before .forget .ensures .size-is ∙ c .before .before .before .before .before .put-row5 .ensures .size-is;
+          };
+    }
+
+same-length-7 : tie.Need-same-length-7
+same-length-7 c = search needs
+
+returns-7 : tie.Need-returns-7
+returns-7 c =
+    let x = c .before .before .before .before .before .before .before .before .before .before .before .before .before .before .args .cells .now in
+    let p = c .before .before .before .before .before .before .before .before .before .before .before .before .before .before .args .p in
+    let at = ap (λ (q : Row). q .location) (c .before .before .before .before .before .before .before .before .before .before .before .before .row-at .ensures) in
+    record {
+      event-is = sym (quiet-elsewhere (row (rowsOf x) p) (λ z. c .before .before .before .before .before .before .before .before .before .before .before .if1 .left (at ∙ z)));
       becomes =
           record {
             rows-are =
                 puts (c .before .before)
-                ∙ sym (gone-own (rowsOf x) p (λ z. c .before .before .before .before .before .before .before .before .before .if3 .left (at ∙ z)) (λ z. c .before .before .before .before .before .before .before .before .if4 .left (at ∙ z)) (λ z. c .if5 .left (at ∙ z)));
-            size-is = c .before .before .put-row4 .ensures .size-is;
+                ∙ sym (gone-own (rowsOf x) p (λ z. c .before .before .before .before .before .before .before .before .before .before .if3 .left (at ∙ z)) (λ z. c .before .before .before .before .before .before .before .before .before .if4 .left (at ∙ z)) (λ z. c .if6 .left (at ∙ z)));
+            size-is = c .before .before .put-row5 .ensures .size-is;
           };
     }
 
@@ -226,10 +252,14 @@ go-spec =
     returns-4
     cast-row-at
     row-at-requires-2
-    go-row-requires
+    reconsidered-requires
     put-row-requires-4
-    forget-requires
     same-length-5
     returns-5
+    go-row-requires
+    put-row-requires-5
+    forget-requires
     same-length-6
-    returns-6)
+    returns-6
+    same-length-7
+    returns-7)
