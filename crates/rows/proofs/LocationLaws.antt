@@ -3,11 +3,11 @@
 --
 --   fits-zero, fits-above   the two masks mark the locations that go with level 0, and with a level above 0
 --   codes-right, code-under, code-over  the table of codes
---   allowed-right           ALLOWED and lis say which kinds are allowed
---   allowed-none            at no location nothing is
+--   places-right            the masks made of ALLOWED and LOCATIONS say where each kind is listed
+--   allowed-look, ..        .. and with lis they are `allowed`
 --
 -- Assumes nothing.
-use Prim.Native.Nat.{ℕ, _+_, _-_, _/_, _%_, _^_, _≤_, _<_}
+use Prim.Native.Nat.{ℕ, _+_, _-_, _*_, _/_, _%_, _^_, _≤_, _<_}
 use mathlib.Core.Path.{_≡_, refl, sym, ap, _∙_}
 use mathlib.Core.Bool.{Bool, true, false, cond, _&&_, _||_, not, Bool·beq}
 use mathlib.Core.List.{List, [], _∷_}
@@ -21,6 +21,7 @@ use Rattle.machine.specs.Tables.{oneOf, locations, levelFits}
 use Rattle.machine.specs.Images.{codeOf}
 use Rattle.machine.specs.Steps.{allowed}
 use Rattle.machine.specs.declared.Row.{Row}
+use Rattle.rows.specs.Places.{kinds, placeOf, placesOf}
 use Rattle.rows.proofs.TestLaws.{every, every-at, same-at, beq-true}
 
 -- ---- past the last location
@@ -110,38 +111,34 @@ codes-low i h = ltb-true (getD codes i 0) 256 (every-at (λ i. ltb (getD codes i
 
 -- ---- the kinds
 
-abbrev kinds : List ℕ
-kinds = 6 ∷ 24 ∷ 16 ∷ 48 ∷ 16 ∷ 24 ∷ 16 ∷ 24 ∷ []
+-- a location fits a mask of 64 bits
+pub location-low : (i : ℕ) → i < 8 → getD locations i 0 < 64
+unfolding every
+location-low i h = ltb-true (getD locations i 0) 64 (every-at (λ i. ltb (getD locations i 0) 64) 8 refl i h)
 
--- what the code computes at location l of code i, where e says that lis is empty
-abbrev pub may : ℕ → ℕ → Bool → ℕ → Bool
-may i k e l =
-    eqb (getD kinds i 0 / 2 ^ k % 2) 1 && (not (eqb l 22) || eqb k GO && e || eqb k LOOK && not e)
+-- no bit is lost where a location is put into a mask
+pub place-exact : (i k : ℕ) → i < 8 → k < 16 → getD kinds i 0 / 2 ^ k % 2 * 2 ^ getD locations i 0 % 2 ^ 64 ≡ placeOf i k
+unfolding every
+place-exact i k h j =
+    eqb-true (placeOf i k % 2 ^ 64) (placeOf i k)
+    (every-at (λ k. eqb (placeOf i k % 2 ^ 64) (placeOf i k)) 16 (every-at (λ i. every (λ k. eqb (placeOf i k % 2 ^ 64) (placeOf i k)) 16) 8 refl i h) k j)
 
--- `allowed` as it depends on lis through e alone
-abbrev allows : ℕ → Bool → ℕ → Bool
-allows k e l =
+-- the locations at which kind k is allowed, whatever lis is
+abbrev pub listed : ℕ → ℕ → Bool
+listed k l =
     cond (eqb k STAY) (eqb l 10)
     (cond (eqb k COME) (eqb l 10)
     (cond (eqb k FLICKER) (oneOf l (20 ∷ 40 ∷ 24 ∷ []))
-    (cond (eqb k GO) (oneOf l (20 ∷ 21 ∷ 23 ∷ 24 ∷ 30 ∷ 40 ∷ []) || (eqb l 22 && e))
-    (cond (eqb k LOOK) (eqb l 22 && not e)
+    (cond (eqb k GO) (oneOf l (20 ∷ 21 ∷ 22 ∷ 23 ∷ 24 ∷ 30 ∷ 40 ∷ []))
+    (cond (eqb k LOOK) (eqb l 22)
     false))))
-
-abbrev right : ℕ → Bool → ℕ → Bool
-right k e l = Bool·beq (ltb (codeOf l) 8 && may (codeOf l) k e l) (allows k e l)
-
-kinds-right : (k : ℕ) (e : Bool) (l : ℕ) → k < 16 → l < 41 → right k e l ≡ true
-unfolding every
-kinds-right k true l hk hl = every-at (right k true) 41 (every-at (λ k. every (right k true) 41) 16 refl k hk) l hl
-kinds-right k false l hk hl = every-at (right k false) 41 (every-at (λ k. every (right k false) 41) 16 refl k hk) l hl
 
 cond-false : (b : Bool) → cond b false false ≡ false
 cond-false true = refl
 cond-false false = refl
 
-allows-over : (k : ℕ) (e : Bool) (l : ℕ) → 41 ≤ l → allows k e l ≡ false
-allows-over k e l h =
+listed-over : (k l : ℕ) → 41 ≤ l → listed k l ≡ false
+listed-over k l h =
     simp (
       past l h 10 (omega arith),
       past l h 20 (omega arith),
@@ -154,25 +151,87 @@ allows-over k e l h =
       cond-false,
     )
 
--- a code of 8 is no location's
-decided : (k : ℕ) (e : Bool) (l : ℕ) → k < 16 → (ltb (codeOf l) 8 && may (codeOf l) k e l) ≡ allows k e l
-decided k e l hk = go (decLt l 41)
+-- the masks are right, by one test over all kinds and locations
+pub places-right : (k l : ℕ) → k < 16 → marks (placesOf k) l ≡ listed k l
+unfolding every
+places-right k l hk = go (decLt l 64)
   where
-    go : Dec (l < 41) → (ltb (codeOf l) 8 && may (codeOf l) k e l) ≡ allows k e l
-    go (yes h) = beq-true (ltb (codeOf l) 8 && may (codeOf l) k e l) (allows k e l) (kinds-right k e l hk h)
-    go (no h) =
+    go : Dec (l < 64) → marks (placesOf k) l ≡ listed k l
+    go (yes h) =
+        same-at (marks (placesOf k)) (listed k) 64
+        (every-at (λ k. every (λ l. Bool·beq (marks (placesOf k) l) (listed k l)) 64) 16 refl k hk) l h
+    go (no h) = simp (le-ltb l 64 (omega (arith, h)), listed-over k l (omega (arith, h)))
+
+-- GO where it is listed, at 22 only if lis is empty, as e says; and what `allowed` says
+abbrev goes : Bool → ℕ → Bool
+goes e l = listed GO l && (not (eqb l 22) || e)
+
+abbrev may-go : Bool → ℕ → Bool
+may-go e l = oneOf l (20 ∷ 21 ∷ 23 ∷ 24 ∷ 30 ∷ 40 ∷ []) || (eqb l 22 && e)
+
+go-at : (e : Bool) (l : ℕ) → goes e l ≡ may-go e l
+unfolding every
+go-at e l = go e (decLt l 64)
+  where
+    go : (e : Bool) → Dec (l < 64) → goes e l ≡ may-go e l
+    go true (yes h) = same-at (goes true) (may-go true) 64 refl l h
+    go false (yes h) = same-at (goes false) (may-go false) 64 refl l h
+    go e (no h) =
         let far : 41 ≤ l = omega (arith, h) in
-        ap (λ (i : ℕ). ltb i 8 && may i k e l) (code-over l far) ∙ sym (allows-over k e l far)
+        simp (
+          past l far 20 (omega arith),
+          past l far 21 (omega arith),
+          past l far 22 (omega arith),
+          past l far 23 (omega arith),
+          past l far 24 (omega arith),
+          past l far 30 (omega arith),
+          past l far 40 (omega arith),
+        )
 
-module _ (k : ℕ) (r : Row) (i : ℕ) (hk : k < 16) (code : i ≡ codeOf (r .location)) where
-  decided-at : (ltb i 8 && may i k (eqb (r .lis) 0) (r .location)) ≡ allowed k r
+-- ---- what the code computes is `allowed`; m is the mask of the kind
+
+module _ (k m : ℕ) (r : Row) where
+  pub allowed-look : k ≡ LOOK → m ≡ placesOf LOOK → (marks m (r .location) && not (eqb (r .lis) 0)) ≡ allowed k r
   unfolding allowed
-  decided-at =
-      ap (λ (x : ℕ). ltb x 8 && may x k (eqb (r .lis) 0) (r .location)) code
-      ∙ decided k (eqb (r .lis) 0) (r .location) hk
+  allowed-look e f =
+      ap (λ (x : ℕ). marks x (r .location) && not (eqb (r .lis) 0)) f
+      ∙ ap (λ (b : Bool). b && not (eqb (r .lis) 0)) (places-right LOOK (r .location) (omega arith))
+      ∙ sym (ap (λ (x : ℕ). allowed x r) e)
 
-  pub allowed-right : i < 8 → may i k (eqb (r .lis) 0) (r .location) ≡ allowed k r
-  allowed-right h = sym (ap (λ (b : Bool). b && may i k (eqb (r .lis) 0) (r .location)) (lt-ltb i 8 h)) ∙ decided-at
+  pub allowed-go : k ≡ GO
+      → m ≡ placesOf GO
+      → (marks m (r .location) && (not (eqb (r .location) 22) || eqb (r .lis) 0)) ≡ allowed k r
+  unfolding allowed
+  allowed-go e f =
+      ap (λ (x : ℕ). marks x (r .location) && (not (eqb (r .location) 22) || eqb (r .lis) 0)) f
+      ∙ ap (λ (b : Bool). b && (not (eqb (r .location) 22) || eqb (r .lis) 0)) (places-right GO (r .location) (omega arith))
+      ∙ go-at (eqb (r .lis) 0) (r .location)
+      ∙ sym (ap (λ (x : ℕ). allowed x r) e)
 
-  pub allowed-none : 8 ≤ i → false ≡ allowed k r
-  allowed-none h = sym (ap (λ (b : Bool). b && may i k (eqb (r .lis) 0) (r .location)) (le-ltb i 8 h)) ∙ decided-at
+  pub allowed-flicker : k ≡ FLICKER → m ≡ placesOf FLICKER → marks m (r .location) ≡ allowed k r
+  unfolding allowed
+  allowed-flicker e f =
+      ap (λ (x : ℕ). marks x (r .location)) f
+      ∙ places-right FLICKER (r .location) (omega arith)
+      ∙ sym (ap (λ (x : ℕ). allowed x r) e)
+
+  pub allowed-come : k ≡ COME → m ≡ placesOf COME → marks m (r .location) ≡ allowed k r
+  unfolding allowed
+  allowed-come e f =
+      ap (λ (x : ℕ). marks x (r .location)) f
+      ∙ places-right COME (r .location) (omega arith)
+      ∙ sym (ap (λ (x : ℕ). allowed x r) e)
+
+  pub allowed-rest : (k ≡ LOOK → ⊥) → (k ≡ GO → ⊥) → (k ≡ FLICKER → ⊥) → (k ≡ COME → ⊥)
+      → m ≡ placesOf STAY
+      → (eqb k STAY && marks m (r .location)) ≡ allowed k r
+  unfolding allowed
+  allowed-rest a b d e f =
+      ap (λ (x : ℕ). eqb k STAY && marks x (r .location)) f
+      ∙ ap (λ (b : Bool). eqb k STAY && b) (places-right STAY (r .location) (omega arith))
+      ∙ only (eqb k STAY) (eqb (r .location) 10)
+      ∙ sym (rw (ne-eqb k LOOK a, ne-eqb k GO b, ne-eqb k FLICKER d, ne-eqb k COME e) refl)
+    where
+      only : (s b : Bool) → (s && b) ≡ cond s b false
+      only true b = refl
+      only false b = refl

@@ -14,6 +14,7 @@ ghost use Rattle.machine.specs.Images.{codeOf};
 ghost use Rattle.machine.specs.Steps.{entered, passed, looked, reconsidered, pushed, goRow};
 ghost use Rattle.machine.specs.Steps.{forgets, allowed, argumentFits};
 ghost use Rattle.rows.specs.Bounds.{Full};
+ghost use Rattle.rows.specs.Places.{Coded, placeOf, placesOf};
 
 // Bit l is set where location l goes with level 0: 10, 20, 21, 30, 40.
 const LOCATIONS_AT_ZERO: u64 = 0x100_4030_0400;
@@ -129,33 +130,59 @@ pub fn location_of(code: u16) -> u16
     machine::LOCATIONS[code as usize]
 }
 
-// Whether a kind of word is allowed at a row. At 22 both GO and LOOK are, and lis decides.
+// The location of a code where a kind of word is allowed there, as a mask: bit l stands for
+// location l.
+fn place(code: usize, kind: u16) -> u64
+    requires { ⌜ Coded code kind ⌝ }
+    ensures { λ m. ⌜ m ≡ placeOf code kind ⌝ }
+{
+    (((machine::ALLOWED[code] >> kind) % 2) as u64) << machine::LOCATIONS[code]
+}
+
+// The locations at which a kind of word is allowed, as a mask. The compiler computes it where the
+// kind is a constant; an array that is indexed by a variable would be built anew at every word.
+fn places(kind: u16) -> u64
+    requires { ⌜ kind < 16 ⌝ }
+    ensures { λ m. ⌜ m ≡ placesOf kind ⌝ }
+{
+    let low = (place(0, kind) + place(1, kind)) + (place(2, kind) + place(3, kind));
+    let high = (place(4, kind) + place(5, kind)) + (place(6, kind) + place(7, kind));
+    low + high
+}
+
+// Whether a kind of word is allowed at a row, the frequent kinds first. At 22 both GO and LOOK are,
+// and lis decides.
 pub fn allowed(kind: u16, r: Row) -> bool
     requires { ⌜ kind < 16 ⌝ }
     ensures { λ b. ⌜ b ≡ allowed kind r ⌝ }
 {
-    let code = code_of(r.location) as usize;
-    if 8 <= code {
-        return false;
+    if kind == machine::LOOK {
+        return marked(places(machine::LOOK), r.location) & (r.lis != 0);
     }
-    ((machine::ALLOWED[code] >> kind) % 2 == 1)
-        & ((r.location != 22)
-            | ((kind == machine::GO) & (r.lis == 0))
-            | ((kind == machine::LOOK) & (r.lis != 0)))
+    if kind == machine::GO {
+        return marked(places(machine::GO), r.location) & ((r.location != 22) | (r.lis == 0));
+    }
+    if kind == machine::FLICKER {
+        return marked(places(machine::FLICKER), r.location);
+    }
+    if kind == machine::COME {
+        return marked(places(machine::COME), r.location);
+    }
+    (kind == machine::STAY) & marked(places(machine::STAY), r.location)
 }
 
 // Whether `a` is an argument of a kind of word at a row.
 pub fn argument_fits(n: u16, kind: u16, r: Row, a: u16) -> bool
     ensures { λ b. ⌜ b ≡ argumentFits n kind r a ⌝ }
 {
+    if kind == machine::LOOK {
+        return sets::has(r.lis, a);
+    }
     if kind == machine::FLICKER {
         if r.location == 24 {
             return a < n;
         }
         return a < 2;
-    }
-    if kind == machine::LOOK {
-        return sets::has(r.lis, a);
     }
     a == 0
 }
