@@ -1,6 +1,6 @@
 # make run     build the printing program and run it on the example, or on INPUT=file
 # make test    prove every crate, try every must-fail edit, run every test; last line: N passed, 0 failed
-# make lib     target/staticlib/libzaguypo.a, for C; include/zaguypo.h declares it
+# make lib     target/staticlib/libzaguypo.a, liblent.a and libcensus.a, for C; include/zaguypo.h declares them
 # make bench   ns a word, a step, an image, .. beside a plain Rust engine, with ratios
 # make fuzz    compare with the Rust engine until SECONDS=600 have passed
 # make fmt     lay out every .rt and .antt file
@@ -17,8 +17,8 @@ test:
 	@tests/all
 
 lib:
-	@tests/need rt
-	@rt staticlib zaguypo
+	@tests/libraries
+	@ls target/staticlib/*.a
 
 bench:
 	@tests/compare bench
