@@ -17,10 +17,10 @@ pub fn check(cells: &[[u16; 8]]) -> u16
     if 16 < n {
         return machine::WRONG_SIZE;
     }
-    let full = rows::full_set(n as u16);
+    let full = rows::sound::full_set(n as u16);
     let mut q = 0;
     while q < n {
-        if !rows::sound_row(n as u16, full, q as u16, row_at(cells, q)) {
+        if !rows::sound::sound_row(n as u16, full, q as u16, row_at(cells, q)) {
             return machine::UNSOUND_ROW;
         }
         q += 1;

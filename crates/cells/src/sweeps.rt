@@ -18,7 +18,7 @@ pub fn competitors(cells: &[[u16; 8]]) -> u16
     let mut s: u16 = 0;
     let mut q = 0;
     while q < n {
-        if rows::competes(row_at(cells, q)) {
+        if rows::sound::competes(row_at(cells, q)) {
             s += 1 << q;
         }
         q += 1;
@@ -35,7 +35,7 @@ pub fn forget(cells: &mut [[u16; 8]], p: u16)
     let n = cells.len();
     let mut q = 0;
     while q < n {
-        let r = rows::forgets(p, row_at(cells, q));
+        let r = rows::moves::forgets(p, row_at(cells, q));
         put_row(cells, q, r);
         q += 1;
     }

@@ -39,14 +39,14 @@ fn is_waiting(r: Row) -> bool
 fn is_below(k: u16, r: Row) -> bool
     ensures { λ b. ⌜ b ≡ isBelow k r ⌝ }
 {
-    rows::competes(r) & (r.level < k)
+    rows::sound::competes(r) & (r.level < k)
 }
 
 // Whether it does, or competes elsewhere than at 24 with fewer than k members in ahead.
 fn is_held(k: u16, r: Row) -> bool
     ensures { λ b. ⌜ b ≡ isHeld k r ⌝ }
 {
-    rows::competes(r) & ((r.level < k) | ((r.location != 24) & (sets::size(r.ahead) < k)))
+    rows::sound::competes(r) & ((r.level < k) | ((r.location != 24) & (sets::size(r.ahead) < k)))
 }
 
 // Whether a figure counts a row.

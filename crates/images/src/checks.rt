@@ -38,7 +38,7 @@ fn state_refusal(n: u16, q: u16, w: u32) -> u16
     if !((code < 8) & (level < n)) {
         return OUT_OF_RANGE;
     }
-    if !level_fits(rows::location_of(code), level) {
+    if !level_fits(rows::codes::location_of(code), level) {
         return LEVEL_MISFIT;
     }
     0

@@ -20,7 +20,7 @@ fn row_of(a: u32, b: u32, c: u32, d: u32, turn: u16) -> Row
     ensures { λ r. ⌜ r ≡ rowOfWords a b c d turn ⌝ }
 {
     Row {
-        location: rows::location_of(((a >> 12) % 16) as u16),
+        location: rows::codes::location_of(((a >> 12) % 16) as u16),
         act: ((a >> 9) % 2) as u16,
         bb: ((a >> 8) % 2) as u16,
         level: (a % 256) as u16,
@@ -72,7 +72,7 @@ fn read_rows(words: &[u32], cells: &mut [[u16; 8]], n: u16) -> Found
     requires { ⌜ n ≤ length (now cells) ⌝ }
     ensures { λ f. ⌜ RowsRead (now (words .entry)) n (now (cells .entry)) (now (cells .exit)) f ⌝ }
 {
-    let full = rows::full_set(n);
+    let full = rows::sound::full_set(n);
     let mut q: u16 = 0;
     while q < n {
         let f = read_row(words, cells, n, full, q);

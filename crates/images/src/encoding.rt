@@ -21,7 +21,7 @@ fn state_body(r: Row) -> u16
     requires { ⌜ Packable r ⌝ }
     ensures { λ b. ⌜ b ≡ bodyOf STATE r ⌝ }
 {
-    rows::code_of(r.location) * 4096 + r.act * 512 + r.bb * 256 + r.level
+    rows::codes::code_of(r.location) * 4096 + r.act * 512 + r.bb * 256 + r.level
 }
 
 // The four words of process q.

@@ -21,7 +21,8 @@ use Rattle.machine.proofs.TestLaws.{and-left, or-cases, split, by-one}
 use Rattle.machine.proofs.TableLaws.{row-same, row-map, turn-free}
 use Rattle.machine.proofs.Forms.{gone-20, gone-21, gone-22, gone-23, gone-24, gone-30, gone-40}
 use Rattle.machine.proofs.Accepted.{word-says, says-accepted, accepted-moved}
-use Rattle.steps.specs.Moves.{goEvent, kindEvent}
+use Rattle.cells.specs.View.{rowsOf}
+use Rattle.steps.specs.Moves.{goEvent, kindEvent, Gone, Goes}
 
 -- ---- GO at a row
 
@@ -29,7 +30,7 @@ and-no : (a : Bool) → (a && false) ≡ false
 and-no true = refl
 and-no false = refl
 
-pub quiet-elsewhere : (r : Row) → (r .location ≡ 21 → ⊥) → goEvent r ≡ Event.Quiet
+quiet-elsewhere : (r : Row) → (r .location ≡ 21 → ⊥) → goEvent r ≡ Event.Quiet
 quiet-elsewhere r ne = rw (ne-eqb (r .location) 21 ne) refl
 
 pub quiet-above : (r : Row) → (r .level ≡ 0 → ⊥) → goEvent r ≡ Event.Quiet
@@ -37,6 +38,10 @@ quiet-above r ne = rw (ne-eqb (r .level) 0 ne, and-no (eqb (r .location) 21)) re
 
 pub arrives : (r : Row) → r .location ≡ 21 → r .level ≡ 0 → goEvent r ≡ Event.Arrival
 arrives r e z = rw (e, z) refl
+
+pub quiet-goes : (x : List (List ℕ)) (p : ℕ) (y : List (List ℕ)) → (row (rowsOf x) p .location ≡ 21 → ⊥) → Gone x p y
+    → Goes x p y Event.Quiet
+quiet-goes x p y ne b = record { event-is = sym (quiet-elsewhere (row (rowsOf x) p) ne); becomes = b }
 
 -- ---- the event of two locations
 

@@ -1,4 +1,5 @@
--- Laws of the moves, of their events, and of the step.
+-- Laws of the moves, of their events, of a kind taken, and of the step.
 pub mod MoveLaws
 pub mod EventLaws
+pub mod TakeLaws
 pub mod StepLaws

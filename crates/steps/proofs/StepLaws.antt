@@ -1,25 +1,23 @@
--- The step of cells: a refused word leaves them, an accepted one can move and moves. Assumes nothing.
-use Prim.Native.Nat.{ℕ, _≤_, _<_}
+-- The step of cells: what is taken of a word that names a process, and words and tables that are refused. Assumes nothing.
+use Prim.Native.Nat.{ℕ, _^_, _≤_, _<_}
 use mathlib.Core.Path.{_≡_, refl, sym, ap, subst, _∙_}
-use mathlib.Core.Bool.{Bool, true, false, false≢true}
+use mathlib.Core.Bool.{Bool, true, false, cond}
 use mathlib.Core.List.{List}
-use native.Mathlib.Decide.{decLt}
 use native.Mathlib.Omega.{arith}
+use lib.Dec.{eqb, leb}
 use lib.ListN.{length}
-use borrow.Author.Tests.{eq-eqb, ne-eqb}
-use Rattle.counting.specs.Sets.{has}
-use Rattle.counting.proofs.SetLaws.{has-over}
+use borrow.Author.Tests.{eq-eqb, ne-eqb, eqb-true, leb-true, lt-ltb, le-ltb}
 use Rattle.machine.specs.Tables.{Table, row, tableRefusal}
-use Rattle.machine.specs.Words.{LOOK, kindOf, processOf, argumentOf}
-use Rattle.machine.specs.Steps.{argumentFits, wordRefusal, refusalOf, eventOf, answerOf}
-use Rattle.machine.specs.declared.Row.{Row}
+use Rattle.machine.specs.Words.{kindOf, processOf, argumentOf, isKind, spareClear, formed}
+use Rattle.machine.specs.Steps.{moved, wordRefusal, refusalOf, afterWord, eventOf, answerOf}
 use Rattle.machine.specs.declared.Event.{Event}
 use Rattle.machine.specs.declared.Stepped.{Stepped}
+use Rattle.machine.proofs.TestLaws.{and-left, and-right, split}
 use Rattle.machine.proofs.SoundRows.{SoundRow, sound-row, sound-few}
-use Rattle.machine.proofs.Accepted.{Says, word-says, says-accepted, accepted-moved, refused-same}
+use Rattle.machine.proofs.Accepted.{refused-same}
 use Rattle.cells.specs.View.{rowsOf}
 use Rattle.cells.proofs.ViewLaws.{rows-length}
-use Rattle.steps.specs.Moves.{Movable, Moves, Steps}
+use Rattle.steps.specs.Moves.{kindEvent, refusalAt, Ready, Takes, Steps}
 use Rattle.steps.proofs.EventLaws.{event-told}
 
 -- ---- the refusal and the answer
@@ -31,22 +29,32 @@ module _ (t : Table) (w : ℕ) where
   refusal-table ne = rw (ne-eqb (tableRefusal t) 0 ne) refl
 
   -- a sound table leaves it to the word
-  pub refusal-word : tableRefusal t ≡ 0 → refusalOf t w ≡ wordRefusal t w
+  refusal-word : tableRefusal t ≡ 0 → refusalOf t w ≡ wordRefusal t w
   unfolding refusalOf
   refusal-word z = rw (eq-eqb (tableRefusal t) 0 z) refl
+
+  refused-kind : formed w ≡ false → wordRefusal t w ≡ 8
+  unfolding wordRefusal
+  refused-kind f = rw f refl
+
+  module _ (f : formed w ≡ true) where
+    refused-process : length t ≤ processOf w → wordRefusal t w ≡ 9
+    unfolding wordRefusal
+    refused-process k = rw (f, le-ltb (processOf w) (length t) k) refl
+
+    refused-at : processOf w < length t → wordRefusal t w ≡ refusalAt t (kindOf w) (processOf w) (argumentOf w)
+    unfolding wordRefusal
+    refused-at k = rw (f, lt-ltb (processOf w) (length t) k) refl
 
   answer-refused : (refusalOf t w ≡ 0 → ⊥) → answerOf t w ≡ Stepped.Refused (refusalOf t w)
   unfolding answerOf
   answer-refused ne = rw (ne-eqb (refusalOf t w) 0 ne) refl
 
-  answer-moved : refusalOf t w ≡ 0 → answerOf t w ≡ Stepped.Moved (eventOf t w)
-  unfolding answerOf
-  answer-moved z = rw (eq-eqb (refusalOf t w) 0 z) refl
-
--- LOOK is at a member of lis
-look-member : (n k a : ℕ) (r : Row) → k ≡ LOOK → argumentFits n k r a ≡ true → has (r .lis) a ≡ true
-unfolding argumentFits
-look-member n k a r e h = subst (λ (m : ℕ). argumentFits n m r a ≡ true) e h
+-- a formed word is of one of the five kinds
+pub formed-kind : (w : ℕ) → formed w ≡ true → (1 ≤ kindOf w) × (kindOf w ≤ 5)
+formed-kind w f =
+    let k = and-left (isKind (kindOf w)) (spareClear w) f in
+    (leb-true _ _ (and-left (leb 1 (kindOf w)) (leb (kindOf w) 5) k), leb-true _ _ (and-right (leb 1 (kindOf w)) (leb (kindOf w) 5) k))
 
 -- ---- the step of cells
 
@@ -64,52 +72,70 @@ module _ (x : List (List ℕ)) (w : ℕ) where
         becomes = record { rows-are = sym (refused-same (rowsOf x) w ne); size-is = refl };
       }
 
-  module _ (z : tableRefusal (rowsOf x) ≡ 0) (y : wordRefusal (rowsOf x) w ≡ 0) where
-    says : Says (rowsOf x) w
-    says = word-says (rowsOf x) w y
+  module _ (z : tableRefusal (rowsOf x) ≡ 0) where
+    -- a word of no kind
+    pub kind-steps : formed w ≡ false → Steps x w x (Stepped.Refused 8)
+    kind-steps f =
+        refused-steps 8 (sym (refusal-word (rowsOf x) w z ∙ refused-kind (rowsOf x) w f)) (λ z. absurd (omega (arith, z)))
 
-    own-sound : SoundRow (length (rowsOf x)) (processOf w) (row (rowsOf x) (processOf w))
-    own-sound = sound-row (rowsOf x) z (processOf w) (says .process-in)
+    -- a process that is not there
+    pub process-steps : formed w ≡ true → length x ≤ processOf w → Steps x w x (Stepped.Refused 9)
+    process-steps f k =
+        let l = subst (λ (m : ℕ). m ≤ processOf w) (sym (rows-length x)) k in
+        refused-steps 9 (sym (refusal-word (rowsOf x) w z ∙ refused-process (rowsOf x) w f l)) (λ z. absurd (omega (arith, z)))
 
-    -- a member of lis is a process
-    member-in : kindOf w ≡ LOOK → argumentOf w < length (rowsOf x)
-    member-in e = go (decLt (argumentOf w) (length (rowsOf x)))
-      where
-        go : Dec (argumentOf w < length (rowsOf x)) → argumentOf w < length (rowsOf x)
-        go (yes k) = k
-        go (no k) =
-            let n = length (rowsOf x) in
-            let r = row (rowsOf x) (processOf w) in
-            absurd (false≢true (sym (has-over (r .lis) n (argumentOf w) (own-sound .lis-low) (omega (arith, k)))
-            ∙ look-member n (kindOf w) (argumentOf w) r e (says .argument-fits)))
-
-    pub movable : Movable x (kindOf w) (processOf w) (argumentOf w)
-    movable =
+    pub ready : (p : ℕ) → p < length x → Ready x p
+    ready p k =
         let n = rows-length x in
+        let own = sound-row (rowsOf x) z p (subst (λ (m : ℕ). p < m) (sym n) k) in
         record {
-          ready =
-              record {
-                one = subst (λ (m : ℕ). processOf w < m) n (says .process-in);
-                few = subst (λ (m : ℕ). m ≤ 16) n (sound-few (rowsOf x) z);
-                low = subst (λ (m : ℕ). row (rowsOf x) (processOf w) .level < m) n (own-sound .level-low);
-              };
-          first = says .kind-first;
-          last = says .kind-last;
-          seen = λ e. subst (λ (m : ℕ). argumentOf w < m) n (member-in e);
+          one = k;
+          few = subst (λ (m : ℕ). m ≤ 16) n (sound-few (rowsOf x) z);
+          low = subst (λ (m : ℕ). row (rowsOf x) p .level < m) n (own .level-low);
+          listed = subst (λ (m : ℕ). row (rowsOf x) p .lis < 2 ^ m) n (own .lis-low);
         }
 
-    pub moved-steps : (v : List (List ℕ)) (e : Event)
-        → Moves x (kindOf w) (processOf w) (argumentOf w) v e
-        → Steps x w v (Stepped.Moved e)
-    moved-steps v e m =
-        let acc = says-accepted (rowsOf x) w z says in
-        record {
-          answer-is =
-              ap (λ (g : Event). Stepped.Moved g) (m .event-is ∙ sym (event-told (rowsOf x) w z y))
-              ∙ sym (answer-moved (rowsOf x) w acc);
-          becomes =
-              record {
-                rows-are = m .becomes .rows-are ∙ sym (accepted-moved (rowsOf x) w acc);
-                size-is = m .becomes .size-is;
-              };
-        }
+    module _ (f : formed w ≡ true) (k : processOf w < length x) where
+      abbrev refusal : ℕ
+      refusal = refusalAt (rowsOf x) (kindOf w) (processOf w) (argumentOf w)
+
+      word-refusal : wordRefusal (rowsOf x) w ≡ refusal
+      word-refusal = refused-at (rowsOf x) w f (subst (λ (m : ℕ). processOf w < m) (sym (rows-length x)) k)
+
+      told : refusal ≡ 0 → eventOf (rowsOf x) w ≡ kindEvent (kindOf w) (row (rowsOf x) (processOf w))
+      told e = event-told (rowsOf x) w z (word-refusal ∙ e)
+
+      answer-taken : answerOf (rowsOf x) w
+          ≡ cond (eqb refusal 0) (Stepped.Moved (kindEvent (kindOf w) (row (rowsOf x) (processOf w))))
+          (Stepped.Refused refusal)
+      unfolding answerOf
+      answer-taken =
+          ap (λ (m : ℕ). cond (eqb m 0) (Stepped.Moved (eventOf (rowsOf x) w)) (Stepped.Refused m))
+          (refusal-word (rowsOf x) w z ∙ word-refusal)
+          ∙ split (λ b. (eqb refusal 0 ≡ b)
+          → cond b (Stepped.Moved (eventOf (rowsOf x) w)) (Stepped.Refused refusal)
+          ≡ cond b (Stepped.Moved (kindEvent (kindOf w) (row (rowsOf x) (processOf w)))) (Stepped.Refused refusal))
+          (eqb refusal 0)
+          (λ _ h. ap (λ (g : Event). Stepped.Moved g) (told (eqb-true refusal 0 h)))
+          (λ _ h. refl)
+          refl
+
+      table-taken : afterWord (rowsOf x) w
+          ≡ cond (eqb refusal 0) (moved (rowsOf x) (kindOf w) (processOf w) (argumentOf w)) (rowsOf x)
+      unfolding afterWord
+      table-taken =
+          ap (λ (m : ℕ). cond (eqb m 0) (moved (rowsOf x) (kindOf w) (processOf w) (argumentOf w)) (rowsOf x))
+          (refusal-word (rowsOf x) w z ∙ word-refusal)
+
+      -- a word that names a process is its kind, taken
+      pub taken-steps : (y : List (List ℕ)) (s : Stepped) → Takes x (kindOf w) (processOf w) (argumentOf w) y s
+          → Steps x w y s
+      taken-steps y s m =
+          record {
+            answer-is = m .answer-is ∙ sym answer-taken;
+            becomes =
+                record {
+                  rows-are = m .becomes .rows-are ∙ sym table-taken;
+                  size-is = m .becomes .size-is;
+                };
+          }

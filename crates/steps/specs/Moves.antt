@@ -3,21 +3,24 @@
 --   lookedAt t p q    ==   the table after LOOK of process p at q.
 --   goEvent r         ==   the event of GO at a row, read before the step.
 --   kindEvent k r     ==   the event of an allowed kind at a row, read before the step.
+--   refusalAt t k p a ==   the refusal of kind k with argument a at the row of process p, or 0.
 --   Ready x p         <=>  process p of the cells x can move: what a sound table gives.
---   Movable x k p a   <=>  and kind k with argument a is one of the five.
---   Goes, Moves       <=>  the cells x have become y by GO, or by kind k, with event e.
+--   At x p l          <=>  and it is at location l; Free: and GO is allowed; Asked, Resting: and kind k is one of those.
+--   Gone, Goes, Moves <=>  the cells x have become y by GO, by GO with event e, by kind k with event e.
+--   Takes x k p a y s <=>  kind k with argument a made y of the cells x and answered s.
 --   Steps x w y s     <=>  the step of word w made y of the cells x and answered s.
 --
 -- Assumes nothing.
-use Prim.Native.Nat.{ℕ, _≤_, _<_}
+use Prim.Native.Nat.{ℕ, _^_, _≤_, _<_}
 use mathlib.Core.Path.{_≡_}
-use mathlib.Core.Bool.{cond, _&&_}
+use mathlib.Core.Bool.{true, cond, _&&_, not}
 use mathlib.Core.List.{List}
 use lib.Dec.{eqb}
 use lib.ListN.{length, set}
+use Rattle.machine.specs.Refusals.{accepted, notAllowed, badArgument}
 use Rattle.machine.specs.Tables.{Table, row}
-use Rattle.machine.specs.Words.{COME, GO, LOOK}
-use Rattle.machine.specs.Steps.{looked, gone, moved, afterWord, answerOf}
+use Rattle.machine.specs.Words.{COME, GO}
+use Rattle.machine.specs.Steps.{looked, gone, moved, allowed, argumentFits, afterWord, answerOf}
 use Rattle.machine.specs.declared.Row.{Row}
 use Rattle.machine.specs.declared.Event.{Event}
 use Rattle.machine.specs.declared.Stepped.{Stepped}
@@ -35,28 +38,57 @@ goEvent r = cond (eqb (r .location) 21 && eqb (r .level) 0) Event.Arrival Event.
 abbrev pub kindEvent : ℕ → Row → Event
 kindEvent k r = cond (eqb k COME) Event.Come (cond (eqb k GO) (goEvent r) Event.Quiet)
 
+-- ---- what refuses a kind
+
+-- the part of `wordRefusal` that asks the row: 10, then 11
+abbrev pub refusalAt : Table → ℕ → ℕ → ℕ → ℕ
+refusalAt t k p a =
+    cond (not (allowed k (row t p))) notAllowed
+    (cond (not (argumentFits (length t) k (row t p) a)) badArgument accepted)
+
 -- ---- what the inner functions require
 
 pub record Ready (x : List (List ℕ)) (p : ℕ) : Type 0 where
   pub one : p < length x
   pub few : length x ≤ 16
   pub low : row (rowsOf x) p .level < length x
+  pub listed : row (rowsOf x) p .lis < 2 ^ length x
 
-pub record Movable (x : List (List ℕ)) (k p a : ℕ) : Type 0 where
+pub record At (x : List (List ℕ)) (p l : ℕ) : Type 0 where
+  pub ready : Ready x p
+  pub there : row (rowsOf x) p .location ≡ l
+
+pub record Free (x : List (List ℕ)) (p : ℕ) : Type 0 where
+  pub ready : Ready x p
+  pub may-go : allowed GO (row (rowsOf x) p) ≡ true
+
+pub record Asked (x : List (List ℕ)) (k p : ℕ) : Type 0 where
+  pub ready : Ready x p
+  pub last : k ≤ 5
+
+pub record Resting (x : List (List ℕ)) (k p : ℕ) : Type 0 where
   pub ready : Ready x p
   pub first : 1 ≤ k
-  pub last : k ≤ 5
-  pub seen : k ≡ LOOK → a < length x
+  pub last : k ≤ 2
 
 -- ---- what the functions ensure
 
+abbrev pub Gone : List (List ℕ) → ℕ → List (List ℕ) → Type 0
+Gone x p y = Becomes x (gone (rowsOf x) p) y
+
 pub record Goes (x : List (List ℕ)) (p : ℕ) (y : List (List ℕ)) (e : Event) : Type 0 where
   pub event-is : e ≡ goEvent (row (rowsOf x) p)
-  pub becomes : Becomes x (gone (rowsOf x) p) y
+  pub becomes : Gone x p y
 
 pub record Moves (x : List (List ℕ)) (k p a : ℕ) (y : List (List ℕ)) (e : Event) : Type 0 where
   pub event-is : e ≡ kindEvent k (row (rowsOf x) p)
   pub becomes : Becomes x (moved (rowsOf x) k p a) y
+
+pub record Takes (x : List (List ℕ)) (k p a : ℕ) (y : List (List ℕ)) (s : Stepped) : Type 0 where
+  pub answer-is : s
+      ≡ cond (eqb (refusalAt (rowsOf x) k p a) accepted) (Stepped.Moved (kindEvent k (row (rowsOf x) p)))
+      (Stepped.Refused (refusalAt (rowsOf x) k p a))
+  pub becomes : Becomes x (cond (eqb (refusalAt (rowsOf x) k p a) accepted) (moved (rowsOf x) k p a) (rowsOf x)) y
 
 pub record Steps (x : List (List ℕ)) (w : ℕ) (y : List (List ℕ)) (s : Stepped) : Type 0 where
   pub answer-is : s ≡ answerOf (rowsOf x) w

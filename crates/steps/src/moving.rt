@@ -1,14 +1,12 @@
-// What an allowed word does. The event is a constant of each branch.
-use crate::going::go;
+// FLICKER and LOOK of a process, where they are allowed.
 use cells::access::put_row;
 use cells::access::row_at;
 use cells::access::turn_to;
-use machine::Event;
 ghost use Prim.Native.Nat.{_<_, _≤_};
 ghost use lib.ListN.{length};
 ghost use Rattle.machine.specs.Steps.{flickered};
 ghost use Rattle.cells.specs.View.{rowsOf, Becomes};
-ghost use Rattle.steps.specs.Moves.{lookedAt, Ready, Movable, Moves};
+ghost use Rattle.steps.specs.Moves.{lookedAt, Ready};
 
 // FLICKER of process p: at 24 the turn cell of its level becomes `a`, elsewhere its act.
 pub fn flicker(cells: &mut [[u16; 8]], p: u16, a: u16)
@@ -21,7 +19,7 @@ pub fn flicker(cells: &mut [[u16; 8]], p: u16, a: u16)
         turn_to(cells, r.level as usize, a);
         return;
     }
-    put_row(cells, p as usize, rows::flicker_act(a, r));
+    put_row(cells, p as usize, rows::moves::flicker_act(a, r));
 }
 
 // LOOK of process p at q.
@@ -32,29 +30,5 @@ pub fn look(cells: &mut [[u16; 8]], p: u16, q: u16)
 {
     let r = row_at(cells, p as usize);
     let act = row_at(cells, q as usize).act;
-    put_row(cells, p as usize, rows::looked(q, act, r));
-}
-
-// A word of a kind, a process and an argument that are allowed.
-pub fn move_process(cells: &mut [[u16; 8]], kind: u16, p: u16, a: u16) -> Event
-    requires { ⌜ Movable (now cells) kind p a ⌝ }
-    ensures { λ e. ⌜ Moves (now (cells .entry)) kind p a (now (cells .exit)) e ⌝ }
-{
-    if kind == machine::STAY {
-        return Event::Quiet;
-    }
-    if kind == machine::COME {
-        let r = row_at(cells, p as usize);
-        put_row(cells, p as usize, rows::come(r));
-        return Event::Come;
-    }
-    if kind == machine::FLICKER {
-        flicker(cells, p, a);
-        return Event::Quiet;
-    }
-    if kind == machine::GO {
-        return go(cells, p);
-    }
-    look(cells, p, a);
-    Event::Quiet
+    put_row(cells, p as usize, rows::moves::looked(q, act, r));
 }

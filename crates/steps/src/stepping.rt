@@ -1,58 +1,42 @@
 // The step: the check of the table, the check of the word, the move.
-use crate::moving::move_process;
-use cells::access::row_at;
+use crate::taking::take_flicker;
+use crate::taking::take_go;
+use crate::taking::take_look;
+use crate::taking::take_resting;
 use cells::checks::check;
 use machine::Stepped;
 ghost use mathlib.Core.Path.{_≡_};
-ghost use Prim.Native.Nat.{_≤_};
-ghost use lib.ListN.{length};
 ghost use Rattle.machine.specs.Tables.{tableRefusal};
-ghost use Rattle.machine.specs.Steps.{wordRefusal};
 ghost use Rattle.cells.specs.View.{rowsOf};
 ghost use Rattle.steps.specs.Moves.{Steps};
 
-// 0 for a word that is accepted, else the number of its refusal: the first of 8 to 11 that applies.
-pub fn word_refusal(cells: &[[u16; 8]], word: u32) -> u16
-    requires { ⌜ length (now cells) ≤ 16 ⌝ }
-    ensures { λ r. ⌜ r ≡ wordRefusal (rowsOf (now (cells .entry))) word ⌝ }
-{
-    let n = cells.len();
-    let p = words::process_of(word) as usize;
-    let well_formed = words::formed(word);
-    if !well_formed {
-        return machine::BAD_KIND;
-    }
-    if n <= p {
-        return machine::NO_PROCESS;
-    }
-    let kind = words::kind_of(word);
-    let r = row_at(cells, p);
-    let there = rows::allowed(kind, r);
-    let fits = rows::argument_fits(n as u16, kind, r, words::argument_of(word));
-    if !there {
-        return machine::NOT_ALLOWED;
-    }
-    if !fits {
-        return machine::BAD_ARGUMENT;
-    }
-    0
-}
-
 // The step of a word at a table that is known to be sound, which is not checked again: the event of
-// an accepted word; else the number of the refusal, and no row is changed.
+// an accepted word; else the number of the refusal, and no row is changed. The frequent kinds come
+// first.
 pub fn advance(cells: &mut [[u16; 8]], word: u32) -> Stepped
     requires { ⌜ tableRefusal (rowsOf (now cells)) ≡ 0 ⌝ }
     ensures { λ s. ⌜ Steps (now (cells .entry)) word (now (cells .exit)) s ⌝ }
 {
-    let refusal = word_refusal(cells, word);
-    if refusal != 0 {
-        return Stepped::Refused(refusal);
+    let p = words::process_of(word);
+    let well_formed = words::formed(word);
+    if !well_formed {
+        return Stepped::Refused(machine::BAD_KIND);
+    }
+    if cells.len() <= p as usize {
+        return Stepped::Refused(machine::NO_PROCESS);
     }
     let kind = words::kind_of(word);
-    let p = words::process_of(word);
     let a = words::argument_of(word);
-    let event = move_process(cells, kind, p, a);
-    Stepped::Moved(event)
+    if kind == machine::LOOK {
+        return take_look(cells, p, a);
+    }
+    if kind == machine::GO {
+        return take_go(cells, p, a);
+    }
+    if kind == machine::FLICKER {
+        return take_flicker(cells, p, a);
+    }
+    take_resting(cells, kind, p, a)
 }
 
 // The step of a word at a table of any size and content: the event of an accepted word; else the

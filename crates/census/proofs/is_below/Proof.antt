@@ -5,7 +5,7 @@ use Rattle.census.proofs.is_below.Statement.{statement}
 use Rattle.census.proofs.is_below.Tie as tie
 use Rattle.census.proofs.is_below.Reads as reads
 use Rattle.census.proofs.is_below.Lts as lts
-use Rattle.rows.proofs.competes.Reads as competes-reads
+use Rattle.rows.proofs.sound.competes.Reads as competes-reads
 
 competes-requires : tie.Need-competes-requires
 competes-requires c κs = search needs

@@ -5,7 +5,7 @@ use Rattle.census.proofs.is_held.Statement.{statement}
 use Rattle.census.proofs.is_held.Tie as tie
 use Rattle.census.proofs.is_held.Reads as reads
 use Rattle.census.proofs.is_held.Lts as lts
-use Rattle.rows.proofs.competes.Reads as competes-reads
+use Rattle.rows.proofs.sound.competes.Reads as competes-reads
 use Rattle.sets.proofs.size.Reads as size-reads
 
 competes-requires : tie.Need-competes-requires

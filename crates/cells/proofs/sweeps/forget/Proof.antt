@@ -14,7 +14,7 @@ use Rattle.cells.proofs.sweeps.forget.Reads as reads
 use Rattle.cells.proofs.sweeps.forget.Lts as lts
 use Rattle.cells.proofs.access.put_row.Reads as put-row-reads
 use Rattle.cells.proofs.access.row_at.Reads as row-at-reads
-use Rattle.rows.proofs.forgets.Reads as forgets-reads
+use Rattle.rows.proofs.moves.forgets.Reads as forgets-reads
 
 abbrev Inv-loop : tie.InvT-loop
 Inv-loop cells₀ p n q₀ cells q =

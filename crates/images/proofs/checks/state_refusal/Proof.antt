@@ -14,7 +14,7 @@ use Rattle.images.proofs.checks.state_refusal.Tie as tie
 use Rattle.images.proofs.checks.state_refusal.Reads as reads
 use Rattle.images.proofs.checks.state_refusal.Lts as lts
 use Rattle.images.proofs.checks.level_fits.Reads as level-fits-reads
-use Rattle.rows.proofs.location_of.Reads as location-of-reads
+use Rattle.rows.proofs.codes.location_of.Reads as location-of-reads
 
 -- src/checks.rt:25:22
 add-if1 : tie.Need-add-if1

@@ -26,7 +26,7 @@ use Rattle.images.proofs.decoding.read_rows.Tie as tie
 use Rattle.images.proofs.decoding.read_rows.Reads as reads
 use Rattle.images.proofs.decoding.read_rows.Lts as lts
 use Rattle.images.proofs.decoding.read_row.Reads as read-row-reads
-use Rattle.rows.proofs.full_set.Reads as full-set-reads
+use Rattle.rows.proofs.sound.full_set.Reads as full-set-reads
 
 abbrev Inv-loop : tie.InvT-loop
 Inv-loop words cells₀ n full q₀ cells q =

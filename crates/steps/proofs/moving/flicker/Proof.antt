@@ -17,7 +17,7 @@ use Rattle.steps.proofs.moving.flicker.Lts as lts
 use Rattle.cells.proofs.access.put_row.Reads as put-row-reads
 use Rattle.cells.proofs.access.row_at.Reads as row-at-reads
 use Rattle.cells.proofs.access.turn_to.Reads as turn-to-reads
-use Rattle.rows.proofs.flicker_act.Reads as flicker-act-reads
+use Rattle.rows.proofs.moves.flicker_act.Reads as flicker-act-reads
 
 row-at-requires : tie.Need-row-at-requires
 row-at-requires c κs = search needs

@@ -13,7 +13,7 @@ use Rattle.steps.proofs.moving.look.Reads as reads
 use Rattle.steps.proofs.moving.look.Lts as lts
 use Rattle.cells.proofs.access.put_row.Reads as put-row-reads
 use Rattle.cells.proofs.access.row_at.Reads as row-at-reads
-use Rattle.rows.proofs.looked.Reads as looked-reads
+use Rattle.rows.proofs.moves.looked.Reads as looked-reads
 
 row-at-requires : tie.Need-row-at-requires
 row-at-requires c κs = search needs

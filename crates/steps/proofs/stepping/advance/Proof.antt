@@ -1,80 +1,165 @@
--- `stepping::advance` meets its contract. Assumes nothing.
-use Prim.Native.Nat.{ℕ, _≤_}
-use mathlib.Core.Path.{_≡_, refl, sym, ap, subst, _∙_}
+-- `stepping::advance` meets its contract: a word that names a process is its kind, taken. Assumes nothing.
+use Prim.Native.Nat.{ℕ, _≤_, _<_}
+use mathlib.Core.Path.{_≡_, refl, sym, ap, _∙_}
+use mathlib.Core.Bool.{Bool, true}
 use native.Mathlib.Omega.{arith}
 use lib.ListN.{length}
-use Rattle.machine.specs.Words.{kindOf, processOf, argumentOf}
-use Rattle.machine.specs.Steps.{wordRefusal}
-use Rattle.machine.proofs.SoundRows.{sound-few}
-use Rattle.cells.specs.View.{rowsOf}
-use Rattle.cells.proofs.ViewLaws.{rows-length}
-use Rattle.steps.specs.Moves.{Movable, Moves}
-use Rattle.steps.proofs.StepLaws.{refusal-word, as-parts, refused-steps, movable, moved-steps}
+use borrow.Author.Tests.{not-true, not-false}
+use Rattle.machine.specs.Words.{kindOf, processOf, argumentOf, formed}
+use Rattle.steps.specs.Moves.{Ready, Takes, Steps}
+use Rattle.steps.proofs.StepLaws.{formed-kind, kind-steps, process-steps, ready, as-parts, taken-steps}
 use borrow.Author.Needs.{needs}
 use Rattle.steps.proofs.stepping.advance.Statement.{statement}
 use Rattle.steps.proofs.stepping.advance.Tie as tie
 use Rattle.steps.proofs.stepping.advance.Reads as reads
 use Rattle.steps.proofs.stepping.advance.Lts as lts
-use Rattle.steps.proofs.moving.move_process.Reads as move-process-reads
-use Rattle.steps.proofs.stepping.word_refusal.Reads as word-refusal-reads
+use Rattle.steps.proofs.taking.take_flicker.Reads as take-flicker-reads
+use Rattle.steps.proofs.taking.take_go.Reads as take-go-reads
+use Rattle.steps.proofs.taking.take_look.Reads as take-look-reads
+use Rattle.steps.proofs.taking.take_resting.Reads as take-resting-reads
 use Rattle.words.proofs.argument_of.Reads as argument-of-reads
+use Rattle.words.proofs.formed.Reads as formed-reads
 use Rattle.words.proofs.kind_of.Reads as kind-of-reads
 use Rattle.words.proofs.process_of.Reads as process-of-reads
-
-word-refusal-requires : tie.Need-word-refusal-requires
-word-refusal-requires c κs =
-    let x = c .before .args .cells .now in
-    subst (λ (m : ℕ). m ≤ 16) (rows-length x) (sound-few (rowsOf x) (c .before .pre))
-
-same-length : tie.Need-same-length
-same-length c = search needs
-
-returns : tie.Need-returns
-returns c =
-    let x = c .before .before .before .args .cells .now in
-    let w = c .before .before .before .args .word in
-    refused-steps x w _ (c .before .word-refusal .ensures ∙ sym (refusal-word (rowsOf x) w (c .before .before .before .pre))) (c .if1 .taken)
-
-kind-of-requires : tie.Need-kind-of-requires
-kind-of-requires c κs = search needs
 
 process-of-requires : tie.Need-process-of-requires
 process-of-requires c κs = search needs
 
+formed-requires : tie.Need-formed-requires
+formed-requires c κs = search needs
+
+returns : tie.Need-returns
+returns c =
+    let s = c .before .before .before in
+    kind-steps (s .args .cells .now) (s .args .word) (s .pre) (sym (c .before .formed .ensures) ∙ not-true _ (c .if1 .taken))
+
+cast-if2 : tie.Need-cast-if2
+cast-if2 c = search needs
+
+returns-2 : tie.Need-returns-2
+returns-2 c =
+    let s = c .before .before .before .before in
+    let f = sym (c .before .before .formed .ensures) ∙ not-false _ (c .before .if1 .left) in
+    process-steps (s .args .cells .now) (s .args .word) (s .pre) f (omega (arith, c .before .before .before .process-of .ensures))
+
+kind-of-requires : tie.Need-kind-of-requires
+kind-of-requires c κs = search needs
+
 argument-of-requires : tie.Need-argument-of-requires
 argument-of-requires c κs = search needs
 
-move-process-requires : tie.Need-move-process-requires
-move-process-requires c κs =
-    let x = c .before .before .before .before .before .before .before .args .cells .now in
-    let w = c .before .before .before .before .before .before .before .args .word in
-    let y = sym (c .before .before .before .before .before .word-refusal .ensures) ∙ c .before .before .before .before .if1 .left in
-    as-parts (Movable x) _ _ _ _ _ _ (c .before .before .before .kind-of .ensures) (c .before .before .process-of .ensures) (c .before .argument-of .ensures)
-    (movable x w (c .before .before .before .before .before .before .before .pre) y)
+-- ---- where both checks are passed
+
+formed-so : (c : tie.Else2) → formed (c .before .before .before .before .args .word) ≡ true
+formed-so c = sym (c .before .before .formed .ensures) ∙ not-false _ (c .before .if1 .left)
+
+process-in : (c : tie.Else2) → processOf (c .before .before .before .before .args .word) < length (c .before .before .before .before .args .cells .now)
+process-in c = omega (arith, c .before .before .before .process-of .ensures, c .if2 .left)
+
+here : (c : tie.Else2) → Ready (c .before .before .before .before .args .cells .now) (c .before .before .before .process-of .result)
+here c = ready (c .before .before .before .before .args .cells .now) (c .before .before .before .before .args .word) (c .before .before .before .before .pre) _ (omega (arith, c .if2 .left))
+
+-- ---- the kinds
+
+take-look-requires : tie.Need-take-look-requires
+take-look-requires c κs =
+    here (c .before .before .before .before)
+
+same-length : tie.Need-same-length
+same-length c = search needs
+
+returns-3 : tie.Need-returns-3
+returns-3 c =
+    let e = c .before .before .before .before .before .before in
+    let s = e .before .before .before .before in
+    let x = s .args .cells .now in
+    let w = s .args .word in
+    taken-steps x w (s .pre) (formed-so e) (process-in e) _ _
+    (as-parts (λ k p a. Takes x k p a (c .before .take-look .last .0) (c .before .take-look .result)) _ _ _ _ _ _
+    (sym (c .before .before .before .before .before .kind-of .ensures) ∙ c .before .before .before .if3 .taken) (sym (e .before .before .before .process-of .ensures)) (sym (c .before .before .before .before .argument-of .ensures))
+    (c .before .take-look .ensures))
+
+take-go-requires : tie.Need-take-go-requires
+take-go-requires c κs =
+    here (c .before .before .before .before .before)
 
 same-length-2 : tie.Need-same-length-2
 same-length-2 c = search needs
 
-returns-2 : tie.Need-returns-2
-returns-2 c =
-    let x = c .before .before .before .before .before .before .before .before .before .args .cells .now in
-    let w = c .before .before .before .before .before .before .before .before .before .args .word in
-    let y = sym (c .before .before .before .before .before .before .before .word-refusal .ensures) ∙ c .before .before .before .before .before .before .if1 .left in
-    moved-steps x w (c .before .before .before .before .before .before .before .before .before .pre) y _ _
-    (as-parts (λ k p a. Moves x k p a (c .before .move-process .last .0) (c .before .move-process .result)) _ _ _ _ _ _
-    (sym (c .before .before .before .before .before .kind-of .ensures)) (sym (c .before .before .before .before .process-of .ensures)) (sym (c .before .before .before .argument-of .ensures))
-    (c .before .move-process .ensures))
+returns-4 : tie.Need-returns-4
+returns-4 c =
+    let e = c .before .before .before .before .before .before .before in
+    let s = e .before .before .before .before in
+    let x = s .args .cells .now in
+    let w = s .args .word in
+    taken-steps x w (s .pre) (formed-so e) (process-in e) _ _
+    (as-parts (λ k p a. Takes x k p a (c .before .take-go .last .0) (c .before .take-go .result)) _ _ _ _ _ _
+    (sym (c .before .before .before .before .before .before .kind-of .ensures) ∙ c .before .before .before .if4 .taken) (sym (e .before .before .before .process-of .ensures)) (sym (c .before .before .before .before .before .argument-of .ensures))
+    (c .before .take-go .ensures))
+
+take-flicker-requires : tie.Need-take-flicker-requires
+take-flicker-requires c κs =
+    here (c .before .before .before .before .before .before)
+
+same-length-3 : tie.Need-same-length-3
+same-length-3 c = search needs
+
+returns-5 : tie.Need-returns-5
+returns-5 c =
+    let e = c .before .before .before .before .before .before .before .before in
+    let s = e .before .before .before .before in
+    let x = s .args .cells .now in
+    let w = s .args .word in
+    taken-steps x w (s .pre) (formed-so e) (process-in e) _ _
+    (as-parts (λ k p a. Takes x k p a (c .before .take-flicker .last .0) (c .before .take-flicker .result)) _ _ _ _ _ _
+    (sym (c .before .before .before .before .before .before .before .kind-of .ensures) ∙ c .before .before .before .if5 .taken) (sym (e .before .before .before .process-of .ensures)) (sym (c .before .before .before .before .before .before .argument-of .ensures))
+    (c .before .take-flicker .ensures))
+
+take-resting-requires : tie.Need-take-resting-requires
+take-resting-requires c κs =
+    let e = c .before .before .before .before .before .before in
+    let b = formed-kind (e .before .before .before .before .args .word) (formed-so e) in
+    let k = c .before .before .before .before .before .kind-of .ensures in
+    record {
+      ready = here e;
+      first = omega (arith, b .0, k);
+      last = omega (arith, b .1, k, c .before .before .before .if3 .left, c .before .before .if4 .left, c .before .if5 .left);
+    }
+
+same-length-4 : tie.Need-same-length-4
+same-length-4 c = search needs
+
+returns-6 : tie.Need-returns-6
+returns-6 c =
+    let e = c .before .before .before .before .before .before .before .before in
+    let s = e .before .before .before .before in
+    let x = s .args .cells .now in
+    let w = s .args .word in
+    taken-steps x w (s .pre) (formed-so e) (process-in e) _ _
+    (as-parts (λ k p a. Takes x k p a (c .before .take-resting .last .0) (c .before .take-resting .result)) _ _ _ _ _ _
+    (sym (c .before .before .before .before .before .before .before .kind-of .ensures)) (sym (e .before .before .before .process-of .ensures)) (sym (c .before .before .before .before .before .before .argument-of .ensures))
+    (c .before .take-resting .ensures))
 
 pub advance-spec : {M : Type 1} → statement M
 advance-spec =
     tie.close
     (tie.spec
-    word-refusal-requires
-    same-length
-    returns
-    kind-of-requires
     process-of-requires
+    formed-requires
+    returns
+    cast-if2
+    returns-2
+    kind-of-requires
     argument-of-requires
-    move-process-requires
+    take-look-requires
+    same-length
+    returns-3
+    take-go-requires
     same-length-2
-    returns-2)
+    returns-4
+    take-flicker-requires
+    same-length-3
+    returns-5
+    take-resting-requires
+    same-length-4
+    returns-6)

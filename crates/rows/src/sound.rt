@@ -1,0 +1,60 @@
+// Whether a row is within its ranges, and whether its process competes (machine/specs/Tables.antt).
+use machine::Row;
+ghost use mathlib.Core.Path.{_≡_};
+ghost use mathlib.Core.Bool.{_&&_};
+ghost use lib.Dec.{eqb, ltb};
+ghost use Prim.Native.Nat.{_/_, _%_, _^_, _≤_};
+ghost use Rattle.machine.specs.Tables.{oneOf, locations, levelFits, soundRow, competes};
+ghost use Rattle.rows.specs.Bounds.{Full};
+
+// Bit l is set where location l goes with level 0: 10, 20, 21, 30, 40.
+const LOCATIONS_AT_ZERO: u64 = 0x100_4030_0400;
+
+// Bit l is set where location l goes with a level above 0: 10, 20 to 24, 40.
+const LOCATIONS_ABOVE_ZERO: u64 = 0x100_01f0_0400;
+
+// The set of all n processes.
+pub fn full_set(n: u16) -> u16
+    requires { ⌜ n ≤ 16 ⌝ }
+    ensures { λ f. ⌜ Full n f ⌝ }
+{
+    let one: u32 = 1;
+    ((one << n) - 1) as u16
+}
+
+// Whether bit l of a mask is set; a mask has bits below 64 only.
+pub fn marked(mask: u64, l: u16) -> bool
+    ensures { λ b. ⌜ b ≡ (ltb l 64 && eqb (mask / 2 ^ (l % 64) % 2) 1) ⌝ }
+{
+    (l < 64) & ((mask >> (l % 64)) % 2 == 1)
+}
+
+// Whether location l is one of the eight and level v goes with it.
+fn location_fits(l: u16, v: u16) -> bool
+    ensures { λ b. ⌜ b ≡ (oneOf l locations && levelFits l v) ⌝ }
+{
+    if v == 0 {
+        return marked(LOCATIONS_AT_ZERO, l);
+    }
+    marked(LOCATIONS_ABOVE_ZERO, l)
+}
+
+// Whether row q of a table of n processes is within its ranges; `full` is the set of all n.
+pub fn sound_row(n: u16, full: u16, q: u16, r: Row) -> bool
+    requires { ⌜ Full n full ⌝ }
+    ensures { λ b. ⌜ b ≡ soundRow n q r ⌝ }
+{
+    ((r.act | r.bb) < 2)
+        & (r.level < n)
+        & ((r.est | r.lis | r.ahead) <= full)
+        & (r.turn < n)
+        & ((q != 0) | (r.turn == 0))
+        & location_fits(r.location, r.level)
+}
+
+// Whether a process competes, at locations 21 to 30.
+pub fn competes(r: Row) -> bool
+    ensures { λ b. ⌜ b ≡ competes r ⌝ }
+{
+    (21 <= r.location) & (r.location <= 30)
+}

@@ -1,0 +1,72 @@
+-- `going::push` meets its contract: GO at 24, the turn cell after the row. Assumes nothing.
+use Prim.Native.Nat.{ℕ, _<_}
+use mathlib.Core.Path.{_≡_, sym, ap, _∙_}
+use native.Mathlib.Omega.{arith}
+use Rattle.machine.specs.Steps.{turned}
+use Rattle.machine.specs.declared.Row.{Row}
+use Rattle.steps.proofs.MoveLaws.{put-pushed}
+use borrow.Author.Needs.{needs}
+use Rattle.steps.proofs.going.push.Statement.{statement}
+use Rattle.steps.proofs.going.push.Tie as tie
+use Rattle.steps.proofs.going.push.Reads as reads
+use Rattle.steps.proofs.going.push.Lts as lts
+use Rattle.cells.proofs.access.put_row.Reads as put-row-reads
+use Rattle.cells.proofs.access.row_at.Reads as row-at-reads
+use Rattle.cells.proofs.access.turn_to.Reads as turn-to-reads
+use Rattle.cells.proofs.sweeps.competitors.Reads as competitors-reads
+use Rattle.rows.proofs.moves.pushed.Reads as pushed-reads
+
+cast-n : tie.Need-cast-n
+cast-n c = search needs
+
+competitors-requires : tie.Need-competitors-requires
+competitors-requires c κs = search needs
+
+row-at-requires : tie.Need-row-at-requires
+row-at-requires c κs = search needs
+
+pushed-requires : tie.Need-pushed-requires
+pushed-requires c κs = search needs
+
+put-row-requires : tie.Need-put-row-requires
+put-row-requires c κs = search needs
+
+cast-turn-to : tie.Need-cast-turn-to
+cast-turn-to c = search needs
+
+turn-to-requires : tie.Need-turn-to-requires
+turn-to-requires c κs =
+    let l = ap (λ (q : Row). q .level) (c .before .before .before .before .before .before .row-at .ensures) in
+    let s = c .before .before .before .put-row .ensures .size-is in
+    let h = c .before .before .before .before .before .before .before .before .before .before .pre .ready .low in
+    omega arith
+
+same-length : tie.Need-same-length
+same-length c = search needs
+
+returns : tie.Need-returns
+returns c =
+    let s = c .before .before .before .before .before .before .before .before .before .before .before .before in
+    let put = c .before .before .before .before .before .put-row .ensures in
+    record {
+      rows-are =
+          c .before .turn-to .ensures .rows-are
+          ∙ ap (turned (c .before .before .before .before .before .before .before .before .row-at .result .level) (s .args .p)) (put .rows-are)
+          ∙ put-pushed (s .args .cells .now) (s .args .p) _ _ (c .before .before .before .before .before .before .before .before .row-at .ensures) _ (s .pre .there)
+          (c .before .before .before .before .before .before .before .before .before .before .competitors .ensures) (c .before .before .before .before .before .before .pushed .ensures);
+      size-is = c .before .turn-to .ensures .size-is ∙ put .size-is;
+    }
+
+pub push-spec : {M : Type 1} → statement M
+push-spec =
+    tie.close
+    (tie.spec
+    cast-n
+    competitors-requires
+    row-at-requires
+    pushed-requires
+    put-row-requires
+    cast-turn-to
+    turn-to-requires
+    same-length
+    returns)

@@ -1,0 +1,84 @@
+-- `taking::refusal_at` meets its contract: each return is the first refusal that applies. Assumes nothing.
+use Prim.Native.Nat.{ℕ}
+use mathlib.Core.Path.{_≡_, sym, ap, _∙_}
+use mathlib.Core.Bool.{Bool}
+use lib.ListN.{length}
+use borrow.Author.Tests.{not-true, not-false}
+use Rattle.machine.specs.Tables.{row}
+use Rattle.machine.specs.Steps.{allowed, argumentFits}
+use Rattle.machine.specs.declared.Row.{Row}
+use Rattle.cells.specs.View.{rowsOf}
+use Rattle.cells.proofs.ViewLaws.{rows-length}
+use Rattle.steps.proofs.TakeLaws.{refused-there, refused-argument, refused-not}
+use borrow.Author.Needs.{needs}
+use Rattle.steps.proofs.taking.refusal_at.Statement.{statement}
+use Rattle.steps.proofs.taking.refusal_at.Tie as tie
+use Rattle.steps.proofs.taking.refusal_at.Reads as reads
+use Rattle.steps.proofs.taking.refusal_at.Lts as lts
+use Rattle.cells.proofs.access.row_at.Reads as row-at-reads
+use Rattle.rows.proofs.kinds.allowed.Reads as allowed-reads
+use Rattle.rows.proofs.kinds.argument_fits.Reads as argument-fits-reads
+
+row-at-requires : tie.Need-row-at-requires
+row-at-requires c κs = search needs
+
+allowed-requires : tie.Need-allowed-requires
+allowed-requires c κs = search needs
+
+cast-argument-fits : tie.Need-cast-argument-fits
+cast-argument-fits c = search needs
+
+argument-fits-requires : tie.Need-argument-fits-requires
+argument-fits-requires c κs = search needs
+
+-- ---- what the code has found out, in the words of the definitions
+
+allowed-is : (c : tie.After-allowed)
+    → c .allowed .result ≡ allowed (c .before .before .args .kind) (row (rowsOf (c .before .before .args .cells .now)) (c .before .before .args .p))
+allowed-is c = c .allowed .ensures ∙ ap (allowed (c .before .before .args .kind)) (c .before .row-at .ensures)
+
+fits-is : (c : tie.After-argument-fits)
+    → c .argument-fits .result
+    ≡ argumentFits (length (rowsOf (c .before .before .before .args .cells .now))) (c .before .before .before .args .kind)
+    (row (rowsOf (c .before .before .before .args .cells .now)) (c .before .before .before .args .p)) (c .before .before .before .args .a)
+fits-is c =
+    let s = c .before .before .before in
+    let k = s .args .kind in
+    let a = s .args .a in
+    c .argument-fits .ensures
+    ∙ ap (λ (n : ℕ). argumentFits n k (c .before .before .row-at .result) a) (sym (rows-length (s .args .cells .now)))
+    ∙ ap (λ (r : Row). argumentFits (length (rowsOf (s .args .cells .now))) k r a) (c .before .before .row-at .ensures)
+
+-- ---- the returns
+
+returns : tie.Need-returns
+returns c =
+    let s = c .before .before .before .before in
+    sym (refused-there (rowsOf (s .args .cells .now)) (s .args .kind) (s .args .p) (s .args .a)
+    (sym (allowed-is (c .before .before)) ∙ not-true _ (c .if1 .taken)))
+
+returns-2 : tie.Need-returns-2
+returns-2 c =
+    let s = c .before .before .before .before .before in
+    sym (refused-argument (rowsOf (s .args .cells .now)) (s .args .kind) (s .args .p) (s .args .a)
+    (sym (allowed-is (c .before .before .before)) ∙ not-false _ (c .before .if1 .left))
+    (sym (fits-is (c .before .before)) ∙ not-true _ (c .if2 .taken)))
+
+returns-3 : tie.Need-returns-3
+returns-3 c =
+    let s = c .before .before .before .before .before in
+    sym (refused-not (rowsOf (s .args .cells .now)) (s .args .kind) (s .args .p) (s .args .a)
+    (sym (allowed-is (c .before .before .before)) ∙ not-false _ (c .before .if1 .left))
+    (sym (fits-is (c .before .before)) ∙ not-false _ (c .if2 .left)))
+
+pub refusal-at-spec : {M : Type 1} → statement M
+refusal-at-spec =
+    tie.close
+    (tie.spec
+    row-at-requires
+    allowed-requires
+    cast-argument-fits
+    argument-fits-requires
+    returns
+    returns-2
+    returns-3)

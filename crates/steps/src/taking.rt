@@ -1,0 +1,87 @@
+// A word of process p taken, kind by kind: what refuses it at the row of p, and what it does. The
+// kind is a constant in each function, so that the compiler leaves its one test. The event is a
+// constant of each branch.
+use crate::going::go;
+use crate::going::go_to;
+use crate::moving::flicker;
+use crate::moving::look;
+use cells::access::row_at;
+use machine::Event;
+use machine::Stepped;
+ghost use mathlib.Core.Path.{_≡_};
+ghost use Rattle.machine.specs.Words.{FLICKER, GO, LOOK};
+ghost use Rattle.cells.specs.View.{rowsOf};
+ghost use Rattle.steps.specs.Moves.{refusalAt, Ready, Asked, Resting, Takes};
+
+// 0, or the refusal of a kind and an argument at the row of p: 10, then 11.
+fn refusal_at(cells: &[[u16; 8]], kind: u16, p: u16, a: u16) -> u16
+    requires { ⌜ Asked (now cells) kind p ⌝ }
+    ensures { λ v. ⌜ v ≡ refusalAt (rowsOf (now (cells .entry))) kind p a ⌝ }
+{
+    let r = row_at(cells, p as usize);
+    let there = rows::kinds::allowed(kind, r);
+    let fits = rows::kinds::argument_fits(cells.len() as u16, kind, r, a);
+    if !there {
+        return machine::NOT_ALLOWED;
+    }
+    if !fits {
+        return machine::BAD_ARGUMENT;
+    }
+    0
+}
+
+// LOOK of process p at `a`.
+pub fn take_look(cells: &mut [[u16; 8]], p: u16, a: u16) -> Stepped
+    requires { ⌜ Ready (now cells) p ⌝ }
+    ensures { λ s. ⌜ Takes (now (cells .entry)) LOOK p a (now (cells .exit)) s ⌝ }
+{
+    let refusal = refusal_at(cells, machine::LOOK, p, a);
+    if refusal != 0 {
+        return Stepped::Refused(refusal);
+    }
+    look(cells, p, a);
+    Stepped::Moved(Event::Quiet)
+}
+
+// GO of process p.
+pub fn take_go(cells: &mut [[u16; 8]], p: u16, a: u16) -> Stepped
+    requires { ⌜ Ready (now cells) p ⌝ }
+    ensures { λ s. ⌜ Takes (now (cells .entry)) GO p a (now (cells .exit)) s ⌝ }
+{
+    let refusal = refusal_at(cells, machine::GO, p, a);
+    if refusal != 0 {
+        return Stepped::Refused(refusal);
+    }
+    let event = go(cells, p);
+    Stepped::Moved(event)
+}
+
+// FLICKER of process p to `a`.
+pub fn take_flicker(cells: &mut [[u16; 8]], p: u16, a: u16) -> Stepped
+    requires { ⌜ Ready (now cells) p ⌝ }
+    ensures { λ s. ⌜ Takes (now (cells .entry)) FLICKER p a (now (cells .exit)) s ⌝ }
+{
+    let refusal = refusal_at(cells, machine::FLICKER, p, a);
+    if refusal != 0 {
+        return Stepped::Refused(refusal);
+    }
+    flicker(cells, p, a);
+    Stepped::Moved(Event::Quiet)
+}
+
+// STAY or COME of process p, the kinds of a process at rest. One function for both: with five cases
+// the compiler makes the choice of a kind a jump through a table, which is slower.
+pub fn take_resting(cells: &mut [[u16; 8]], kind: u16, p: u16, a: u16) -> Stepped
+    requires { ⌜ Resting (now cells) kind p ⌝ }
+    ensures { λ s. ⌜ Takes (now (cells .entry)) kind p a (now (cells .exit)) s ⌝ }
+{
+    let refusal = refusal_at(cells, kind, p, a);
+    if refusal != 0 {
+        return Stepped::Refused(refusal);
+    }
+    if kind == machine::COME {
+        go_to(cells, p, 20);
+        return Stepped::Moved(Event::Come);
+    }
+    Stepped::Moved(Event::Quiet)
+}
