@@ -97,12 +97,17 @@ bytesOf-wordsIn (a ∷ b ∷ c ∷ d ∷ bs) h z =
 
 -- ---- the words of an input
 
--- bytes that fit can be unpacked into 8,272 words
+-- bytes that fit can be unpacked where there is room for their words
+pub whole-in : (bs ws : List ℕ) → bytesFit bs ≡ true → length bs ≤ 4 * length ws → Whole bs ws
+whole-in bs ws fit room =
+    let four = and-left (eqb (length bs % 4) 0) (leb (length bs) bytesLimit) fit in
+    record { whole = eqb-true (length bs % 4) 0 four; room = room }
+
+-- and 8,272 words are room for any
 pub fits-whole : (bs ws : List ℕ) → bytesFit bs ≡ true → length ws ≡ 8272 → Whole bs ws
 fits-whole bs ws fit room =
-    let four = eqb-true (length bs % 4) 0 (and-left (eqb (length bs % 4) 0) (leb (length bs) bytesLimit) fit) in
     let few = leb-true (length bs) bytesLimit (and-right (eqb (length bs % 4) 0) (leb (length bs) bytesLimit) fit) in
-    record { whole = four; room = omega arith }
+    whole-in bs ws fit (omega arith)
 
 module _ (bs ws y : List ℕ) (m : ℕ) (count : m ≡ length bs / 4) (placed-so : y ≡ placed ws 0 (wordsIn bs)) where
   -- as many words as were unpacked are the words of the bytes

@@ -16,7 +16,7 @@ use Rattle.machine.specs.Refusals.{accepted, tooManyWords, tooFewLent}
 use Rattle.machine.specs.Tables.{Table, tableRefusal}
 use Rattle.machine.specs.Runs.{limit, zeroTally, runFrom}
 use Rattle.machine.specs.Images.{imageLength, imageOf, imageRefusal, tableIn}
-use Rattle.machine.specs.Bytes.{bytesOf, bytesFit, imagePart, eventPart, numberOf, Called}
+use Rattle.machine.specs.Bytes.{bytesOf, imagePart, eventPart, numberOf, Called}
 use Rattle.cells.specs.View.{rowsOf}
 
 abbrev pub refusedCall : List ℕ → ℕ → Called
@@ -56,8 +56,3 @@ pub record CallsTo (c : Called) (m : List ℕ) (r : ℕ) : Type 0 where
 pub record Writable (x : List (List ℕ)) (l : List ℕ) : Type 0 where
   pub sound : tableRefusal (rowsOf x) ≡ 0
   pub room : 20 * length x ≤ length l
-
--- 8,272 words are as many as 33,088 bytes hold
-pub record Unpackable (bs ws : List ℕ) : Type 0 where
-  pub fit : bytesFit bs ≡ true
-  pub words-room : length ws ≡ 8272

@@ -10,8 +10,13 @@ ghost use Rattle.machine.specs.Tables.{tableRefusal};
 ghost use Rattle.machine.specs.Images.{imageOf};
 ghost use Rattle.machine.specs.Bytes.{wordsIn, bytesOf, numberOf, callOf};
 ghost use Rattle.cells.specs.View.{rowsOf};
-ghost use Rattle.octets.specs.Placing.{placed};
-ghost use Rattle.zaguypo.specs.Calls.{tableCall, wordsCall, CallsTo, Writable, Unpackable};
+ghost use Rattle.octets.specs.Placing.{placed, Whole};
+ghost use Rattle.zaguypo.specs.Calls.{tableCall, wordsCall, CallsTo, Writable};
+
+// The words of a short input, and of the longest.
+const FEW: usize = 256;
+
+const MOST: usize = 8272;
 
 // The image of the table in the cells, at the start of the lent bytes.
 fn write_image(cells: &[[u16; 8]], image: &mut [u8])
@@ -65,7 +70,7 @@ fn run_input(words: &[u32], image: &mut [u8]) -> u64
 
 // The run that accepted input bytes hold; their words are put into `words`.
 fn run_bytes(input: &[u8], words: &mut [u32], image: &mut [u8]) -> u64
-    requires { ⌜ Unpackable (now input) (now words) ⌝ }
+    requires { ⌜ Whole (now input) (now words) ⌝ }
     ensures { λ r. ⌜ CallsTo (wordsCall (wordsIn (now (input .entry))) (now (image .entry))) (now (image .exit)) r ⌝ }
 {
     let count = octets::unpack(input, words);
@@ -74,7 +79,8 @@ fn run_bytes(input: &[u8], words: &mut [u32], image: &mut [u8]) -> u64
 
 // The run that the input bytes hold, an image and then event words, lowest byte first. Answers 256
 // times the number of words taken plus the refusal or 0, and leaves the image of the last table in
-// the first 20 lent bytes a process. Refusals 14, 1 to 5, 12 and 13 leave the lent bytes as given.
+// the first 20 lent bytes a process. Refusals 14, 1 to 5, 12 and 13 leave the lent bytes as given. A
+// short input has its own room for words: what the longest needs takes longer to clear than to run.
 #[no_mangle]
 pub extern "C" fn zaguypo_run(input: &[u8], image: &mut [u8]) -> u64
     ensures { λ r. ⌜ (r ≡ callOf (now (input .entry)) (now (image .entry)) .number)
@@ -83,6 +89,10 @@ pub extern "C" fn zaguypo_run(input: &[u8], image: &mut [u8]) -> u64
     if !octets::bytes_fit(input) {
         return machine::BAD_BYTES as u64;
     }
-    let mut words = [0u32; 8272];
+    if input.len() <= 4 * FEW {
+        let mut words = [0u32; FEW];
+        return run_bytes(input, &mut words, image);
+    }
+    let mut words = [0u32; MOST];
     run_bytes(input, &mut words, image)
 }

@@ -4,7 +4,7 @@ use mathlib.Core.Path.{_≡_, sym, ap, _∙_}
 use mathlib.Core.List.{List}
 use Prim.Native.Nat.{ℕ}
 use lib.Seq.{length-take-le}
-use Rattle.octets.proofs.ByteLaws.{fits-whole, take-unpacked}
+use Rattle.octets.proofs.ByteLaws.{take-unpacked}
 use Rattle.zaguypo.specs.Calls.{wordsCall}
 use Rattle.zaguypo.proofs.CallLaws.{calls-as}
 use borrow.Author.Needs.{needs}
@@ -16,22 +16,18 @@ use Rattle.octets.proofs.unpack.Reads as unpack-reads
 use Rattle.zaguypo.proofs.run_input.Reads as run-input-reads
 
 unpack-requires : tie.Need-unpack-requires
-unpack-requires c κs =
-    let start = c .before .before .before .before in
-    fits-whole (start .args .input .now) (start .args .words .now) (start .pre .fit) (start .pre .words-room)
+unpack-requires c κs = search needs
 
 slice-reshare-prefix-run-input : tie.Need-slice-reshare-prefix-run-input
 slice-reshare-prefix-run-input c =
     let start = c .before .before .before .before .before .before .before in
-    let whole = fits-whole (start .args .input .now) (start .args .words .now) (start .pre .fit) (start .pre .words-room) in
-    omega (arith, whole .room, c .before .before .unpack .ensures .0, c .before .before .unpack .kept .1 .0)
+    omega (arith, start .pre .room, c .before .before .unpack .ensures .0, c .before .before .unpack .kept .1 .0)
 
 slice-aggregate-run-input : tie.Need-slice-aggregate-run-input
 slice-aggregate-run-input c =
     let start = c .before .before .before .before .before .before .before .before in
-    let whole = fits-whole (start .args .input .now) (start .args .words .now) (start .pre .fit) (start .pre .words-room) in
     let unpacked = c .before .before .before .unpack in
-    sym (length-take-le (unpacked .result) (unpacked .last .1 .0) (omega (arith, whole .room, unpacked .ensures .0, unpacked .kept .1 .0)))
+    sym (length-take-le (unpacked .result) (unpacked .last .1 .0) (omega (arith, start .pre .room, unpacked .ensures .0, unpacked .kept .1 .0)))
 
 run-input-requires : tie.Need-run-input-requires
 run-input-requires c κs = search needs

@@ -1,8 +1,12 @@
--- `zaguypo::zaguypo_run` meets its contract. Assumes nothing.
-use mathlib.Core.Path.{_≡_, refl, sym, _∙_}
+-- `zaguypo::zaguypo_run` meets its contract, with either room for words. Assumes nothing.
 use Prim.Native.Nat.{ℕ}
+use mathlib.Core.Path.{_≡_, refl, sym, _∙_}
+use mathlib.Core.Bool.{true}
+use native.Mathlib.Omega.{arith}
 use lib.ListN.{length-replicate}
 use borrow.Author.Tests.{not-true, not-false}
+use Rattle.machine.specs.Bytes.{bytesFit}
+use Rattle.octets.proofs.ByteLaws.{whole-in, fits-whole}
 use Rattle.zaguypo.proofs.CallLaws.{calls-as, calls-refused, callOf-bad, callOf-words}
 use borrow.Author.Needs.{needs}
 use Rattle.zaguypo.proofs.zaguypo_run.Statement.{statement}
@@ -25,24 +29,44 @@ returns c =
     let call = calls-as (callOf-bad (a .input .now) (a .image .now) bad) (calls-refused (a .image .now) 14 14 refl) in
     (call .number-is, call .lent-is)
 
+-- the bytes are whole words and not too many
+fit : (c : tie.Else1) → bytesFit (c .before .before .before .before .args .input .now) ≡ true
+fit c = sym (c .before .bytes-fit .ensures) ∙ not-false _ (c .if1 .left)
+
+mul-if2 : tie.Need-mul-if2
+mul-if2 c = search needs
+
 slice-aggregate-run-bytes : tie.Need-slice-aggregate-run-bytes
 slice-aggregate-run-bytes c = search needs
 
 run-bytes-requires : tie.Need-run-bytes-requires
 run-bytes-requires c κs =
-    record {
-      fit = sym (c .before .before .before .bytes-fit .ensures) ∙ not-false _ (c .before .before .if1 .left);
-      words-room = length-replicate {A = ℕ} 8272 0;
-    }
+    whole-in (c .before .before .before .before .before .before .before .args .input .now) _ (fit (c .before .before .before))
+    (omega (arith, c .before .before .if2 .taken, length-replicate {A = ℕ} 256 0))
 
 same-length : tie.Need-same-length
 same-length c = search needs
 
 returns-2 : tie.Need-returns-2
 returns-2 c =
-    let a = c .before .before .before .before .before .before .before .before .before .before .args in
-    let fit = sym (c .before .before .before .before .before .before .before .bytes-fit .ensures) ∙ not-false _ (c .before .before .before .before .before .before .if1 .left) in
-    let call = calls-as (callOf-words (a .input .now) (a .image .now) fit) (c .before .before .before .run-bytes .ensures) in
+    let a = c .before .before .before .before .before .before .before .before .before .before .before .args in
+    let call = calls-as (callOf-words (a .input .now) (a .image .now) (fit (c .before .before .before .before .before .before .before))) (c .before .before .before .run-bytes .ensures) in
+    (call .number-is, call .lent-is)
+
+slice-aggregate-run-bytes-2 : tie.Need-slice-aggregate-run-bytes-2
+slice-aggregate-run-bytes-2 c = search needs
+
+run-bytes-requires-2 : tie.Need-run-bytes-requires-2
+run-bytes-requires-2 c κs =
+    fits-whole (c .before .before .before .before .before .before .before .args .input .now) _ (fit (c .before .before .before)) (length-replicate {A = ℕ} 8272 0)
+
+same-length-2 : tie.Need-same-length-2
+same-length-2 c = search needs
+
+returns-3 : tie.Need-returns-3
+returns-3 c =
+    let a = c .before .before .before .before .before .before .before .before .before .before .before .args in
+    let call = calls-as (callOf-words (a .input .now) (a .image .now) (fit (c .before .before .before .before .before .before .before))) (c .before .before .before .run-bytes2 .ensures) in
     (call .number-is, call .lent-is)
 
 pub zaguypo-run-spec : {M : Type 1} → statement M
@@ -52,7 +76,12 @@ zaguypo-run-spec =
     bytes-fit-requires
     cast-result
     returns
+    mul-if2
     slice-aggregate-run-bytes
     run-bytes-requires
     same-length
-    returns-2)
+    returns-2
+    slice-aggregate-run-bytes-2
+    run-bytes-requires-2
+    same-length-2
+    returns-3)

@@ -1,0 +1,12 @@
+-- `runs::answer` meets its contract. Assumes nothing.
+use mathlib.Core.Path.{refl}
+use Rattle.runs.proofs.answer.Statement.{statement}
+use Rattle.runs.proofs.answer.Tie as tie
+use Rattle.runs.proofs.answer.Reads as reads
+use Rattle.runs.proofs.answer.Lts as lts
+
+returns : tie.Need-returns
+returns c = refl
+
+pub answer-spec : {M : Type 1} → statement M
+answer-spec = tie.close (tie.spec returns)
