@@ -2,10 +2,12 @@
 use Prim.Native.Nat.{ℕ, _≤_, _<_}
 use mathlib.Core.Path.{_≡_, refl, sym, ap, _∙_}
 use mathlib.Core.Bool.{Bool, true}
+use mathlib.Core.List.{List}
 use native.Mathlib.Omega.{arith}
 use lib.ListN.{length}
 use borrow.Author.Tests.{not-true, not-false}
 use Rattle.machine.specs.Words.{kindOf, processOf, argumentOf, formed}
+use Rattle.machine.specs.declared.Stepped.{Stepped}
 use Rattle.steps.specs.Moves.{Ready, Takes, Steps}
 use Rattle.steps.proofs.StepLaws.{formed-kind, kind-steps, process-steps, ready, as-parts, taken-steps}
 use borrow.Author.Needs.{needs}
@@ -53,67 +55,53 @@ argument-of-requires c κs = search needs
 formed-so : (c : tie.Else2) → formed (c .before .before .before .before .args .word) ≡ true
 formed-so c = sym (c .before .before .formed .ensures) ∙ not-false _ (c .before .if1 .left)
 
-process-in : (c : tie.Else2) → processOf (c .before .before .before .before .args .word) < length (c .before .before .before .before .args .cells .now)
-process-in c = omega (arith, c .before .before .before .process-of .ensures, c .if2 .left)
-
 here : (c : tie.Else2) → Ready (c .before .before .before .before .args .cells .now) (c .before .before .before .process-of .result)
-here c = ready (c .before .before .before .before .args .cells .now) (c .before .before .before .before .args .word) (c .before .before .before .before .pre) _ (omega (arith, c .if2 .left))
+here c =
+    let s = c .before .before .before .before in
+    ready (s .args .cells .now) (s .args .word) (s .pre) _ (omega (arith, c .if2 .left))
+
+-- a kind taken is the step of the word
+taken : (c : tie.After-argument-of) (k : ℕ) (y : List (List ℕ)) (v : Stepped) → c .before .kind-of .result ≡ k
+    → Takes (c .before .before .before .before .before .before .args .cells .now) k (c .before .before .before .before .before .process-of .result) (c .argument-of .result) y v
+    → Steps (c .before .before .before .before .before .before .args .cells .now) (c .before .before .before .before .before .before .args .word) y v
+taken c k y v is m =
+    let e = c .before .before in
+    let s = e .before .before .before .before in
+    let x = s .args .cells .now in
+    let w = s .args .word in
+    let process = e .before .before .before .process-of .ensures in
+    taken-steps x w (s .pre) (formed-so e) (omega (arith, process, e .if2 .left)) y v
+    (as-parts (λ i j l. Takes x i j l y v) _ _ _ _ _ _
+    (sym (c .before .kind-of .ensures) ∙ is) (sym process) (sym (c .argument-of .ensures)) m)
 
 -- ---- the kinds
 
 take-look-requires : tie.Need-take-look-requires
-take-look-requires c κs =
-    here (c .before .before .before .before)
+take-look-requires c κs = here (c .before .before .before .before)
 
 same-length : tie.Need-same-length
 same-length c = search needs
 
 returns-3 : tie.Need-returns-3
-returns-3 c =
-    let e = c .before .before .before .before .before .before in
-    let s = e .before .before .before .before in
-    let x = s .args .cells .now in
-    let w = s .args .word in
-    taken-steps x w (s .pre) (formed-so e) (process-in e) _ _
-    (as-parts (λ k p a. Takes x k p a (c .before .take-look .last .0) (c .before .take-look .result)) _ _ _ _ _ _
-    (sym (c .before .before .before .before .before .kind-of .ensures) ∙ c .before .before .before .if3 .taken) (sym (e .before .before .before .process-of .ensures)) (sym (c .before .before .before .before .argument-of .ensures))
-    (c .before .take-look .ensures))
+returns-3 c = taken (c .before .before .before .before) _ _ _ (c .before .before .before .if3 .taken) (c .before .take-look .ensures)
 
 take-go-requires : tie.Need-take-go-requires
-take-go-requires c κs =
-    here (c .before .before .before .before .before)
+take-go-requires c κs = here (c .before .before .before .before .before)
 
 same-length-2 : tie.Need-same-length-2
 same-length-2 c = search needs
 
 returns-4 : tie.Need-returns-4
-returns-4 c =
-    let e = c .before .before .before .before .before .before .before in
-    let s = e .before .before .before .before in
-    let x = s .args .cells .now in
-    let w = s .args .word in
-    taken-steps x w (s .pre) (formed-so e) (process-in e) _ _
-    (as-parts (λ k p a. Takes x k p a (c .before .take-go .last .0) (c .before .take-go .result)) _ _ _ _ _ _
-    (sym (c .before .before .before .before .before .before .kind-of .ensures) ∙ c .before .before .before .if4 .taken) (sym (e .before .before .before .process-of .ensures)) (sym (c .before .before .before .before .before .argument-of .ensures))
-    (c .before .take-go .ensures))
+returns-4 c = taken (c .before .before .before .before .before) _ _ _ (c .before .before .before .if4 .taken) (c .before .take-go .ensures)
 
 take-flicker-requires : tie.Need-take-flicker-requires
-take-flicker-requires c κs =
-    here (c .before .before .before .before .before .before)
+take-flicker-requires c κs = here (c .before .before .before .before .before .before)
 
 same-length-3 : tie.Need-same-length-3
 same-length-3 c = search needs
 
 returns-5 : tie.Need-returns-5
-returns-5 c =
-    let e = c .before .before .before .before .before .before .before .before in
-    let s = e .before .before .before .before in
-    let x = s .args .cells .now in
-    let w = s .args .word in
-    taken-steps x w (s .pre) (formed-so e) (process-in e) _ _
-    (as-parts (λ k p a. Takes x k p a (c .before .take-flicker .last .0) (c .before .take-flicker .result)) _ _ _ _ _ _
-    (sym (c .before .before .before .before .before .before .before .kind-of .ensures) ∙ c .before .before .before .if5 .taken) (sym (e .before .before .before .process-of .ensures)) (sym (c .before .before .before .before .before .before .argument-of .ensures))
-    (c .before .take-flicker .ensures))
+returns-5 c = taken (c .before .before .before .before .before .before) _ _ _ (c .before .before .before .if5 .taken) (c .before .take-flicker .ensures)
 
 take-resting-requires : tie.Need-take-resting-requires
 take-resting-requires c κs =
@@ -130,15 +118,7 @@ same-length-4 : tie.Need-same-length-4
 same-length-4 c = search needs
 
 returns-6 : tie.Need-returns-6
-returns-6 c =
-    let e = c .before .before .before .before .before .before .before .before in
-    let s = e .before .before .before .before in
-    let x = s .args .cells .now in
-    let w = s .args .word in
-    taken-steps x w (s .pre) (formed-so e) (process-in e) _ _
-    (as-parts (λ k p a. Takes x k p a (c .before .take-resting .last .0) (c .before .take-resting .result)) _ _ _ _ _ _
-    (sym (c .before .before .before .before .before .before .before .kind-of .ensures)) (sym (e .before .before .before .process-of .ensures)) (sym (c .before .before .before .before .before .before .argument-of .ensures))
-    (c .before .take-resting .ensures))
+returns-6 c = taken (c .before .before .before .before .before .before) _ _ _ refl (c .before .take-resting .ensures)
 
 pub advance-spec : {M : Type 1} → statement M
 advance-spec =
