@@ -1,0 +1,67 @@
+-- `count_at` meets its contract. Assumes nothing.
+use Prim.Native.Nat.{_≤_, _-_}
+use mathlib.Core.Path.{_≡_, ap, sym, _∙_}
+use mathlib.Core.Logic.{⊎-elim}
+use native.Mathlib.Omega.{arith}
+use lib.ListN.{length}
+use borrow.Author.Needs.{needs}
+use Rattle.counting.specs.Sums.{bit, count}
+use Rattle.counting.proofs.CountLaws.{count-zero, count-next, count-le}
+use Rattle.machine.specs.Tables.{row}
+use Rattle.cells.specs.View.{rowsOf}
+use Rattle.cells.proofs.ViewLaws.{rows-length}
+use Rattle.census.specs.Series.{isAt}
+use Rattle.census.proofs.count_at.Statement.{statement}
+use Rattle.census.proofs.count_at.Tie as tie
+use Rattle.census.proofs.count_at.Reads as reads
+use Rattle.census.proofs.count_at.Lts as lts
+use Rattle.cells.proofs.access.row_at.Reads as row-at-reads
+
+abbrev Inv-loop : tie.InvT-loop
+Inv-loop cells low high n s₀ q₀ s q =
+    (q ≤ n) × (n ≤ 16) × (s ≡ count (λ i. isAt low high (row (rowsOf cells) i)) q)
+
+abbrev μ-loop : tie.MeasureT-loop
+μ-loop cells low high n s₀ q₀ s q = n - q
+
+loop-holds : tie.Need-loop-holds Inv-loop μ-loop
+loop-holds c = (search needs, search needs, sym (count-zero _))
+
+row-at-requires : tie.Need-row-at-requires Inv-loop μ-loop
+row-at-requires c κs = search needs
+
+add-s : tie.Need-add-s Inv-loop μ-loop
+add-s c =
+    let x = c .before .before .before .before .args in
+    let q = c .before .before .before .loop .q in
+    let l = count-le (λ i. isAt (x .low) (x .high) (row (rowsOf (x .cells .now)) i)) q in
+    record { fits = omega arith }
+
+add-q : tie.Need-add-q Inv-loop μ-loop
+add-q c = search needs
+
+loop-less : tie.Need-loop-less Inv-loop μ-loop
+loop-less c = search needs
+
+loop-again : tie.Need-loop-again Inv-loop μ-loop
+loop-again c =
+    let x = c .before .before .before .before .args in
+    let q = c .before .before .before .loop .q in
+    let v = c .before .before .before .loop .inv .2 in
+    let e = sym (ap (isAt (x .low) (x .high)) (c .before .row-at .ensures)) in
+    let next = count-next (λ i. isAt (x .low) (x .high) (row (rowsOf (x .cells .now)) i)) q in
+    ⊎-elim
+    (λ w. (search needs, search needs, omega (arith, w .1, ap bit (e ∙ w .0 .taken))))
+    (λ w. (search needs, search needs, omega (arith, w .1, ap bit (e ∙ w .0 .left))))
+    (c .if1 .came)
+
+returns : tie.Need-returns Inv-loop μ-loop
+returns c =
+    let x = c .before .before .args in
+    let e : c .before .loop .q ≡ length (rowsOf (x .cells .now)) = omega (arith, rows-length (x .cells .now)) in
+    c .before .loop .inv .2 ∙ ap (count (λ i. isAt (x .low) (x .high) (row (rowsOf (x .cells .now)) i))) e
+
+pub count-at-spec : {M : Type 1} → statement M
+count-at-spec =
+    tie.close
+    (tie.spec Inv-loop μ-loop loop-holds row-at-requires add-s add-q loop-less loop-again returns)
