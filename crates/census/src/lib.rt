@@ -58,7 +58,11 @@ pub fn waiting(cells: &[[u16; 8]]) -> u16
 fn below_from(r: Row) -> u16
     ensures { λ f. ⌜ f ≡ belowFrom r ⌝ }
 {
-    if rows::sound::competes(r) { r.level } else { 16 }
+    if rows::sound::competes(r) {
+        r.level
+    } else {
+        16
+    }
 }
 
 // The threshold for `held`: the lesser of the level and, elsewhere than at 24, the size of ahead.
@@ -161,7 +165,7 @@ pub fn census(cells: &[[u16; 8]]) -> Census
     counted(cells)
 }
 
-// The census for C: `struct census zaguypo_census(const struct row *rows, size_t n);`.
+// The census for C (include/zaguypo.h).
 #[no_mangle]
 pub extern "C" fn zaguypo_census(rows: &[[u16; 8]]) -> Census
     ensures { λ r. ⌜ r ≡ censusOf (rowsOf (now (rows .entry))) ⌝ }

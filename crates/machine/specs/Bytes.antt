@@ -67,7 +67,8 @@ callOf bs l =
     let o = runFrom t zeroTally (eventPart ws) in
     let room = 4 * imageLength (length t) in
     let refused : ℕ → Called = λ why. record { number = numberOf 0 why; lent = l } in
-    let ran : Called = record { number = numberOf (o .tally .words) (o .refusal); lent = bytesOf (imageOf (o .table)) ++ drop room l } in
+    let filled = bytesOf (imageOf (o .table)) ++ drop room l in
+    let ran : Called = record { number = numberOf (o .tally .words) (o .refusal); lent = filled } in
     elim (bytesFit bs) [
       | false ↦ refused badBytes
       | true ↦

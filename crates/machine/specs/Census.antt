@@ -61,5 +61,12 @@ unfolding tableRefusal upTo
 censusOf t =
     let none : List ℕ = replicate 17 0 in
     let refused : Census = record { refusal = tableRefusal t; critical = 0; waiting = 0; below = none; held = none } in
-    let counted : Census = record { refusal = accepted; critical = critical t; waiting = waiting t; below = figures below t; held = figures held t } in
+    let counted : Census =
+    record {
+      refusal = accepted;
+      critical = critical t;
+      waiting = waiting t;
+      below = figures below t;
+      held = figures held t;
+    } in
     cond (eqb (tableRefusal t) accepted) counted refused

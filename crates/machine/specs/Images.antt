@@ -154,7 +154,10 @@ writtenOf t l =
 -- kind, number and spare bits of a word are those of its slot
 abbrev pub fitsSlot : Slot → ℕ → Bool
 fitsSlot s w =
-    eqb (w / 2 ^ 28) (s .kind) && eqb (w / 2 ^ 24 % 2 ^ 4) 0 && eqb (w / 2 ^ 16 % 2 ^ 8) (s .number) && spareBody (s .kind) w
+    eqb (w / 2 ^ 28) (s .kind)
+    && eqb (w / 2 ^ 24 % 2 ^ 4) 0
+    && eqb (w / 2 ^ 16 % 2 ^ 8) (s .number)
+    && spareBody (s .kind) w
 
 -- 0, or the first refusal of a word at its slot
 unfoldable pub slotRefusal : ℕ → Slot → ℕ → ℕ
@@ -175,7 +178,10 @@ unfolding slotRefusal
 firstRefusal n i [] ws = record { refusal = accepted; place = 0 }
 firstRefusal n i (s ∷ ss) [] = record { refusal = accepted; place = 0 }
 firstRefusal n i (s ∷ ss) (w ∷ ws) =
-    elim (eqb (slotRefusal n s w) accepted) [ true ↦ firstRefusal n (suc i) ss ws | false ↦ record { refusal = slotRefusal n s w; place = i } ]
+    elim (eqb (slotRefusal n s w) accepted) [
+      | true ↦ firstRefusal n (suc i) ss ws
+      | false ↦ record { refusal = slotRefusal n s w; place = i }
+    ]
 
 -- process q's row of an image of n processes; row 0 holds turn 0
 abbrev pub rowIn : ℕ → List ℕ → ℕ → Row
@@ -206,7 +212,11 @@ imageRefusal ws =
     let all = imageLength n in
     elim (isHeader (getD ws 0 0)) [
       | false ↦ record { refusal = noHeader; place = 0 }
-      | true ↦ elim (eqb (length ws) all) [ false ↦ record { refusal = wrongLength; place = min (length ws) all } | true ↦ first ]
+      | true ↦
+          elim (eqb (length ws) all) [
+            | false ↦ record { refusal = wrongLength; place = min (length ws) all }
+            | true ↦ first
+          ]
     ]
 
 unfoldable pub tableIn : List ℕ → Table
@@ -218,4 +228,7 @@ unfoldable pub readImage : List ℕ → NewTable
 unfolding imageRefusal tableIn
 readImage ws =
     let f = imageRefusal ws in
-    elim (eqb (f .refusal) accepted) [ true ↦ handed accepted 0 (tableIn ws) | false ↦ handed (f .refusal) (f .place) [] ]
+    elim (eqb (f .refusal) accepted) [
+      | true ↦ handed accepted 0 (tableIn ws)
+      | false ↦ handed (f .refusal) (f .place) []
+    ]

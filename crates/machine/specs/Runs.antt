@@ -45,7 +45,10 @@ unfoldable pub runFrom : Table → Tally → List ℕ → Outcome
 unfolding refusalOf afterWord eventOf
 runFrom t h [] = record { table = t; tally = h; refusal = accepted }
 runFrom t h (w ∷ ws) =
-    elim (eqb (refusalOf t w) accepted) [ true ↦ runFrom (afterWord t w) (counted (eventOf t w) h) ws | false ↦ record { table = t; tally = h; refusal = refusalOf t w } ]
+    elim (eqb (refusalOf t w) accepted) [
+      | true ↦ runFrom (afterWord t w) (counted (eventOf t w) h) ws
+      | false ↦ record { table = t; tally = h; refusal = refusalOf t w }
+    ]
 
 unfoldable pub runOf : Table → List ℕ → Outcome
 unfolding tableRefusal runFrom

@@ -2,10 +2,10 @@
 --
 --   Step t p u  <=>  process p, by one alternative of the numbered statement at which it is, goes from t to u.
 --
--- A second reading of the paper: one constructor for each alternative, its guards as premises and its assignments in the
--- paper's order, by the cell setters and the set operations alone; the step of Steps.antt is not used. pc is `location`,
--- lwb is `ahead`, Process is the set of numbers below N, and a flickering write is the choice (4) of section 3.1: any
--- value of the cell's type and the same location again, or the value with the rest of the statement.
+-- A second reading of the paper: one constructor for each alternative, its guards as premises and its assignments in
+-- the paper's order, by the cell setters and the set operations alone; the step of Steps.antt is not used. pc is
+-- `location`, lwb is `ahead`, Process is the set of numbers below N, and a flickering write is the choice (4) of
+-- section 3.1: any value of the cell's type and the same location again, or the value with the rest of the statement.
 -- Assumes nothing.
 use Prim.Native.Nat.{ℕ, _-_, _≤_, _<_}
 use mathlib.Core.Path.{_≡_}
@@ -38,9 +38,13 @@ pub data Step (t : Table) (p : ℕ) : Table → Type 0 where
   flickers-20 : (a : ℕ) → row t p .location ≡ 20 → a < 2 → Step t p (assigned t p (withAct a))
   enters :
       row t p .location ≡ 20
-      → Step t p (assigned t p (λ r. withLocation 21 (withEst (others (length t) p) (withLevel (length t - 1) (withAct 1 (withAhead (Cp t) r))))))
+      → Step t p
+      (assigned t p
+      (λ r. withLocation 21 (withEst (others (length t) p) (withLevel (length t - 1) (withAct 1 (withAhead (Cp t) r))))))
   -- 21: if level > 0 then lis := est; goto 22 else goto 30
-  starts-pass : row t p .location ≡ 21 → 0 < row t p .level → Step t p (assigned t p (λ r. withLocation 22 (withLis (r .est) r)))
+  starts-pass :
+      row t p .location ≡ 21 → 0 < row t p .level
+      → Step t p (assigned t p (λ r. withLocation 22 (withLis (r .est) r)))
   wins : row t p .location ≡ 21 → row t p .level ≡ 0 → Step t p (assigned t p (withLocation 30))
   -- 22: if nonempty(lis) then extract some q from lis; if not act[q] then remove q from est; goto 22 else goto 23
   discards :
@@ -72,7 +76,9 @@ pub data Step (t : Table) (p : ℕ) : Table → Type 0 where
   flickers-24 : (a : ℕ) → row t p .location ≡ 24 → a < length t → Step t p (turnAssigned t (row t p .level) a)
   pushes :
       row t p .location ≡ 24
-      → Step t p (assigned (turnAssigned t (row t p .level) p) p (λ r. withLocation 21 (withAhead (without (Cp t) p) (withEst (others (length t) p) (withBb 1 r)))))
+      → Step t p
+      (assigned (turnAssigned t (row t p .level) p) p
+      (λ r. withLocation 21 (withAhead (without (Cp t) p) (withEst (others (length t) p) (withBb 1 r)))))
   -- 30: CS; goto 40. With exit: for all q remove p from lwb[q]
   exits :
       row t p .location ≡ 30

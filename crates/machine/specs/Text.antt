@@ -71,7 +71,10 @@ unfoldable pub runLines : Table → ℕ → List ℕ → List ℕ
 unfolding numbers refusalOf afterWord
 runLines t i [] = doneText ++ numbers (i ∷ [])
 runLines t i (w ∷ ws) =
-    elim (eqb (refusalOf t w) accepted) [ true ↦ wordLine t i w ++ runLines (afterWord t w) (suc i) ws | false ↦ stopText ++ numbers (i ∷ refusalOf t w ∷ []) ]
+    elim (eqb (refusalOf t w) accepted) [
+      | true ↦ wordLine t i w ++ runLines (afterWord t w) (suc i) ws
+      | false ↦ stopText ++ numbers (i ∷ refusalOf t w ∷ [])
+    ]
 
 unfoldable pub printed : List ℕ → List ℕ
 unfolding wordsIn imageRefusal tableIn numbers runLines
@@ -87,6 +90,9 @@ printed bs =
           elim (eqb (f .refusal) accepted) [
             | false ↦ imageText ++ numbers (f .place ∷ f .refusal ∷ [])
             | true ↦
-                elim (leb (length (eventPart ws)) limit) [ false ↦ first ++ (stopText ++ numbers (0 ∷ tooManyWords ∷ [])) | true ↦ first ++ run ]
+                elim (leb (length (eventPart ws)) limit) [
+                  | false ↦ first ++ (stopText ++ numbers (0 ∷ tooManyWords ∷ []))
+                  | true ↦ first ++ run
+                ]
           ]
     ]

@@ -1,6 +1,6 @@
 // A word of process p taken, kind by kind: what refuses it at the row of p, and what it does. The
-// kind is a constant in each function, so that the compiler leaves its one test. The event is a
-// constant of each branch.
+// kind is given to the check as a constant where it can be, and the compiler drops the check's
+// questions about other kinds. The event is a constant of each branch.
 use crate::going::go;
 use crate::going::go_to;
 use crate::moving::flicker;
