@@ -29,7 +29,8 @@ module _ (x : List (List ℕ)) (p : ℕ) (r : Row) (own : r ≡ row (rowsOf x) p
   seen-off l ne e = ne (ap (λ (q : Row). q .location) own ∙ e)
 
 module _ (x : List (List ℕ)) (p : ℕ) (r s : Row) (own : r ≡ row (rowsOf x) p) where
-  pub put-entered : (c : ℕ) → row (rowsOf x) p .location ≡ 20 → c ≡ competitors (rowsOf x) → s ≡ entered (length x) p c r
+  pub put-entered : (c : ℕ) → row (rowsOf x) p .location ≡ 20 → c ≡ competitors (rowsOf x)
+      → s ≡ entered (length x) p c r
       → set (rowsOf x) p s ≡ gone (rowsOf x) p
   put-entered c e k h =
       let t = rowsOf x in
@@ -65,7 +66,8 @@ module _ (x : List (List ℕ)) (p : ℕ) (r s : Row) (own : r ≡ row (rowsOf x)
       ap (set t p) (h ∙ ap (λ (q : Row). withLocation 10 (withAct 0 q)) own) ∙ sym (gone-40 t p e)
 
 -- the same table by another name
-pub gone-as : (x : List (List ℕ)) (p : ℕ) (u : Table) (y : List (List ℕ)) → gone (rowsOf x) p ≡ u → Becomes x u y → Gone x p y
+pub gone-as : (x : List (List ℕ)) (p : ℕ) (u : Table) (y : List (List ℕ)) → gone (rowsOf x) p ≡ u → Becomes x u y
+    → Gone x p y
 gone-as x p u y e b = record { rows-are = b .rows-are ∙ sym e; size-is = b .size-is }
 
 -- where GO is allowed and none of the others holds, the location is 40
@@ -80,8 +82,10 @@ pub last-place : (r : Row) → allowed GO r ≡ true
 unfolding allowed
 last-place r h a b c d e f =
     ⊎-elim
-    (by-one (r .location) (20 ∷ 21 ∷ 23 ∷ 24 ∷ 30 ∷ 40 ∷ [])
-    ((λ i. absurd (a i)), ((λ i. absurd (b i)), ((λ i. absurd (d i)), ((λ i. absurd (e i)), ((λ i. absurd (f i)), ((λ i. i), tt)))))))
+    (by-one (r .location) (20 ∷ 21 ∷ 23 ∷ 24 ∷ 30 ∷ 40 ∷ []) (
+      (λ i. absurd (a i)),
+      ((λ i. absurd (b i)), ((λ i. absurd (d i)), ((λ i. absurd (e i)), ((λ i. absurd (f i)), ((λ i. i), tt))))),
+    ))
     (λ k. absurd (c (eqb-true _ _ (and-left (eqb (r .location) 22) (eqb (r .lis) 0) k))))
     (or-cases (oneOf (r .location) (20 ∷ 21 ∷ 23 ∷ 24 ∷ 30 ∷ 40 ∷ [])) _ h)
 

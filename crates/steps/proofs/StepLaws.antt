@@ -1,4 +1,6 @@
--- The step of cells: what is taken of a word that names a process, and words and tables that are refused. Assumes nothing.
+-- The step of cells: words and tables that are refused, and what is taken of a word that names a process.
+--
+-- Assumes nothing.
 use Prim.Native.Nat.{ℕ, _^_, _≤_, _<_}
 use mathlib.Core.Path.{_≡_, refl, sym, ap, subst, _∙_}
 use mathlib.Core.Bool.{Bool, true, false, cond}
@@ -54,7 +56,9 @@ module _ (t : Table) (w : ℕ) where
 pub formed-kind : (w : ℕ) → formed w ≡ true → (1 ≤ kindOf w) × (kindOf w ≤ 5)
 formed-kind w f =
     let k = and-left (isKind (kindOf w)) (spareClear w) f in
-    (leb-true _ _ (and-left (leb 1 (kindOf w)) (leb (kindOf w) 5) k), leb-true _ _ (and-right (leb 1 (kindOf w)) (leb (kindOf w) 5) k))
+    let first = and-left (leb 1 (kindOf w)) (leb (kindOf w) 5) k in
+    let last = and-right (leb 1 (kindOf w)) (leb (kindOf w) 5) k in
+    (leb-true _ _ first, leb-true _ _ last)
 
 -- ---- the step of cells
 
@@ -76,13 +80,15 @@ module _ (x : List (List ℕ)) (w : ℕ) where
     -- a word of no kind
     pub kind-steps : formed w ≡ false → Steps x w x (Stepped.Refused 8)
     kind-steps f =
-        refused-steps 8 (sym (refusal-word (rowsOf x) w z ∙ refused-kind (rowsOf x) w f)) (λ z. absurd (omega (arith, z)))
+        let why = refusal-word (rowsOf x) w z ∙ refused-kind (rowsOf x) w f in
+        refused-steps 8 (sym why) (λ e. absurd (omega (arith, e)))
 
     -- a process that is not there
     pub process-steps : formed w ≡ true → length x ≤ processOf w → Steps x w x (Stepped.Refused 9)
     process-steps f k =
         let l = subst (λ (m : ℕ). m ≤ processOf w) (sym (rows-length x)) k in
-        refused-steps 9 (sym (refusal-word (rowsOf x) w z ∙ refused-process (rowsOf x) w f l)) (λ z. absurd (omega (arith, z)))
+        let why = refusal-word (rowsOf x) w z ∙ refused-process (rowsOf x) w f l in
+        refused-steps 9 (sym why) (λ e. absurd (omega (arith, e)))
 
     pub ready : (p : ℕ) → p < length x → Ready x p
     ready p k =

@@ -45,10 +45,9 @@ module _ (t : Table) (k p a : ℕ) where
       cond-zero (argumentFits (length t) k (row t p) a) 10 0 (cond-zero (allowed k (row t p)) 9 second z .1) .0
 
 -- LOOK is at a member of lis, which is a process
-pub look-in : (x : List (List ℕ)) (p a : ℕ) → Ready x p → length (rowsOf x) ≡ length x → refusalAt (rowsOf x) LOOK p a ≡ 0
-    → a < length x
+pub look-in : (x : List (List ℕ)) (p a : ℕ) → Ready x p → refusalAt (rowsOf x) LOOK p a ≡ 0 → a < length x
 unfolding argumentFits
-look-in x p a ready n z = go (decLt a (length x))
+look-in x p a ready z = go (decLt a (length x))
   where
     member : has (row (rowsOf x) p .lis) a ≡ true
     member = argument-fits (rowsOf x) LOOK p a z
@@ -56,7 +55,8 @@ look-in x p a ready n z = go (decLt a (length x))
     go : Dec (a < length x) → a < length x
     go (yes k) = k
     go (no k) =
-        absurd (false≢true (sym (has-over (row (rowsOf x) p .lis) (length x) a (ready .listed) (omega (arith, k))) ∙ member))
+        let over = has-over (row (rowsOf x) p .lis) (length x) a (ready .listed) (omega (arith, k)) in
+        absurd (false≢true (sym over ∙ member))
 
 -- ---- taken or not
 

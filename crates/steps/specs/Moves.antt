@@ -5,7 +5,8 @@
 --   kindEvent k r     ==   the event of an allowed kind at a row, read before the step.
 --   refusalAt t k p a ==   the refusal of kind k with argument a at the row of process p, or 0.
 --   Ready x p         <=>  process p of the cells x can move: what a sound table gives.
---   At x p l          <=>  and it is at location l; Free: and GO is allowed; Asked, Resting: and kind k is one of those.
+--   At x p l          <=>  and it is at location l.
+--   Free, Asked, Resting   and GO is allowed; and kind k is one of the five; and it is STAY or COME.
 --   Gone, Goes, Moves <=>  the cells x have become y by GO, by GO with event e, by kind k with event e.
 --   Takes x k p a y s <=>  kind k with argument a made y of the cells x and answered s.
 --   Steps x w y s     <=>  the step of word w made y of the cells x and answered s.

@@ -31,13 +31,15 @@ same-length c = search needs
 
 returns : tie.Need-returns
 returns c =
-    let put = c .before .put-row .ensures in
     let s = c .before .before .before .before .before .before .before .before in
+    let x = s .args .cells .now in
+    let p = s .args .p in
+    let competing = c .before .before .before .before .before .before .competitors .ensures in
+    let own = c .before .before .before .before .row-at .ensures in
+    let made = c .before .before .entered .ensures in
+    let put = c .before .put-row .ensures in
     record {
-      rows-are =
-          put .rows-are
-          ∙ put-entered (s .args .cells .now) (s .args .p) _ _ (c .before .before .before .before .row-at .ensures) _ (s .pre .there)
-          (c .before .before .before .before .before .before .competitors .ensures) (c .before .before .entered .ensures);
+      rows-are = put .rows-are ∙ put-entered x p _ _ own _ (s .pre .there) competing made;
       size-is = put .size-is;
     }
 

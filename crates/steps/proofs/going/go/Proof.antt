@@ -1,8 +1,12 @@
 -- `going::go` meets its contract, location by location. Assumes nothing.
+use Prim.Native.Nat.{ℕ}
 use mathlib.Core.Path.{_≡_, sym, ap, _∙_}
+use mathlib.Core.List.{List}
 use Rattle.machine.specs.Tables.{row}
+use Rattle.machine.specs.declared.Event.{Event}
 use Rattle.machine.proofs.Forms.{gone-22}
 use Rattle.cells.specs.View.{rowsOf}
+use Rattle.steps.specs.Moves.{Gone, Goes}
 use Rattle.steps.proofs.MoveLaws.{seen-at, seen-off, gone-as, last-place}
 use Rattle.steps.proofs.EventLaws.{quiet-goes}
 use borrow.Author.Needs.{needs}
@@ -86,65 +90,53 @@ rest-requires c κs =
 same-length-2 : tie.Need-same-length-2
 same-length-2 c = search needs
 
+-- elsewhere than at 21 GO is quiet
+quiet : (c : tie.Else1) (y : List (List ℕ)) → Gone (c .before .before .before .args .cells .now) (c .before .before .before .args .p) y
+    → Goes (c .before .before .before .args .cells .now) (c .before .before .before .args .p) y Event.Quiet
+quiet c y =
+    let s = c .before .before .before in
+    let x = s .args .cells .now in
+    let p = s .args .p in
+    quiet-goes x p y (seen-off x p _ (c .before .row-at .ensures) 21 (c .if1 .left))
+
 returns-2 : tie.Need-returns-2
-returns-2 c =
-    let r = c .before .before .before .before .before in
-    let s = r .before .before in
-    let off = seen-off (s .args .cells .now) (s .args .p) _ (r .row-at .ensures) 21 (c .before .before .before .before .if1 .left) in
-    quiet-goes (s .args .cells .now) (s .args .p) _ off (c .before .enter .ensures)
+returns-2 c = quiet (c .before .before .before .before) _ (c .before .enter .ensures)
 
 same-length-3 : tie.Need-same-length-3
 same-length-3 c = search needs
 
 returns-3 : tie.Need-returns-3
 returns-3 c =
-    let r = c .before .before .before .before .before .before in
-    let s = r .before .before in
+    let e = c .before .before .before .before .before in
+    let s = e .before .before .before in
     let x = s .args .cells .now in
     let p = s .args .p in
-    let at = seen-at x p _ (r .row-at .ensures) 22 (c .before .before .before .if3 .taken) in
-    let off = seen-off x p _ (r .row-at .ensures) 21 (c .before .before .before .before .before .if1 .left) in
-    quiet-goes x p _ off (gone-as x p _ _ (gone-22 (rowsOf x) p at) (c .before .go-to .ensures))
+    let at = seen-at x p _ (e .before .row-at .ensures) 22 (c .before .before .before .if3 .taken) in
+    quiet e _ (gone-as x p _ _ (gone-22 (rowsOf x) p at) (c .before .go-to .ensures))
 
 same-length-4 : tie.Need-same-length-4
 same-length-4 c = search needs
 
 returns-4 : tie.Need-returns-4
-returns-4 c =
-    let r = c .before .before .before .before .before .before .before in
-    let s = r .before .before in
-    let off = seen-off (s .args .cells .now) (s .args .p) _ (r .row-at .ensures) 21 (c .before .before .before .before .before .before .if1 .left) in
-    quiet-goes (s .args .cells .now) (s .args .p) _ off (c .before .reconsider .ensures)
+returns-4 c = quiet (c .before .before .before .before .before .before) _ (c .before .reconsider .ensures)
 
 same-length-5 : tie.Need-same-length-5
 same-length-5 c = search needs
 
 returns-5 : tie.Need-returns-5
-returns-5 c =
-    let r = c .before .before .before .before .before .before .before .before in
-    let s = r .before .before in
-    let off = seen-off (s .args .cells .now) (s .args .p) _ (r .row-at .ensures) 21 (c .before .before .before .before .before .before .before .if1 .left) in
-    quiet-goes (s .args .cells .now) (s .args .p) _ off (c .before .push .ensures)
+returns-5 c = quiet (c .before .before .before .before .before .before .before) _ (c .before .push .ensures)
 
 same-length-6 : tie.Need-same-length-6
 same-length-6 c = search needs
 
 returns-6 : tie.Need-returns-6
-returns-6 c =
-    let r = c .before .before .before .before .before .before .before .before .before in
-    let s = r .before .before in
-    let off = seen-off (s .args .cells .now) (s .args .p) _ (r .row-at .ensures) 21 (c .before .before .before .before .before .before .before .before .if1 .left) in
-    quiet-goes (s .args .cells .now) (s .args .p) _ off (c .before .leave .ensures)
+returns-6 c = quiet (c .before .before .before .before .before .before .before .before) _ (c .before .leave .ensures)
 
 same-length-7 : tie.Need-same-length-7
 same-length-7 c = search needs
 
 returns-7 : tie.Need-returns-7
-returns-7 c =
-    let r = c .before .before .before .before .before .before .before .before .before in
-    let s = r .before .before in
-    let off = seen-off (s .args .cells .now) (s .args .p) _ (r .row-at .ensures) 21 (c .before .before .before .before .before .before .before .before .if1 .left) in
-    quiet-goes (s .args .cells .now) (s .args .p) _ off (c .before .rest .ensures)
+returns-7 c = quiet (c .before .before .before .before .before .before .before .before) _ (c .before .rest .ensures)
 
 pub go-spec : {M : Type 1} → statement M
 go-spec =

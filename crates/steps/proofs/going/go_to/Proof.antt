@@ -28,13 +28,15 @@ same-length c = search needs
 
 returns : tie.Need-returns
 returns c =
-    let t = rowsOf (c .before .before .before .before .before .before .args .cells .now) in
-    let l = c .before .before .before .before .before .before .args .l in
+    let s = c .before .before .before .before .before .before in
+    let x = s .args .cells .now in
+    let p = s .args .p in
+    let own = c .before .before .before .before .row-at .ensures in
     let put = c .before .put-row .ensures in
     record {
       rows-are =
           put .rows-are
-          ∙ ap (set t (c .before .before .before .before .before .before .args .p)) (c .before .before .moved-to .ensures ∙ ap (withLocation l) (c .before .before .before .before .row-at .ensures));
+          ∙ ap (set (rowsOf x) p) (c .before .before .moved-to .ensures ∙ ap (withLocation (s .args .l)) own);
       size-is = put .size-is;
     }
 

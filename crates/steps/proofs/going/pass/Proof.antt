@@ -29,15 +29,17 @@ same-length c = search needs
 returns : tie.Need-returns
 returns c =
     let s = c .before .before .before .before .before .before .before .before in
+    let x = s .args .cells .now in
+    let p = s .args .p in
     let own = c .before .before .before .before .before .before .row-at .ensures in
+    let made = c .before .before .before .before .passed .ensures in
     let put = c .before .before .before .put-row .ensures in
+    let level = ap (λ (q : Row). q .level) own in
     record {
-      event-is = sym (arrives (row (rowsOf (s .args .cells .now)) (s .args .p)) (s .pre .there) (ap (λ (q : Row). q .level) (sym own) ∙ c .if1 .taken));
+      event-is = sym (arrives (row (rowsOf x) p) (s .pre .there) (sym level ∙ c .if1 .taken));
       becomes =
           record {
-            rows-are =
-                put .rows-are
-                ∙ put-passed (s .args .cells .now) (s .args .p) _ _ own (s .pre .there) (c .before .before .before .before .passed .ensures);
+            rows-are = put .rows-are ∙ put-passed x p _ _ own (s .pre .there) made;
             size-is = put .size-is;
           };
     }
@@ -48,15 +50,17 @@ same-length-2 c = search needs
 returns-2 : tie.Need-returns-2
 returns-2 c =
     let s = c .before .before .before .before .before .before .before .before in
+    let x = s .args .cells .now in
+    let p = s .args .p in
     let own = c .before .before .before .before .before .before .row-at .ensures in
+    let made = c .before .before .before .before .passed .ensures in
     let put = c .before .before .before .put-row .ensures in
+    let level = ap (λ (q : Row). q .level) own in
     record {
-      event-is = sym (quiet-above (row (rowsOf (s .args .cells .now)) (s .args .p)) (λ z. c .if1 .left (ap (λ (q : Row). q .level) own ∙ z)));
+      event-is = sym (quiet-above (row (rowsOf x) p) (λ z. c .if1 .left (level ∙ z)));
       becomes =
           record {
-            rows-are =
-                put .rows-are
-                ∙ put-passed (s .args .cells .now) (s .args .p) _ _ own (s .pre .there) (c .before .before .before .before .passed .ensures);
+            rows-are = put .rows-are ∙ put-passed x p _ _ own (s .pre .there) made;
             size-is = put .size-is;
           };
     }

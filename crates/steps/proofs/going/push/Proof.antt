@@ -47,14 +47,19 @@ same-length c = search needs
 returns : tie.Need-returns
 returns c =
     let s = c .before .before .before .before .before .before .before .before .before .before .before .before in
+    let x = s .args .cells .now in
+    let p = s .args .p in
+    let competing = c .before .before .before .before .before .before .before .before .before .before .competitors .ensures in
+    let gathered = c .before .before .before .before .before .before .before .before .row-at in
+    let made = c .before .before .before .before .before .before .pushed .ensures in
     let put = c .before .before .before .before .before .put-row .ensures in
+    let turn = c .before .turn-to .ensures in
     record {
       rows-are =
-          c .before .turn-to .ensures .rows-are
-          ∙ ap (turned (c .before .before .before .before .before .before .before .before .row-at .result .level) (s .args .p)) (put .rows-are)
-          ∙ put-pushed (s .args .cells .now) (s .args .p) _ _ (c .before .before .before .before .before .before .before .before .row-at .ensures) _ (s .pre .there)
-          (c .before .before .before .before .before .before .before .before .before .before .competitors .ensures) (c .before .before .before .before .before .before .pushed .ensures);
-      size-is = c .before .turn-to .ensures .size-is ∙ put .size-is;
+          turn .rows-are
+          ∙ ap (turned (gathered .result .level) p) (put .rows-are)
+          ∙ put-pushed x p _ _ (gathered .ensures) _ (s .pre .there) competing made;
+      size-is = turn .size-is ∙ put .size-is;
     }
 
 pub push-spec : {M : Type 1} → statement M

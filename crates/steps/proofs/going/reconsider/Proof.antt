@@ -22,7 +22,8 @@ cast-row-at c = search needs
 row-at-requires-2 : tie.Need-row-at-requires-2
 row-at-requires-2 c κs =
     let s = c .before .before .before .before in
-    subst (λ (q : Row). q .level < length (s .args .cells .now)) (sym (c .before .before .row-at .ensures)) (s .pre .ready .low)
+    let own = c .before .before .row-at .ensures in
+    subst (λ (q : Row). q .level < length (s .args .cells .now)) (sym own) (s .pre .ready .low)
 
 reconsidered-requires : tie.Need-reconsidered-requires
 reconsidered-requires c κs = search needs
@@ -36,12 +37,14 @@ same-length c = search needs
 returns : tie.Need-returns
 returns c =
     let s = c .before .before .before .before .before .before .before .before .before in
+    let x = s .args .cells .now in
+    let p = s .args .p in
+    let own = c .before .before .before .before .before .before .before .row-at .ensures in
+    let turn = ap (λ (q : Row). q .turn) (c .before .before .before .before .row-at2 .ensures) in
+    let made = c .before .before .reconsidered .ensures in
     let put = c .before .put-row .ensures in
     record {
-      rows-are =
-          put .rows-are
-          ∙ put-reconsidered (s .args .cells .now) (s .args .p) _ _ (c .before .before .before .before .before .before .before .row-at .ensures) _ (s .pre .there)
-          (ap (λ (q : Row). q .turn) (c .before .before .before .before .row-at2 .ensures)) (c .before .before .reconsidered .ensures);
+      rows-are = put .rows-are ∙ put-reconsidered x p _ _ own _ (s .pre .there) turn made;
       size-is = put .size-is;
     }
 

@@ -25,11 +25,13 @@ same-length c = search needs
 returns : tie.Need-returns
 returns c =
     let s = c .before .before .before .before .before .before in
+    let x = s .args .cells .now in
+    let p = s .args .p in
+    let own = c .before .before .before .before .row-at .ensures in
+    let made = c .before .before .left .ensures in
     let put = c .before .put-row .ensures in
     record {
-      rows-are =
-          put .rows-are
-          ∙ put-left (s .args .cells .now) (s .args .p) _ _ (c .before .before .before .before .row-at .ensures) (s .pre .there) (c .before .before .left .ensures);
+      rows-are = put .rows-are ∙ put-left x p _ _ own (s .pre .there) made;
       size-is = put .size-is;
     }
 

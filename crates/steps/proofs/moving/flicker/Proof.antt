@@ -41,11 +41,12 @@ returns c =
     let p = c .before .before .before .before .before .before .before .before .args .p in
     let a = c .before .before .before .before .before .before .before .before .args .a in
     let own = c .before .before .before .before .before .before .row-at .ensures in
+    let at = ap (λ (q : Row). q .location) own in
     record {
       rows-are =
           c .before .turn-to .ensures .rows-are
           ∙ ap (λ (q : Row). turned (q .level) a t) own
-          ∙ sym (flickered-turn t p a (ap (λ (q : Row). q .location) (sym own) ∙ c .before .before .before .before .if1 .taken));
+          ∙ sym (flickered-turn t p a (sym at ∙ c .before .before .before .before .if1 .taken));
       size-is = c .before .turn-to .ensures .size-is;
     }
 
@@ -64,11 +65,12 @@ returns-2 c =
     let p = c .before .before .before .before .before .before .before .before .args .p in
     let a = c .before .before .before .before .before .before .before .before .args .a in
     let own = c .before .before .before .before .before .before .row-at .ensures in
+    let at = ap (λ (q : Row). q .location) own in
     record {
       rows-are =
           c .before .put-row .ensures .rows-are
           ∙ ap (set t p) (c .before .before .flicker-act .ensures ∙ ap (withAct a) own)
-          ∙ sym (flickered-act t p a (λ z. c .before .before .before .before .if1 .left (ap (λ (q : Row). q .location) own ∙ z)));
+          ∙ sym (flickered-act t p a (λ z. c .before .before .before .before .if1 .left (at ∙ z)));
       size-is = c .before .put-row .ensures .size-is;
     }
 

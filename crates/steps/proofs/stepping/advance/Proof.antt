@@ -33,7 +33,8 @@ formed-requires c κs = search needs
 returns : tie.Need-returns
 returns c =
     let s = c .before .before .before in
-    kind-steps (s .args .cells .now) (s .args .word) (s .pre) (sym (c .before .formed .ensures) ∙ not-true _ (c .if1 .taken))
+    let f = sym (c .before .formed .ensures) ∙ not-true _ (c .if1 .taken) in
+    kind-steps (s .args .cells .now) (s .args .word) (s .pre) f
 
 cast-if2 : tie.Need-cast-if2
 cast-if2 c = search needs
@@ -42,7 +43,8 @@ returns-2 : tie.Need-returns-2
 returns-2 c =
     let s = c .before .before .before .before in
     let f = sym (c .before .before .formed .ensures) ∙ not-false _ (c .before .if1 .left) in
-    process-steps (s .args .cells .now) (s .args .word) (s .pre) f (omega (arith, c .before .before .before .process-of .ensures))
+    let process = c .before .before .before .process-of .ensures in
+    process-steps (s .args .cells .now) (s .args .word) (s .pre) f (omega (arith, process))
 
 kind-of-requires : tie.Need-kind-of-requires
 kind-of-requires c κs = search needs
@@ -55,15 +57,17 @@ argument-of-requires c κs = search needs
 formed-so : (c : tie.Else2) → formed (c .before .before .before .before .args .word) ≡ true
 formed-so c = sym (c .before .before .formed .ensures) ∙ not-false _ (c .before .if1 .left)
 
-here : (c : tie.Else2) → Ready (c .before .before .before .before .args .cells .now) (c .before .before .before .process-of .result)
+here : (c : tie.Else2) → (let s = c .before .before .before in Ready (s .before .args .cells .now) (s .process-of .result))
 here c =
     let s = c .before .before .before .before in
     ready (s .args .cells .now) (s .args .word) (s .pre) _ (omega (arith, c .if2 .left))
 
 -- a kind taken is the step of the word
-taken : (c : tie.After-argument-of) (k : ℕ) (y : List (List ℕ)) (v : Stepped) → c .before .kind-of .result ≡ k
-    → Takes (c .before .before .before .before .before .before .args .cells .now) k (c .before .before .before .before .before .process-of .result) (c .argument-of .result) y v
-    → Steps (c .before .before .before .before .before .before .args .cells .now) (c .before .before .before .before .before .before .args .word) y v
+taken : (c : tie.After-argument-of) (k : ℕ) (y : List (List ℕ)) (v : Stepped)
+    → (let s = c .before .before .before .before .before in
+    let x = s .before .args .cells .now in
+    c .before .kind-of .result ≡ k → Takes x k (s .process-of .result) (c .argument-of .result) y v
+    → Steps x (s .before .args .word) y v)
 taken c k y v is m =
     let e = c .before .before in
     let s = e .before .before .before .before in
@@ -83,7 +87,9 @@ same-length : tie.Need-same-length
 same-length c = search needs
 
 returns-3 : tie.Need-returns-3
-returns-3 c = taken (c .before .before .before .before) _ _ _ (c .before .before .before .if3 .taken) (c .before .take-look .ensures)
+returns-3 c =
+    taken (c .before .before .before .before) _ _ _
+    (c .before .before .before .if3 .taken) (c .before .take-look .ensures)
 
 take-go-requires : tie.Need-take-go-requires
 take-go-requires c κs = here (c .before .before .before .before .before)
@@ -92,7 +98,9 @@ same-length-2 : tie.Need-same-length-2
 same-length-2 c = search needs
 
 returns-4 : tie.Need-returns-4
-returns-4 c = taken (c .before .before .before .before .before) _ _ _ (c .before .before .before .if4 .taken) (c .before .take-go .ensures)
+returns-4 c =
+    taken (c .before .before .before .before .before) _ _ _
+    (c .before .before .before .if4 .taken) (c .before .take-go .ensures)
 
 take-flicker-requires : tie.Need-take-flicker-requires
 take-flicker-requires c κs = here (c .before .before .before .before .before .before)
@@ -101,17 +109,20 @@ same-length-3 : tie.Need-same-length-3
 same-length-3 c = search needs
 
 returns-5 : tie.Need-returns-5
-returns-5 c = taken (c .before .before .before .before .before .before) _ _ _ (c .before .before .before .if5 .taken) (c .before .take-flicker .ensures)
+returns-5 c =
+    taken (c .before .before .before .before .before .before) _ _ _
+    (c .before .before .before .if5 .taken) (c .before .take-flicker .ensures)
 
 take-resting-requires : tie.Need-take-resting-requires
 take-resting-requires c κs =
     let e = c .before .before .before .before .before .before in
     let b = formed-kind (e .before .before .before .before .args .word) (formed-so e) in
     let k = c .before .before .before .before .before .kind-of .ensures in
+    let off = c .before .before .before in
     record {
       ready = here e;
       first = omega (arith, b .0, k);
-      last = omega (arith, b .1, k, c .before .before .before .if3 .left, c .before .before .if4 .left, c .before .if5 .left);
+      last = omega (arith, b .1, k, off .if3 .left, c .before .before .if4 .left, c .before .if5 .left);
     }
 
 same-length-4 : tie.Need-same-length-4

@@ -34,20 +34,21 @@ argument-fits-requires c κs = search needs
 -- ---- what the code has found out, in the words of the definitions
 
 allowed-is : (c : tie.After-allowed)
-    → c .allowed .result ≡ allowed (c .before .before .args .kind) (row (rowsOf (c .before .before .args .cells .now)) (c .before .before .args .p))
+    → (let s = c .before .before in c .allowed .result ≡ allowed (s .args .kind) (row (rowsOf (s .args .cells .now)) (s .args .p)))
 allowed-is c = c .allowed .ensures ∙ ap (allowed (c .before .before .args .kind)) (c .before .row-at .ensures)
 
 fits-is : (c : tie.After-argument-fits)
-    → c .argument-fits .result
-    ≡ argumentFits (length (rowsOf (c .before .before .before .args .cells .now))) (c .before .before .before .args .kind)
-    (row (rowsOf (c .before .before .before .args .cells .now)) (c .before .before .before .args .p)) (c .before .before .before .args .a)
+    → (let s = c .before .before .before in
+    let t = rowsOf (s .args .cells .now) in
+    c .argument-fits .result ≡ argumentFits (length t) (s .args .kind) (row t (s .args .p)) (s .args .a))
 fits-is c =
     let s = c .before .before .before in
+    let x = s .args .cells .now in
     let k = s .args .kind in
     let a = s .args .a in
     c .argument-fits .ensures
-    ∙ ap (λ (n : ℕ). argumentFits n k (c .before .before .row-at .result) a) (sym (rows-length (s .args .cells .now)))
-    ∙ ap (λ (r : Row). argumentFits (length (rowsOf (s .args .cells .now))) k r a) (c .before .before .row-at .ensures)
+    ∙ ap (λ (n : ℕ). argumentFits n k (c .before .before .row-at .result) a) (sym (rows-length x))
+    ∙ ap (λ (r : Row). argumentFits (length (rowsOf x)) k r a) (c .before .before .row-at .ensures)
 
 -- ---- the returns
 

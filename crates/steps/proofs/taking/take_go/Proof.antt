@@ -21,7 +21,8 @@ same-length c = search needs
 returns : tie.Need-returns
 returns c =
     let s = c .before .before .before in
-    takes-refused (s .args .cells .now) GO (s .args .p) (s .args .a) _ (c .before .refusal-at .ensures) (c .if1 .taken)
+    let why = c .before .refusal-at .ensures in
+    takes-refused (s .args .cells .now) GO (s .args .p) (s .args .a) _ why (c .if1 .taken)
 
 go-requires : tie.Need-go-requires
 go-requires c κs =

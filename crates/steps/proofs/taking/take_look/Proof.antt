@@ -2,7 +2,6 @@
 use mathlib.Core.Path.{_≡_, refl, sym, _∙_}
 use Rattle.machine.specs.Words.{LOOK}
 use Rattle.cells.specs.View.{rowsOf}
-use Rattle.cells.proofs.ViewLaws.{rows-length}
 use Rattle.steps.proofs.MoveLaws.{moved-look}
 use Rattle.steps.proofs.TakeLaws.{look-in, takes-refused, takes-moved}
 use borrow.Author.Needs.{needs}
@@ -22,7 +21,8 @@ same-length c = search needs
 returns : tie.Need-returns
 returns c =
     let s = c .before .before .before in
-    takes-refused (s .args .cells .now) LOOK (s .args .p) (s .args .a) _ (c .before .refusal-at .ensures) (c .if1 .taken)
+    let why = c .before .refusal-at .ensures in
+    takes-refused (s .args .cells .now) LOOK (s .args .p) (s .args .a) _ why (c .if1 .taken)
 
 look-requires : tie.Need-look-requires
 look-requires c κs =
@@ -31,7 +31,7 @@ look-requires c κs =
     let p = s .args .p in
     let z = sym (c .before .before .refusal-at .ensures) ∙ c .before .if1 .left in
     let r = s .pre in
-    (r .one, r .few, look-in x p (s .args .a) r (rows-length x) z)
+    (r .one, r .few, look-in x p (s .args .a) r z)
 
 same-length-2 : tie.Need-same-length-2
 same-length-2 c = search needs

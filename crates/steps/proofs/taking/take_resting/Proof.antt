@@ -25,7 +25,8 @@ same-length c = search needs
 returns : tie.Need-returns
 returns c =
     let s = c .before .before .before in
-    takes-refused (s .args .cells .now) (s .args .kind) (s .args .p) (s .args .a) _ (c .before .refusal-at .ensures) (c .if1 .taken)
+    let why = c .before .refusal-at .ensures in
+    takes-refused (s .args .cells .now) (s .args .kind) (s .args .p) (s .args .a) _ why (c .if1 .taken)
 
 go-to-requires : tie.Need-go-to-requires
 go-to-requires c κs = search needs
@@ -41,12 +42,17 @@ returns-2 c =
     let p = s .args .p in
     let a = s .args .a in
     let k : s .args .kind ≡ 2 = c .before .before .before .if2 .taken in
-    let z = sym (c .before .before .before .before .before .refusal-at .ensures) ∙ c .before .before .before .before .if1 .left in
+    let else1 = c .before .before .before .before in
+    let z = sym (else1 .before .refusal-at .ensures) ∙ else1 .if1 .left in
+    let made = c .before .go-to .ensures in
     takes-moved x (s .args .kind) p a _ _ z
     (record {
       event-is = sym (ap (λ (m : ℕ). kindEvent m (row t p)) k);
       becomes =
-          record { rows-are = c .before .go-to .ensures .rows-are ∙ sym (ap (λ (m : ℕ). moved t m p a) k ∙ moved-come t p a); size-is = c .before .go-to .ensures .size-is };
+          record {
+            rows-are = made .rows-are ∙ sym (ap (λ (m : ℕ). moved t m p a) k ∙ moved-come t p a);
+            size-is = made .size-is;
+          };
     })
 
 same-length-3 : tie.Need-same-length-3
