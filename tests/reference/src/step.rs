@@ -44,75 +44,27 @@ impl<'a> Machine<'a> {
     #[inline(always)]
     pub fn take(&mut self, word: u32) -> Result<Event, u16> {
         let Parts { kind, process, argument } = split(word)?;
-        let (p, n) = (process as usize, self.rows.len());
+        let p = process as usize;
         let Some(row) = self.rows.get_mut(p) else {
             return Err(refusal::NO_PROCESS);
         };
         let before = row.loc;
-        let others = || everyone(n) & !only(p);
         let after = match kind << 3 | u32::from(code(before)) {
-            STAY_10 => {
-                demand(argument == 0)?;
-                10
-            }
-            COME_10 => {
-                demand(argument == 0)?;
-                20
-            }
+            STAY_10 => none(argument, 10)?,
+            COME_10 => none(argument, 20)?,
             FLICKER_20 | FLICKER_40 => {
                 demand(argument <= 1)?;
                 row.act = argument as u16;
                 before
             }
-            FLICKER_24 => {
-                demand((argument as usize) < n)?;
-                let level = usize::from(row.level);
-                self.rows[level].turn = argument as u16;
-                24
-            }
+            FLICKER_24 => self.flicker_turn(p, argument)?,
             LOOK_22 => self.look(p, argument)?,
-            GO_20 => {
-                demand(argument == 0)?;
-                row.act = 1;
-                row.level = n as u16 - 1;
-                row.est = others();
-                row.ahead = self.competing;
-                self.competing |= only(p);
-                21
-            }
-            GO_21 => {
-                demand(argument == 0)?;
-                let above_0 = row.level > 0;
-                row.lis = if above_0 { row.est } else { row.lis };
-                if above_0 {
-                    22
-                } else {
-                    30
-                }
-            }
-            GO_22 if row.lis == 0 => {
-                demand(argument == 0)?;
-                23
-            }
-            GO_23 => {
-                demand(argument == 0)?;
-                self.reconsider(p)
-            }
-            GO_24 => {
-                demand(argument == 0)?;
-                row.bb = 1;
-                row.est = others();
-                row.ahead = self.competing & others();
-                let level = usize::from(row.level);
-                self.rows[level].turn = p as u16;
-                21
-            }
-            GO_30 => {
-                demand(argument == 0)?;
-                self.rows.iter_mut().for_each(|row| row.ahead &= !only(p));
-                self.competing &= others();
-                40
-            }
+            GO_20 => self.enter(p, argument)?,
+            GO_21 => self.pass(p, argument)?,
+            GO_22 if row.lis == 0 => none(argument, 23)?,
+            GO_23 => self.reconsider(p, argument)?,
+            GO_24 => self.push(p, argument)?,
+            GO_30 => self.leave(p, argument)?,
             GO_40 => {
                 demand(argument == 0)?;
                 row.act = 0;
@@ -122,6 +74,68 @@ impl<'a> Machine<'a> {
         };
         self.rows[p].loc = after;
         Ok(Event { kind, p, before, after })
+    }
+
+    /// All processes but p.
+    #[inline(always)]
+    fn others(&self, p: usize) -> u16 {
+        everyone(self.rows.len()) & !only(p)
+    }
+
+    /// FLICKER at 24: the turn cell of the level.
+    #[inline(always)]
+    fn flicker_turn(&mut self, p: usize, argument: u32) -> Result<u16, u16> {
+        demand((argument as usize) < self.rows.len())?;
+        let level = usize::from(self.rows[p].level);
+        self.rows[level].turn = argument as u16;
+        Ok(24)
+    }
+
+    /// GO at 20: process p competes from now on.
+    #[inline(always)]
+    fn enter(&mut self, p: usize, argument: u32) -> Result<u16, u16> {
+        demand(argument == 0)?;
+        let (n, others) = (self.rows.len(), self.others(p));
+        let row = &mut self.rows[p];
+        row.act = 1;
+        row.level = n as u16 - 1;
+        row.est = others;
+        row.ahead = self.competing;
+        self.competing |= only(p);
+        Ok(21)
+    }
+
+    /// GO at 21: a pass over est begins, or the critical section.
+    #[inline(always)]
+    fn pass(&mut self, p: usize, argument: u32) -> Result<u16, u16> {
+        demand(argument == 0)?;
+        let row = &mut self.rows[p];
+        let above_0 = row.level > 0;
+        row.lis = if above_0 { row.est } else { row.lis };
+        Ok(if above_0 { 22 } else { 30 })
+    }
+
+    /// GO at 24: the turn cell of the level names p.
+    #[inline(always)]
+    fn push(&mut self, p: usize, argument: u32) -> Result<u16, u16> {
+        demand(argument == 0)?;
+        let (competing, others) = (self.competing, self.others(p));
+        let row = &mut self.rows[p];
+        row.bb = 1;
+        row.est = others;
+        row.ahead = competing & others;
+        let level = usize::from(row.level);
+        self.rows[level].turn = p as u16;
+        Ok(21)
+    }
+
+    /// GO at 30: p leaves every ahead set, and competes no longer.
+    #[inline(always)]
+    fn leave(&mut self, p: usize, argument: u32) -> Result<u16, u16> {
+        demand(argument == 0)?;
+        self.rows.iter_mut().for_each(|row| row.ahead &= !only(p));
+        self.competing &= self.others(p);
+        Ok(40)
     }
 
     /// LOOK at 22: q leaves lis, and est too if its act is 0.
@@ -142,7 +156,8 @@ impl<'a> Machine<'a> {
 
     /// GO at 23: the size of est decides first, then bb, then the turn cell of the level.
     #[inline(always)]
-    fn reconsider(&mut self, p: usize) -> u16 {
+    fn reconsider(&mut self, p: usize, argument: u32) -> Result<u16, u16> {
+        demand(argument == 0)?;
         let turn = self.rows[usize::from(self.rows[p].level)].turn;
         let row = &mut self.rows[p];
         let size = row.est.count_ones() as u16;
@@ -151,11 +166,7 @@ impl<'a> Machine<'a> {
         let falls = !moves & (turn != p as u16) & !pushes;
         row.level = if moves { size } else { row.level - u16::from(falls) };
         row.bb &= u16::from(!(moves | falls));
-        if pushes {
-            24
-        } else {
-            21
-        }
+        Ok(if pushes { 24 } else { 21 })
     }
 }
 
@@ -181,6 +192,12 @@ const GO_23: u32 = at(GO, 23);
 const GO_24: u32 = at(GO, 24);
 const GO_30: u32 = at(GO, 30);
 const GO_40: u32 = at(GO, 40);
+
+/// The location that a word without an argument leads to.
+#[inline]
+fn none(argument: u32, after: u16) -> Result<u16, u16> {
+    demand(argument == 0).map(|()| after)
+}
 
 #[inline]
 fn demand(argument_fits: bool) -> Result<(), u16> {

@@ -55,15 +55,7 @@ fn read_word(system: &mut System, place: usize, word: u32, fault: Fault) -> Resu
     let n = system.n();
     let (kind, number) =
         if place <= 4 * n { ([0x9, 0xA, 0xB, 0xC][(place - 1) % 4], (place - 1) / 4) } else { (0xD, place - 4 * n) };
-    let bit = |b: u32| word / 2u32.pow(b) % 2 == 1;
-    let mut spare = (24..28).any(bit);
-    if kind == 0x9 && fault != Fault::SpareBitsOfStateIgnored {
-        spare = spare || (10..12).any(bit);
-    }
-    if kind == 0xD {
-        spare = spare || (8..16).any(bit);
-    }
-    let form = word / 0x1000_0000 == kind && word / 0x1_0000 % 0x100 == number as u32 && !spare;
+    let form = word / 0x1000_0000 == kind && word / 0x1_0000 % 0x100 == number as u32 && !spare_set(kind, word, fault);
     if !form && fault != Fault::RangeBeforeForm {
         return Err(3);
     }
@@ -94,6 +86,17 @@ fn read_word(system: &mut System, place: usize, word: u32, fault: Fault) -> Resu
     } else {
         Err(3)
     }
+}
+
+/// Whether a word of a kind has a bit set that the kind does not use.
+fn spare_set(kind: u32, word: u32, fault: Fault) -> bool {
+    let bit = |b: u32| word / 2u32.pow(b) % 2 == 1;
+    let low = match kind {
+        0x9 if fault != Fault::SpareBitsOfStateIgnored => (10..12).any(bit),
+        0xD => (8..16).any(bit),
+        _ => false,
+    };
+    low || (24..28).any(bit)
 }
 
 fn read_state(system: &mut System, number: usize, word: u32, fault: Fault) -> Result<(), u16> {

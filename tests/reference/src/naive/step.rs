@@ -116,18 +116,7 @@ fn go(system: &mut System, p: usize, fault: Fault) {
             system.processes[p].est = system.others(p);
             system.processes[p].location = 21;
         }
-        21 => {
-            let process = &mut system.processes[p];
-            if process.level > 0 {
-                process.lis = process.est;
-                process.location = 22;
-                if fault == Fault::LisFromEveryone {
-                    system.processes[p].lis = system.others(p);
-                }
-            } else {
-                process.location = 30;
-            }
-        }
+        21 => go_21(system, p, fault),
         22 => system.processes[p].location = 23,
         23 => go_23(system, p, fault),
         24 => go_24(system, p, fault),
@@ -144,6 +133,17 @@ fn go(system: &mut System, p: usize, fault: Fault) {
                 leave_ahead_sets(system, p, fault);
             }
         }
+    }
+}
+
+fn go_21(system: &mut System, p: usize, fault: Fault) {
+    let others = system.others(p);
+    let process = &mut system.processes[p];
+    if process.level > 0 {
+        process.lis = if fault == Fault::LisFromEveryone { others } else { process.est };
+        process.location = 22;
+    } else {
+        process.location = 30;
     }
 }
 
