@@ -90,7 +90,9 @@ fn read_rows(words: &[u32], cells: &mut [[u16; 8]], n: u16) -> Found
 // The words of the turn cells in order, up to the first refusal.
 fn check_turns(words: &[u32], n: u16) -> Found
     requires { ⌜ Sized (now words) n ⌝ }
-    ensures { λ f. ⌜ f ≡ foundOf (firstRefusal n (4 * n + 1) (turnSlots 1 (n - 1)) (drop (4 * n + 1) (now (words .entry)))) ⌝ }
+    ensures { λ f. ⌜
+        f ≡ foundOf (firstRefusal n (4 * n + 1) (turnSlots 1 (n - 1)) (drop (4 * n + 1) (now (words .entry))))
+        ⌝ }
 {
     let first = 4 * (n as usize);
     let mut k: u16 = 1;

@@ -1,10 +1,11 @@
 -- `images::decoding::read_cells` meets its contract: header, length, then the words. Assumes nothing.
-use mathlib.Core.Path.{refl, sym, ap, _∙_}
+use mathlib.Core.Path.{_≡_, refl, sym, ap, _∙_}
 use native.Mathlib.Omega.{arith}
 use lib.ListN.{getD}
+use Rattle.machine.specs.Images.{imageRefusal}
 use Rattle.codec.proofs.Reading.{refused-header, refused-length, refused-words}
 use Rattle.images.specs.declared.Found.{Found}
-use Rattle.images.proofs.ImageLaws.{header-none, header-some, empty-header, into-refused, into-accepted}
+use Rattle.images.proofs.ImageLaws.{Header, header-none, header-some, empty-header, into-refused, into-accepted}
 use borrow.Author.Needs.{needs}
 use Rattle.images.proofs.decoding.read_cells.Statement.{statement}
 use Rattle.images.proofs.decoding.read_cells.Tie as tie
@@ -42,56 +43,61 @@ mul-all c = search needs
 lesser-requires : tie.Need-lesser-requires
 lesser-requires c κs = search needs
 
+-- ---- where the first word is a header
+
+header : (c : tie.Else2)
+    → Header (getD (c .before .before .before .before .before .args .words .now) 0 0) (c .before .size-in .result)
+header c = header-some _ _ (c .before .size-in .ensures) (c .if2 .left)
+
 cast-t12 : tie.Need-cast-t12
-cast-t12 c =
-    let ws = c .before .before .before .before .before .before .before .args .words .now in
-    let x = c .before .before .before .before .before .before .before .args .cells .now in
-    let n = c .before .before .before .size-in .result in
-    let h = header-some (getD ws 0 0) n (c .before .before .before .size-in .ensures) (c .before .before .if2 .left) in
-    omega (arith, c .lesser .ensures, h .few)
+cast-t12 c = omega (arith, c .lesser .ensures, header (c .before .before) .few)
 
 returns-3 : tie.Need-returns-3
 returns-3 c =
-    let ws = c .before .before .before .before .before .before .before .args .words .now in
-    let x = c .before .before .before .before .before .before .before .args .cells .now in
-    let n = c .before .before .before .size-in .result in
-    let h = header-some (getD ws 0 0) n (c .before .before .before .size-in .ensures) (c .before .before .if2 .left) in
+    let e = c .before .before in
+    let s = e .before .before .before .before .before in
+    let ws = s .args .words .now in
+    let x = s .args .cells .now in
+    let h = header e in
     into-refused ws x x refl 2 (c .lesser .result)
-    (refused-length ws n (h .size-is) (h .is-header) (c .before .if3 .taken)
+    (refused-length ws (e .before .size-in .result) (h .size-is) (h .is-header) (c .before .if3 .taken)
     ∙ (λ i. record { refusal = 2; place = sym (c .lesser .ensures) i }))
     (λ z. omega arith)
 
 read-words-requires : tie.Need-read-words-requires
 read-words-requires c κs =
-    let ws = c .before .before .before .before .before .before .before .args .words .now in
-    let x = c .before .before .before .before .before .before .before .args .cells .now in
-    let n = c .before .before .before .size-in .result in
-    let h = header-some (getD ws 0 0) n (c .before .before .before .size-in .ensures) (c .before .before .if2 .left) in (
+    let e = c .before .before in
+    let h = header e in (
       record { some = h .some; few = h .few; length-is = c .before .if3 .left },
-      omega
-          (arith, h .few, c .before .before .before .before .before .before .before .pre),
+      omega (arith, h .few, e .before .before .before .before .before .pre),
     )
+
+-- ---- the words
 
 same-length : tie.Need-same-length
 same-length c = search needs
 
-returns-4 : tie.Need-returns-4
-returns-4 c =
-    let ws = c .before .before .before .before .before .before .before .before .before .before .before .args .words
-    .now in
-    let x = c .before .before .before .before .before .before .before .before .before .before .before .args .cells
-    .now in
-    let n = c .before .before .before .before .before .before .before .size-in .result in
-    let h = header-some (getD ws 0 0) n (c .before .before .before .before .before .before .before .size-in .ensures)
-    (c .before .before .before .before .before .before .if2 .left) in
-    let read = c .before .before .before .read-words .ensures in
-    into-refused ws x _ (read .size-is) _ _
-    (refused-words ws n (h .size-is) (h .is-header) (c .before .before .before .before .before .if3 .left)
+-- the image's refusal is the one found in its words
+found : (c : tie.After-read-words)
+    → imageRefusal (c .before .before .before .before .before .before .before .before .args .words .now)
+    ≡ record { refusal = c .read-words .result .refusal; place = c .read-words .result .place }
+found c =
+    let e = c .before .before .before in
+    let ws = e .before .before .before .before .before .args .words .now in
+    let h = header e in
+    let is = c .read-words .ensures .found-is in
+    refused-words ws (e .before .size-in .result) (h .size-is) (h .is-header) (c .before .before .if3 .left)
     ∙ (λ i.
     record {
-      refusal = sym (ap (λ (f : Found). f .refusal) (read .found-is)) i;
-      place = sym (ap (λ (f : Found). f .place) (read .found-is)) i;
-    }))
+      refusal = sym (ap (λ (f : Found). f .refusal) is) i;
+      place = sym (ap (λ (f : Found). f .place) is) i;
+    })
+
+returns-4 : tie.Need-returns-4
+returns-4 c =
+    let r = c .before .before .before in
+    let s = r .before .before .before .before .before .before .before .before in
+    into-refused (s .args .words .now) (s .args .cells .now) _ (r .read-words .ensures .size-is) _ _ (found r)
     (c .if4 .taken)
 
 same-length-2 : tie.Need-same-length-2
@@ -99,19 +105,13 @@ same-length-2 c = search needs
 
 returns-5 : tie.Need-returns-5
 returns-5 c =
-    let ws = c .before .before .before .before .before .before .before .before .before .before .before .args .words
-    .now in
-    let x = c .before .before .before .before .before .before .before .before .before .before .before .args .cells
-    .now in
-    let n = c .before .before .before .before .before .before .before .size-in .result in
-    let h = header-some (getD ws 0 0) n (c .before .before .before .before .before .before .before .size-in .ensures)
-    (c .before .before .before .before .before .before .if2 .left) in
-    let read = c .before .before .before .read-words .ensures in
-    let words = refused-words ws n (h .size-is) (h .is-header) (c .before .before .before .before .before .if3 .left) in
-    into-accepted ws x _ (read .size-is) n (h .size-is)
-    (ap (λ (f : Rattle.machine.specs.Images.Found). f .refusal) words
-    ∙ sym (ap (λ (f : Found). f .refusal) (read .found-is))
-    ∙ c .if4 .left)
+    let r = c .before .before .before in
+    let e = r .before .before .before in
+    let s = e .before .before .before .before .before in
+    let read = r .read-words .ensures in
+    into-accepted (s .args .words .now) (s .args .cells .now) _ (read .size-is) (e .before .size-in .result)
+    (header e .size-is)
+    (ap (λ (f : Rattle.machine.specs.Images.Found). f .refusal) (found r) ∙ c .if4 .left)
     (read .rows-are (c .if4 .left))
 
 pub read-cells-spec : {M : Type 1} → statement M
