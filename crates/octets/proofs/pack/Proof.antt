@@ -32,10 +32,12 @@ next : (words bytes : List ℕ) (i : ℕ) → suc i ≤ length words
     → placed (after words bytes i) (4 * i) (bytesOf (getD words i 0 ∷ [])) ≡ after words bytes (i + 1)
 next words bytes i h =
     let s = bytesOf (take i words) in
+    let w = bytesOf (getD words i 0 ∷ []) in
     let e : 4 * i ≡ 0 + length s = omega (arith, length-bytesOf (take i words), length-take-le i words (omega arith)) in
-    ap (λ (k : ℕ). placed (placed bytes 0 s) k (bytesOf (getD words i 0 ∷ []))) e
-    ∙ placed-then bytes 0 s (bytesOf (getD words i 0 ∷ [])) (omega arith)
-    ∙ ap (placed bytes 0) (sym (bytesOf-append (take i words) (getD words i 0 ∷ [])) ∙ ap bytesOf (sym (take-suc words i 0 h)))
+    let joined = sym (bytesOf-append (take i words) (getD words i 0 ∷ [])) in
+    ap (λ (k : ℕ). placed (placed bytes 0 s) k w) e
+    ∙ placed-then bytes 0 s w (omega arith)
+    ∙ ap (placed bytes 0) (joined ∙ ap bytesOf (sym (take-suc words i 0 h)))
     ∙ ap (after words bytes) (sym (add-one i))
 
 loop-holds : tie.Need-loop-holds Inv-loop μ-loop

@@ -1,4 +1,5 @@
--- `octets::unpack` meets its contract. The invariant of its loop: the first i words stand at the start. Assumes nothing.
+-- `octets::unpack` meets its contract. The invariant of its loop: the first i words stand at the start.
+-- Assumes nothing.
 use native.Mathlib.Omega.{arith}
 use native.Mathlib.Numerals.{add-one}
 use borrow.Author.Needs.{needs}
