@@ -70,7 +70,8 @@ pub record Loaded (ws : List ℕ) (y : List (List ℕ)) (n : ℕ) : Type 0 where
   pub size-is : length (tableIn ws) ≡ n
   pub few : n ≤ 16
 
-pub loaded : (ws : List ℕ) (x y : List (List ℕ)) (r : Reading) (n : ℕ) → ReadInto ws x y r → r ≡ Reading.Table n → Loaded ws y n
+pub loaded : (ws : List ℕ) (x y : List (List ℕ)) (r : Reading) (n : ℕ) → ReadInto ws x y r → r ≡ Reading.Table n
+    → Loaded ws y n
 loaded ws x y r n read is =
     let answer = sym (read .answer-is) ∙ is in
     let ok = table-accepted ws n answer in
