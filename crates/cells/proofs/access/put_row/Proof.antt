@@ -16,7 +16,9 @@ same-length : tie.Need-same-length
 same-length c = search needs
 
 returns : tie.Need-returns
-returns c = record { rows-are = rows-set (c .args .cells .now) (c .args .p) (cellsOf (c .args .r)); size-is = search needs }
+returns c =
+    let a = c .args in
+    record { rows-are = rows-set (a .cells .now) (a .p) (cellsOf (a .r)); size-is = search needs }
 
 pub put-row-spec : {M : Type 1} → statement M
 put-row-spec = tie.close (tie.spec mul-t5 slice-set-from-cells same-length returns)

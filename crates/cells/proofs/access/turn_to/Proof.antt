@@ -25,11 +25,11 @@ returns : tie.Need-returns
 unfolding turned
 returns c =
     let a = c .before .before .before .before .before .args in
+    let put = c .before .put-row .ensures in
+    let row-is = c .before .before .before .row-at .ensures in
     record {
-      rows-are =
-          c .before .put-row .ensures .rows-are
-          ∙ ap (λ (r : Row). set (rowsOf (a .cells .now)) (a .k) (withTurn (a .v) r)) (c .before .before .before .row-at .ensures);
-      size-is = c .before .put-row .ensures .size-is;
+      rows-are = put .rows-are ∙ ap (λ (r : Row). set (rowsOf (a .cells .now)) (a .k) (withTurn (a .v) r)) row-is;
+      size-is = put .size-is;
     }
 
 pub turn-to-spec : {M : Type 1} → statement M

@@ -11,7 +11,8 @@ use Rattle.machine.specs.declared.Row.{Row}
 use Rattle.rows.specs.Bounds.{Full}
 use Rattle.cells.specs.View.{rowsOf}
 use Rattle.cells.proofs.ViewLaws.{rows-length}
-use Rattle.cells.proofs.CheckLaws.{SoundSo, sound-suc, sound-not, sound-all, refused-few, refused-many, refused-row, refused-none}
+use Rattle.cells.proofs.CheckLaws.{SoundSo, sound-suc, sound-not, sound-all}
+use Rattle.cells.proofs.CheckLaws.{refused-few, refused-many, refused-row, refused-none}
 use Rattle.cells.proofs.checks.check.Statement.{statement}
 use Rattle.cells.proofs.checks.check.Tie as tie
 use Rattle.cells.proofs.checks.check.Reads as reads
@@ -62,20 +63,23 @@ sound-row-requires c κs = c .before .before .loop .inv .3
 
 -- what the code has found out of row q, in the words of the definition
 row-is : (c : tie.After-sound-row Inv-loop μ-loop)
-    → c .sound-row .result
-    ≡ soundRow (length (c .before .before .before .before .before .before .before .args .cells .now)) (c .before .before .before .loop .q)
-    (row (rowsOf (c .before .before .before .before .before .before .before .args .cells .now)) (c .before .before .before .loop .q))
+    → let l = c .before .before .before in
+    let x = l .before .before .before .before .args .cells .now in
+    c .sound-row .result ≡ soundRow (length x) (l .loop .q) (row (rowsOf x) (l .loop .q))
 row-is c =
-    let x = c .before .before .before .before .before .before .before .args .cells .now in
-    c .sound-row .ensures ∙ ap (soundRow (length x) (c .before .before .before .loop .q)) (c .before .row-at .ensures)
+    let l = c .before .before .before in
+    let x = l .before .before .before .before .args .cells .now in
+    c .sound-row .ensures ∙ ap (soundRow (length x) (l .loop .q)) (c .before .row-at .ensures)
 
 returns-3 : tie.Need-returns-3 Inv-loop μ-loop
 returns-3 c =
-    let x = c .before .before .before .before .before .before .before .before .args .cells .now in
     let l = c .before .before .before .before .loop in
+    let x = c .before .before .before .before .before .before .before .before .args .cells .now in
     let n = rows-length x in
-    let e = sound-not (rowsOf x) (length x) (l .q) (omega arith) (l .inv .4) (sym (row-is (c .before)) ∙ not-true _ (c .if3 .taken)) in
-    sym (refused-row (rowsOf x) (omega arith) (omega arith) (subst (λ (k : ℕ). soundFrom k 0 (rowsOf x) ≡ false) (sym n) e))
+    let r = sym (row-is (c .before)) ∙ not-true _ (c .if3 .taken) in
+    let e = sound-not (rowsOf x) (length x) (l .q) (omega arith) (l .inv .4) r in
+    let not-sound = subst (λ (k : ℕ). soundFrom k 0 (rowsOf x) ≡ false) (sym n) e in
+    sym (refused-row (rowsOf x) (omega arith) (omega arith) not-sound)
 
 add-q : tie.Need-add-q Inv-loop μ-loop
 add-q c = search needs
@@ -85,8 +89,8 @@ loop-less c = search needs
 
 loop-again : tie.Need-loop-again Inv-loop μ-loop
 loop-again c =
-    let x = c .before .before .before .before .before .before .before .before .args .cells .now in
     let l = c .before .before .before .before .loop in
+    let x = c .before .before .before .before .before .before .before .before .args .cells .now in
     let e = sym (row-is (c .before)) ∙ not-false _ (c .if3 .left) in (
       search needs,
       search needs,
@@ -101,7 +105,8 @@ returns-4 c =
     let n = rows-length x in
     let q : c .before .loop .q ≡ length (rowsOf x) = omega arith in
     let e = sound-all (rowsOf x) (length x) (subst (SoundSo (rowsOf x) (length x)) q (c .before .loop .inv .4)) in
-    sym (refused-none (rowsOf x) (omega arith) (omega arith) (subst (λ (k : ℕ). soundFrom k 0 (rowsOf x) ≡ true) (sym n) e))
+    let sound = subst (λ (k : ℕ). soundFrom k 0 (rowsOf x) ≡ true) (sym n) e in
+    sym (refused-none (rowsOf x) (omega arith) (omega arith) sound)
 
 pub check-spec : {M : Type 1} → statement M
 check-spec =

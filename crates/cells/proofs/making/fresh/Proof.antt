@@ -31,7 +31,9 @@ refused-requires-2 : tie.Need-refused-requires-2 Inv-loop μ-loop
 refused-requires-2 c κs = search needs
 
 returns-2 : tie.Need-returns-2 Inv-loop μ-loop
-returns-2 c = c .refused2 .ensures ∙ made-many (c .before .before .before .args .n) (omega arith) (c .before .if2 .taken)
+returns-2 c =
+    let n = c .before .before .before .args .n in
+    c .refused2 .ensures ∙ made-many n (omega arith) (c .before .if2 .taken)
 
 loop-holds : tie.Need-loop-holds Inv-loop μ-loop
 loop-holds c = (search needs, search needs, search needs, refl, refl, refl)
@@ -52,7 +54,8 @@ loop-again : tie.Need-loop-again Inv-loop μ-loop
 loop-again c =
     let v = c .before .loop .inv in
     let q = c .before .loop .q in
-    (search needs, search needs, search needs, v .3, search needs, ap (λ (l : List Row). set l q idle) (v .5) ∙ filled-suc q (omega arith))
+    let rows-are = ap (λ (l : List Row). set l q idle) (v .5) ∙ filled-suc q (omega arith) in
+    (search needs, search needs, search needs, v .3, search needs, rows-are)
 
 cast-t12 : tie.Need-cast-t12 Inv-loop μ-loop
 cast-t12 c = search needs

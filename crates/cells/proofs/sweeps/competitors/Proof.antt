@@ -41,9 +41,8 @@ shl-s c = search needs
 add-s : tie.Need-add-s Inv-loop μ-loop
 add-s c =
     let q = c .before .before .before .before .loop .q in
-    record {
-      fits = subst (λ (s : ℕ). s + 1 * 2 ^ q % 65536 < 65536) (sym (c .before .before .before .before .loop .inv .2)) (gather-fits _ q (omega arith));
-    }
+    let v = c .before .before .before .before .loop .inv .2 in
+    record { fits = subst (λ (s : ℕ). s + 1 * 2 ^ q % 65536 < 65536) (sym v) (gather-fits _ q (omega arith)) }
 
 add-q : tie.Need-add-q Inv-loop μ-loop
 add-q c = search needs
@@ -56,8 +55,9 @@ loop-again c =
     let q = c .before .before .before .before .loop .q in
     let v = c .before .before .before .before .loop .inv .2 in
     let e = sym (ap competes (c .before .before .row-at .ensures)) ∙ sym (c .before .competes .ensures) in
+    let plus = ap (λ (s : ℕ). s + 1 * 2 ^ q % 65536) v in
     ⊎-elim
-    (λ w. (search needs, search needs, w .1 ∙ ap (λ (s : ℕ). s + 1 * 2 ^ q % 65536) v ∙ gather-in _ q (omega arith) (e ∙ w .0 .taken)))
+    (λ w. (search needs, search needs, w .1 ∙ plus ∙ gather-in _ q (omega arith) (e ∙ w .0 .taken)))
     (λ w. (search needs, search needs, w .1 ∙ v ∙ gather-out _ q (omega arith) (e ∙ w .0 .left)))
     (c .if1 .came)
 
