@@ -13,7 +13,8 @@ use Rattle.machine.specs.Tables.{Table, tableRefusal}
 use Rattle.machine.specs.Steps.{refusalOf, afterWord, afterWords, eventOf}
 use Rattle.machine.specs.Runs.{Outcome, counted, zeroTally, limit, runFrom, runOf}
 use Rattle.machine.specs.declared.Tally.{Tally}
-use Rattle.runs.proofs.RunLaws.{run-more, run-stop, run-end, counted-words, runOf-table, runOf-words, runOf-taken}
+use Rattle.runs.proofs.RunLaws.{run-more, run-stop, run-end, counted-words}
+use Rattle.runs.proofs.RunLaws.{runOf-table, runOf-words, runOf-taken}
 
 -- k words were taken of ws, from table t, with outcome o
 pub record Taken (t : Table) (ws : List ℕ) (k : ℕ) (o : Outcome) : Type 0 where

@@ -35,7 +35,11 @@ use Rattle.runs.specs.declared.RunAnswer.{RunAnswer}
 module _ (t : Table) (h : Tally) (w : ℕ) (ws : List ℕ) where
   -- the run from w on, by whether w is accepted
   unfoldable from : Bool → Outcome
-  from b = elim b [ true ↦ runFrom (afterWord t w) (counted (eventOf t w) h) ws | false ↦ record { table = t; tally = h; refusal = refusalOf t w } ]
+  from b =
+      elim b [
+        | true ↦ runFrom (afterWord t w) (counted (eventOf t w) h) ws
+        | false ↦ record { table = t; tally = h; refusal = refusalOf t w }
+      ]
 
   from-is : runFrom t h (w ∷ ws) ≡ from (eqb (refusalOf t w) 0)
   unfolding runFrom from
@@ -45,7 +49,8 @@ module _ (t : Table) (h : Tally) (w : ℕ) (ws : List ℕ) where
   unfolding from
   run-more e = from-is ∙ ap from (eq-eqb _ _ e)
 
-  pub run-stop : (refusalOf t w ≡ 0 → ⊥) → runFrom t h (w ∷ ws) ≡ record { table = t; tally = h; refusal = refusalOf t w }
+  pub run-stop : (refusalOf t w ≡ 0 → ⊥)
+      → runFrom t h (w ∷ ws) ≡ record { table = t; tally = h; refusal = refusalOf t w }
   unfolding from
   run-stop e = from-is ∙ ap from (ne-eqb _ _ e)
 
@@ -83,22 +88,30 @@ run-past t h ws i e = ap (λ (k : ℕ). runFrom t h (drop k ws)) e ∙ ap (runFr
 
 -- ---- the answer of a step
 
-moved-case : (b : Bool) (d e : Event) (v : ℕ) → cond b (Stepped.Moved d) (Stepped.Refused v) ≡ Stepped.Moved e → (b ≡ true) × (e ≡ d)
+moved-case : (b : Bool) (d e : Event) (v : ℕ)
+    → cond b (Stepped.Moved d) (Stepped.Refused v) ≡ Stepped.Moved e
+    → (b ≡ true) × (e ≡ d)
 moved-case true d e v h = (refl, cc)
 moved-case false d e v h = absurd (let z : _≡_ {A = ℕ} 0 1 = cc in omega arith)
 
-refused-case : (b : Bool) (d : Event) (u v : ℕ) → cond b (Stepped.Moved d) (Stepped.Refused v) ≡ Stepped.Refused u → (b ≡ false) × (u ≡ v)
+refused-case : (b : Bool) (d : Event) (u v : ℕ)
+    → cond b (Stepped.Moved d) (Stepped.Refused v) ≡ Stepped.Refused u
+    → (b ≡ false) × (u ≡ v)
 refused-case true d u v h = absurd (let z : _≡_ {A = ℕ} 0 1 = cc in omega arith)
 refused-case false d u v h = (refl, cc)
 
 module _ (t : Table) (w : ℕ) where
   pub answer-moved : (e : Event) → answerOf t w ≡ Stepped.Moved e → (refusalOf t w ≡ 0) × (e ≡ eventOf t w)
   unfolding answerOf
-  answer-moved e h = let m = moved-case (eqb (refusalOf t w) 0) (eventOf t w) e (refusalOf t w) h in (eqb-true _ _ (m .0), m .1)
+  answer-moved e h =
+      let m = moved-case (eqb (refusalOf t w) 0) (eventOf t w) e (refusalOf t w) h in
+      (eqb-true _ _ (m .0), m .1)
 
   pub answer-refused : (u : ℕ) → answerOf t w ≡ Stepped.Refused u → (refusalOf t w ≡ 0 → ⊥) × (u ≡ refusalOf t w)
   unfolding answerOf
-  answer-refused u h = let m = refused-case (eqb (refusalOf t w) 0) (eventOf t w) u (refusalOf t w) h in (eqb-false _ _ (m .0), m .1)
+  answer-refused u h =
+      let m = refused-case (eqb (refusalOf t w) 0) (eventOf t w) u (refusalOf t w) h in
+      (eqb-false _ _ (m .0), m .1)
 
 -- ---- the tally
 
@@ -139,11 +152,13 @@ runs-as {x} {y} {o} {u} {r} e h = subst (λ (k : Outcome). Runs x k y r) e h
 -- ---- the checks before a run
 
 module _ (t : Table) (ws : List ℕ) where
-  pub runOf-table : (v : ℕ) → v ≡ tableRefusal t → (v ≡ 0 → ⊥) → runOf t ws ≡ record { table = t; tally = zeroTally; refusal = v }
+  pub runOf-table : (v : ℕ) → v ≡ tableRefusal t → (v ≡ 0 → ⊥)
+      → runOf t ws ≡ record { table = t; tally = zeroTally; refusal = v }
   unfolding runOf
   runOf-table v e n = rw (e, ne-eqb (tableRefusal t) 0 (λ z. n (e ∙ z))) refl
 
-  pub runOf-words : tableRefusal t ≡ 0 → limit < length ws → runOf t ws ≡ record { table = t; tally = zeroTally; refusal = 12 }
+  pub runOf-words : tableRefusal t ≡ 0 → limit < length ws
+      → runOf t ws ≡ record { table = t; tally = zeroTally; refusal = 12 }
   unfolding runOf
   runOf-words e l = rw (eq-eqb (tableRefusal t) 0 e, lt-leb (length ws) limit l) refl
 

@@ -57,7 +57,11 @@ fn answer(refusal: u16, tally: Tally) -> RunAnswer
 // At most 8,192 words at a table that is known to be sound, which is not checked again.
 pub fn run_words(cells: &mut [[u16; 8]], words: &[u32]) -> RunAnswer
     requires { ⌜ Runnable (now cells) (now words) ⌝ }
-    ensures { λ r. ⌜ RunsSound (now (cells .entry)) (runFrom (rowsOf (now (cells .entry))) zeroTally (now (words .entry))) (now (cells .exit)) r ⌝ }
+    ensures { λ r. ⌜
+        RunsSound (now (cells .entry))
+        (runFrom (rowsOf (now (cells .entry))) zeroTally (now (words .entry)))
+        (now (cells .exit)) r
+        ⌝ }
 {
     let n = words.len();
     let mut tally = Tally::ZERO;
@@ -79,7 +83,9 @@ pub fn run_words(cells: &mut [[u16; 8]], words: &[u32]) -> RunAnswer
 // A run at a table of any size and content: 6 or 7 for the table, then 12 for more than 8,192 words,
 // and no row is changed; else the words in order up to the first that is refused.
 pub fn run(cells: &mut [[u16; 8]], words: &[u32]) -> RunAnswer
-    ensures { λ r. ⌜ Runs (now (cells .entry)) (runOf (rowsOf (now (cells .entry))) (now (words .entry))) (now (cells .exit)) r ⌝ }
+    ensures { λ r. ⌜
+        Runs (now (cells .entry)) (runOf (rowsOf (now (cells .entry))) (now (words .entry))) (now (cells .exit)) r
+        ⌝ }
 {
     let refusal = check(cells);
     if refusal != 0 {

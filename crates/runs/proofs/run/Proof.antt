@@ -31,6 +31,11 @@ returns c =
     let o = runOf-table (rowsOf x) (a .words .now) _ (c .before .before .check .ensures) (c .before .if1 .taken) in
     ended x x _ zeroTally _ _ refl o (c .answer .ensures)
 
+-- ---- where the table is sound
+
+sound : (c : tie.Else1) → tableRefusal (rowsOf (c .before .before .before .before .args .cells .now)) ≡ 0
+sound c = sym (c .before .check .ensures) ∙ c .if1 .left
+
 answer-requires-2 : tie.Need-answer-requires-2
 answer-requires-2 c κs = search needs
 
@@ -39,28 +44,24 @@ same-length-2 c = search needs
 
 returns-2 : tie.Need-returns-2
 returns-2 c =
-    let a = c .before .before .before .before .before .before .args in
+    let e = c .before .before in
+    let a = e .before .before .before .before .args in
     let x = a .cells .now in
-    let z : tableRefusal (rowsOf x) ≡ 0 = sym (c .before .before .before .check .ensures) ∙ c .before .before .if1 .left in
-    ended x x _ zeroTally 12 _ refl (runOf-words (rowsOf x) (a .words .now) z (omega arith)) (c .answer2 .ensures)
+    let o = runOf-words (rowsOf x) (a .words .now) (sound e) (omega arith) in
+    ended x x _ zeroTally 12 _ refl o (c .answer2 .ensures)
 
 run-words-requires : tie.Need-run-words-requires
-run-words-requires c κs =
-    record {
-      table-sound = sym (c .before .before .before .check .ensures) ∙ c .before .before .if1 .left;
-      words-few = omega arith;
-    }
+run-words-requires c κs = record { table-sound = sound (c .before .before); words-few = omega arith }
 
 same-length-3 : tie.Need-same-length-3
 same-length-3 c = search needs
 
 returns-3 : tie.Need-returns-3
 returns-3 c =
-    let a = c .before .before .before .before .before .before .before .before .args in
-    let x = a .cells .now in
-    let z : tableRefusal (rowsOf x) ≡ 0 =
-    sym (c .before .before .before .before .before .check .ensures) ∙ c .before .before .before .before .if1 .left in
-    runs-as (sym (runOf-taken (rowsOf x) (a .words .now) z (omega arith))) (c .before .run-words .ensures .runs)
+    let e = c .before .before .before .before in
+    let a = e .before .before .before .before .args in
+    let o = runOf-taken (rowsOf (a .cells .now)) (a .words .now) (sound e) (omega arith) in
+    runs-as (sym o) (c .before .run-words .ensures .runs)
 
 pub run-spec : {M : Type 1} → statement M
 run-spec =

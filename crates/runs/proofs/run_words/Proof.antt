@@ -4,7 +4,7 @@ use mathlib.Core.Path.{_≡_, refl, ap, sym, subst, _∙_}
 use native.Mathlib.Omega.{arith}
 use lib.ListN.{length, getD, drop}
 use borrow.Author.Needs.{needs}
-use Rattle.machine.specs.Tables.{Table, tableRefusal}
+use Rattle.machine.specs.Tables.{tableRefusal}
 use Rattle.machine.specs.Steps.{eventOf}
 use Rattle.machine.specs.Runs.{counted, zeroTally, runFrom}
 use Rattle.machine.specs.declared.Event.{Event}
@@ -12,7 +12,8 @@ use Rattle.machine.specs.declared.Tally.{Tally}
 use Rattle.machine.proofs.Soundness.{word-keeps-sound}
 use Rattle.cells.specs.View.{rowsOf}
 use Rattle.runs.specs.Outcomes.{Room}
-use Rattle.runs.proofs.RunLaws.{answer-moved, answer-refused, counted-words, counted-comes, counted-arrivals, run-turn, run-halt, run-past, ended}
+use Rattle.runs.proofs.RunLaws.{answer-moved, answer-refused, run-turn, run-halt, run-past, ended}
+use Rattle.runs.proofs.RunLaws.{counted-words, counted-comes, counted-arrivals}
 use Rattle.runs.proofs.run_words.Statement.{statement}
 use Rattle.runs.proofs.run_words.Tie as tie
 use Rattle.runs.proofs.run_words.Reads as reads
@@ -88,17 +89,19 @@ same-length c = search needs
 
 returns : tie.Need-returns Inv-loop μ-loop
 returns c =
-    let at = c .before .before .before .before .before .before .before .before .before .loop in
+    let l = c .before .before .before .before .before .before .before .before .before in
+    let a = l .before .before .args in
+    let ws = a .words .now in
+    let at = l .loop in
     let v = at .inv in
-    let ws = c .before .before .before .before .before .before .before .before .before .before .before .args .words .now in
-    let x = c .before .before .before .before .before .before .before .before .before .before .before .args .cells .now in
+    let t = rowsOf (at .cells) in
     let w = getD ws (at .i) 0 in
     let s = c .before .before .before .before .before .advance .ensures in
-    let m = answer-refused (rowsOf (at .cells)) w _ (sym (s .answer-is) ∙ c .before .before .refusal .given .1) in
-    let o = v .6 ∙ run-halt (rowsOf (at .cells)) _ (at .tally) ws (at .i) _ (omega arith) (m .0) (s .becomes .rows-are) (m .1) in
+    let m = answer-refused t w _ (sym (s .answer-is) ∙ c .before .before .refusal .given .1) in
+    let halt = run-halt t _ (at .tally) ws (at .i) _ (omega arith) (m .0) (s .becomes .rows-are) (m .1) in
     record {
-      runs = ended x _ _ (at .tally) _ _ (s .becomes .size-is ∙ v .3) o (c .answer .ensures);
-      sound-after = subst (λ (t : Table). tableRefusal t ≡ 0) (sym (s .becomes .rows-are)) (word-keeps-sound (rowsOf (at .cells)) w (v .4));
+      runs = ended (a .cells .now) _ _ (at .tally) _ _ (s .becomes .size-is ∙ v .3) (v .6 ∙ halt) (c .answer .ensures);
+      sound-after = ap tableRefusal (s .becomes .rows-are) ∙ word-keeps-sound t w (v .4);
     }
 
 add-i : tie.Need-add-i Inv-loop μ-loop
@@ -109,21 +112,23 @@ loop-less c = search needs
 
 loop-again : tie.Need-loop-again Inv-loop μ-loop
 loop-again c =
-    let at = c .before .before .before .before .before .before .before .before .before .loop in
+    let l = c .before .before .before .before .before .before .before .before .before in
+    let ws = l .before .before .args .words .now in
+    let at = l .loop in
     let v = at .inv in
-    let ws = c .before .before .before .before .before .before .before .before .before .before .before .args .words .now in
+    let t = rowsOf (at .cells) in
     let w = getD ws (at .i) 0 in
     let s = c .before .before .before .before .before .advance .ensures in
-    let m = answer-moved (rowsOf (at .cells)) w _ (sym (s .answer-is) ∙ c .before .before .event .given .1) in
-    let h = c .counted .ensures ∙ ap (λ (e : Event). counted e (at .tally)) (m .1) in (
+    let m = answer-moved t w _ (sym (s .answer-is) ∙ c .before .before .event .given .1) in
+    let h = c .counted .ensures ∙ ap (λ (e : Event). counted e (at .tally)) (m .1) in
+    let counts = count-on (at .i) (eventOf t w) (at .tally) (v .5) in (
       search needs,
       v .1,
       v .2,
       s .becomes .size-is ∙ v .3,
-      subst (λ (t : Table). tableRefusal t ≡ 0) (sym (s .becomes .rows-are)) (word-keeps-sound (rowsOf (at .cells)) w (v .4)),
-      subst (λ (k : Tally). Counts (at .i + 1) k) (sym h) (count-on (at .i) (eventOf (rowsOf (at .cells)) w) (at .tally) (v .5)),
-      v .6
-          ∙ run-turn (rowsOf (at .cells)) _ (at .tally) _ ws (at .i) (omega arith) (m .0) (s .becomes .rows-are) h,
+      ap tableRefusal (s .becomes .rows-are) ∙ word-keeps-sound t w (v .4),
+      subst (λ (k : Tally). Counts (at .i + 1) k) (sym h) counts,
+      v .6 ∙ run-turn t _ (at .tally) _ ws (at .i) (omega arith) (m .0) (s .becomes .rows-are) h,
     )
 
 answer-requires-2 : tie.Need-answer-requires-2 Inv-loop μ-loop
