@@ -15,7 +15,10 @@ appended-one d at b h = record { bytes-are = placed-one d at b h; end-is = refl 
 -- the same text by another name
 pub appended-as : {d s u y : List ℕ} {at e : ℕ} → s ≡ u → Appended d at s y e → Appended d at u y e
 appended-as {d} {at = at} same a =
-    record { bytes-are = a .bytes-are ∙ ap (placed d at) same; end-is = a .end-is ∙ ap (λ (l : List ℕ). at + length l) same }
+    record {
+      bytes-are = a .bytes-are ∙ ap (placed d at) same;
+      end-is = a .end-is ∙ ap (λ (l : List ℕ). at + length l) same;
+    }
 
 -- the composition law
 pub appended-then : {d s u y z : List ℕ} {at e f : ℕ} → at ≤ length d

@@ -1,12 +1,12 @@
--- A line is its numbers one after another, and how long it is. Assumes nothing.
+-- A line is its numbers one after another, how long it is, and the room for it. Assumes nothing.
 use mathlib.Core.Path.{_≡_, refl, sym, ap, _∙_}
 use mathlib.Core.List.{List, [], _∷_, _++_}
-use Prim.Native.Nat.{ℕ, _+_}
+use Prim.Native.Nat.{ℕ, _+_, _≤_}
 use native.Mathlib.Omega.{arith}
 use lib.ListN.{length, length-append}
 use lib.Seq.{append-snoc}
 use Rattle.machine.specs.Text.{decimal, numbers}
-use Rattle.text.specs.Appending.{field}
+use Rattle.text.specs.Appending.{Appended, field}
 
 pub length-field : (n b : ℕ) → length (field n b) ≡ length (decimal n) + 1
 length-field n b = length-append (decimal n) (b ∷ [])
@@ -24,7 +24,8 @@ numbers-next n m ns = sym (append-snoc (decimal n) 32 (numbers (m ∷ ns)))
 pub length-last : (n : ℕ) → length (numbers (n ∷ [])) ≡ length (decimal n) + 1
 length-last n = ap length (numbers-last n) ∙ length-field n 10
 
-pub length-next : (n m : ℕ) (ns : List ℕ) → length (numbers (n ∷ m ∷ ns)) ≡ length (decimal n) + 1 + length (numbers (m ∷ ns))
+pub length-next : (n m : ℕ) (ns : List ℕ)
+    → length (numbers (n ∷ m ∷ ns)) ≡ length (decimal n) + 1 + length (numbers (m ∷ ns))
 length-next n m ns =
     ap length (numbers-next n m ns) ∙ length-append (field n 32) (numbers (m ∷ ns))
     ∙ ap (λ (k : ℕ). k + length (numbers (m ∷ ns))) (length-field n 32)
@@ -46,4 +47,17 @@ pub length-five : (a b c d e : ℕ)
     → length (numbers (a ∷ b ∷ c ∷ d ∷ e ∷ []))
     ≡ length (decimal a) + length (decimal b) + length (decimal c) + length (decimal d) + length (decimal e) + 5
 length-five a b c d e =
-    omega (arith, length-next a b (c ∷ d ∷ e ∷ []), length-next b c (d ∷ e ∷ []), length-next c d (e ∷ []), length-two d e)
+    omega (
+      arith,
+      length-next a b (c ∷ d ∷ e ∷ []),
+      length-next b c (d ∷ e ∷ []),
+      length-next c d (e ∷ []),
+      length-two d e,
+    )
+
+-- ---- room
+
+-- what is left of a line after its first number has room in the buffer that has room for the line
+pub room-on : {d y : List ℕ} {at e : ℕ} (n m : ℕ) (ns : List ℕ) → at + length (numbers (n ∷ m ∷ ns)) ≤ length d
+    → Appended d at (field n 32) y e → length y ≡ length d → e + length (numbers (m ∷ ns)) ≤ length y
+room-on n m ns room a kept = omega (arith, a .end-is, length-next n m ns, length-field n 32)

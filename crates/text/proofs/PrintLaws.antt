@@ -73,9 +73,10 @@ module _ (ws : List ℕ) where
     pub words-refused : (number place : ℕ) → readingOf l ≡ Reading.Refused number place
         → wordsText ws ≡ imageText ++ numbers (place ∷ number ∷ [])
     words-refused number place answer =
-        wordsText-refused (λ z. refused-some l number place answer (ap (λ (k : List ℕ). imageRefusal k .refusal) image ∙ z))
+        let same = ap (λ (k : List ℕ). imageRefusal k .refusal) image in
+        wordsText-refused (λ z. refused-some l number place answer (same ∙ z))
         ∙ ap (λ (n : ℕ). imageText ++ numbers (imageRefusal (imagePart ws) .place ∷ n ∷ []))
-        (ap (λ (k : List ℕ). imageRefusal k .refusal) (sym image) ∙ refused-number l number place answer)
+        (sym same ∙ refused-number l number place answer)
         ∙ ap (λ (n : ℕ). imageText ++ numbers (n ∷ number ∷ []))
         (ap (λ (k : List ℕ). imageRefusal k .place) (sym image) ∙ refused-place l number place answer)
 
@@ -90,9 +91,11 @@ module _ (ws : List ℕ) where
 
 -- three tests in a row, with what is shared taken out
 regrouped : (bad wrong first over lines : List ℕ) (a b c : Bool)
-    → _≡_ {A = List ℕ}
-    (elim a [ false ↦ bad | true ↦ elim b [ false ↦ wrong | true ↦ elim c [ false ↦ first ++ over | true ↦ first ++ lines ] ] ])
-    (elim a [ false ↦ bad | true ↦ elim b [ false ↦ wrong | true ↦ first ++ elim c [ false ↦ over | true ↦ lines ] ] ])
+    → let each : List ℕ = elim c [ false ↦ first ++ over | true ↦ first ++ lines ] in
+    let shared : List ℕ = first ++ elim c [ false ↦ over | true ↦ lines ] in
+    _≡_ {A = List ℕ}
+    (elim a [ false ↦ bad | true ↦ elim b [ false ↦ wrong | true ↦ each ] ])
+    (elim a [ false ↦ bad | true ↦ elim b [ false ↦ wrong | true ↦ shared ] ])
 regrouped bad wrong first over lines false b c = refl
 regrouped bad wrong first over lines true false c = refl
 regrouped bad wrong first over lines true true false = refl

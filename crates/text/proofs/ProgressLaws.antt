@@ -40,7 +40,8 @@ progress-none d at t ws sound =
       within = omega arith;
     }
 
-module _ (d : List ℕ) (at : ℕ) (t : Table) (ws y : List ℕ) (u : Table) (e i : ℕ) (p : Progress d at t ws y u e i) (inside : at ≤ length d) where
+module _ (d : List ℕ) (at : ℕ) (t : Table) (ws y : List ℕ) (u : Table) (e i : ℕ)
+    (p : Progress d at t ws y u e i) (inside : at ≤ length d) where
   abbrev word : ℕ
   word = getD ws i 0
 

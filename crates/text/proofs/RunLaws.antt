@@ -4,7 +4,8 @@ use mathlib.Core.Bool.{Bool, true, false, cond}
 use mathlib.Core.List.{List, [], _∷_, _++_}
 use Prim.Native.Nat.{ℕ, suc, _+_, _≤_, _<_}
 use native.Mathlib.Omega.{arith}
-use borrow.Author.Tests.{eqb-true, eq-eqb, ne-eqb}
+use borrow.Author.Tests.{eqb-true, eq-eqb, ne-eqb, leb-true}
+use lib.Dec.{leb}
 use lib.ListN.{length}
 use Rattle.counting.proofs.CountLaws.{count-le}
 use Rattle.machine.specs.Tables.{Table, row, tableRefusal, locations}
@@ -104,8 +105,10 @@ module _ (t : Table) (w : ℕ) where
 -- a sound row's location has two digits
 location-low : (t : Table) (p : ℕ) → tableRefusal t ≡ 0 → p < length t → row t p .location < 100
 location-low t p sound h =
-    by-one (row t p .location) locations
-    ((λ e. omega arith), ((λ e. omega arith), ((λ e. omega arith), ((λ e. omega arith), ((λ e. omega arith), ((λ e. omega arith), ((λ e. omega arith), ((λ e. omega arith), tt))))))))
+    let l = row t p .location in
+    let low : (v : ℕ) → leb v 99 ≡ true → l ≡ v → l < 100 = λ v small e. omega (arith, leb-true v 99 small) in
+    by-one l locations
+    (low _ refl, (low _ refl, (low _ refl, (low _ refl, (low _ refl, (low _ refl, (low _ refl, (low _ refl, tt))))))))
     (sound-row t sound p h .location-known)
 
 -- the line of a taken word

@@ -52,7 +52,8 @@ pub record Ready (x : List (List ℕ)) (d : List ℕ) (at i : ℕ) : Type 0 wher
   pub room : at + lineRoom ≤ length d
   pub few : i < limit
 
-pub record WordPrinted (x : List (List ℕ)) (d : List ℕ) (at i w : ℕ) (y : List (List ℕ)) (e : List ℕ) (r : Line) : Type 0 where
+pub record WordPrinted (x : List (List ℕ)) (d : List ℕ) (at i w : ℕ)
+    (y : List (List ℕ)) (e : List ℕ) (r : Line) : Type 0 where
   pub becomes : Becomes x (afterWord (rowsOf x) w) y
   pub taken-is : goesOn r ≡ takes (rowsOf x) w
   pub appended : Appended d at (lineOf (rowsOf x) i w) e (endOf r)

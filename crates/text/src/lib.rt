@@ -48,7 +48,9 @@ fn put_first(out: &mut [u8], cells: &[[u16; 8]]) -> usize
 // The last line of a run of too many words.
 fn put_refused(out: &mut [u8], at: usize) -> usize
     requires { ⌜ at + 10 ≤ length (now out) ⌝ }
-    ensures { λ r. ⌜ Appended (now (out .entry)) at (stopText ++ numbers (0 ∷ tooManyWords ∷ [])) (now (out .exit)) r ⌝ }
+    ensures { λ r. ⌜
+        Appended (now (out .entry)) at (stopText ++ numbers (0 ∷ tooManyWords ∷ [])) (now (out .exit)) r
+        ⌝ }
 {
     put_two(out, at, b"stop ", 0, machine::TOO_MANY_WORDS as u32)
 }
@@ -56,7 +58,10 @@ fn put_refused(out: &mut [u8], at: usize) -> usize
 // The text of a run of the words from the table in the cells.
 fn print_table(out: &mut [u8], cells: &mut [[u16; 8]], words: &[u32]) -> usize
     requires { ⌜ TableReady (now cells) (now out) ⌝ }
-    ensures { λ r. ⌜ Appended (now (out .entry)) 0 (tableText (rowsOf (now (cells .entry))) (now (words .entry))) (now (out .exit)) r ⌝ }
+    ensures { λ r. ⌜
+        Appended (now (out .entry)) 0 (tableText (rowsOf (now (cells .entry))) (now (words .entry)))
+        (now (out .exit)) r
+        ⌝ }
 {
     let at = put_first(out, cells);
     if words.len() > machine::RUN_LIMIT {

@@ -1,8 +1,10 @@
 -- `text::print_input` meets its contract. Assumes nothing.
 use native.Mathlib.Omega.{arith}
 use mathlib.Core.Path.{_≡_, sym, ap, _∙_}
+use Prim.Native.Nat.{_≤_}
 use lib.ListN.{length}
 use lib.Seq.{length-take-le}
+use Rattle.octets.specs.Placing.{Whole}
 use Rattle.octets.proofs.ByteLaws.{fits-whole, take-unpacked}
 use Rattle.text.specs.Printing.{wordsText}
 use Rattle.text.proofs.AppendingLaws.{appended-as}
@@ -14,23 +16,26 @@ use Rattle.text.proofs.print_input.Lts as lts
 use Rattle.octets.proofs.unpack.Reads as unpack-reads
 use Rattle.text.proofs.print_words.Reads as print-words-reads
 
+-- the bytes are whole words, and there is room for them
+whole : (s : tie.Start) → Whole (s .args .input .now) (s .args .words .now)
+whole s = fits-whole (s .args .input .now) (s .args .words .now) (s .pre .fit) (s .pre .words-room)
+
 unpack-requires : tie.Need-unpack-requires
-unpack-requires c κs =
-    let start = c .before .before .before .before in
-    fits-whole (start .args .input .now) (start .args .words .now) (start .pre .fit) (start .pre .words-room)
+unpack-requires c κs = whole (c .before .before .before .before)
+
+-- as many words were unpacked as the buffer of words holds, or fewer
+within : (c : tie.After-unpack) → c .unpack .result ≤ length (c .unpack .last .1 .0)
+within c =
+    let room = whole (c .before .before .before .before .before) .room in
+    omega (arith, c .unpack .ensures .0, c .unpack .kept .1 .0)
 
 slice-reshare-prefix-print-words : tie.Need-slice-reshare-prefix-print-words
-slice-reshare-prefix-print-words c =
-    let start = c .before .before .before .before .before .before .before .before in
-    let whole = fits-whole (start .args .input .now) (start .args .words .now) (start .pre .fit) (start .pre .words-room) in
-    omega (arith, whole .room, c .before .before .before .unpack .ensures .0, c .before .before .before .unpack .kept .1 .0)
+slice-reshare-prefix-print-words c = within (c .before .before .before)
 
 slice-aggregate-print-words : tie.Need-slice-aggregate-print-words
 slice-aggregate-print-words c =
-    let start = c .before .before .before .before .before .before .before .before .before in
-    let whole = fits-whole (start .args .input .now) (start .args .words .now) (start .pre .fit) (start .pre .words-room) in
-    let unpacked = c .before .before .before .before .unpack in
-    sym (length-take-le (unpacked .result) (unpacked .last .1 .0) (omega (arith, whole .room, unpacked .ensures .0, unpacked .kept .1 .0)))
+    let u = c .before .before .before .before in
+    sym (length-take-le (u .unpack .result) (u .unpack .last .1 .0) (within u))
 
 print-words-requires : tie.Need-print-words-requires
 print-words-requires c κs = search needs

@@ -1,9 +1,11 @@
 -- `text::print_run` meets its contract. Assumes nothing.
 use native.Mathlib.Omega.{arith}
 use mathlib.Core.Path.{_≡_, sym, _∙_}
+use mathlib.Core.Bool.{true}
 use Prim.Native.Nat.{ℕ}
 use lib.ListN.{length-replicate}
 use borrow.Author.Tests.{not-true, not-false}
+use Rattle.machine.specs.Bytes.{bytesFit}
 use Rattle.text.proofs.PrintLaws.{short-print, whole-print, printed-bad, printed-words}
 use borrow.Author.Needs.{needs}
 use Rattle.text.proofs.print_run.Statement.{statement}
@@ -30,18 +32,24 @@ same-length c = search needs
 
 returns-2 : tie.Need-returns-2
 returns-2 c =
-    let a = c .before .before .before .before .before .before .before .before .before .args in
-    whole-print (a .input .now) (a .out .now) _ (c .before .before .print-bad .last .0) (c .before .before .print-bad .result) (c .before .before .before .before .before .before .if1 .left)
-    (printed-bad (a .input .now) (sym (c .before .before .before .before .before .bytes-fit .ensures) ∙ not-true _ (c .before .before .before .before .if2 .taken)))
-    (c .before .before .print-bad .ensures)
+    let put = c .before .before .print-bad in
+    let b = c .before .before .before .before in
+    let a = b .before .before .before .before .before .args in
+    let unfit = sym (b .before .bytes-fit .ensures) ∙ not-true _ (b .if2 .taken) in
+    whole-print (a .input .now) (a .out .now) _ (put .last .0) (put .result) (b .before .before .if1 .left)
+    (printed-bad (a .input .now) unfit) (put .ensures)
 
 slice-aggregate-print-input : tie.Need-slice-aggregate-print-input
 slice-aggregate-print-input c = search needs
 
+-- the bytes are whole words and not too many
+fit : (c : tie.Else2) → bytesFit (c .before .before .before .before .before .args .input .now) ≡ true
+fit c = sym (c .before .bytes-fit .ensures) ∙ not-false _ (c .if2 .left)
+
 print-input-requires : tie.Need-print-input-requires
 print-input-requires c κs =
     record {
-      fit = sym (c .before .before .before .bytes-fit .ensures) ∙ not-false _ (c .before .before .if2 .left);
+      fit = fit (c .before .before);
       words-room = length-replicate {A = ℕ} 8272 0;
       room = c .before .before .before .before .if1 .left;
     }
@@ -51,10 +59,11 @@ same-length-2 c = search needs
 
 returns-3 : tie.Need-returns-3
 returns-3 c =
-    let a = c .before .before .before .before .before .before .before .before .before .before .before .args in
-    whole-print (a .input .now) (a .out .now) _ (c .before .before .before .print-input .last .0) (c .before .before .before .print-input .result) (c .before .before .before .before .before .before .before .before .if1 .left)
-    (printed-words (a .input .now) (sym (c .before .before .before .before .before .before .before .bytes-fit .ensures) ∙ not-false _ (c .before .before .before .before .before .before .if2 .left)))
-    (c .before .before .before .print-input .ensures)
+    let put = c .before .before .before .print-input in
+    let e = c .before .before .before .before .before .before in
+    let a = e .before .before .before .before .before .args in
+    whole-print (a .input .now) (a .out .now) _ (put .last .0) (put .result) (e .before .before .if1 .left)
+    (printed-words (a .input .now) (fit e)) (put .ensures)
 
 pub print-run-spec : {M : Type 1} → statement M
 print-run-spec =

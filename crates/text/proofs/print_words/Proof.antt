@@ -1,11 +1,12 @@
 -- `text::print_words` meets its contract: a refused image, or the text of the run. Assumes nothing.
 use native.Mathlib.Omega.{arith}
 use mathlib.Core.Path.{_≡_, sym, ap, _∙_}
-use Prim.Native.Nat.{_-_}
-use lib.ListN.{length, take, drop, length-drop}
-use lib.Seq.{take-all, length-take-le}
-use Rattle.cells.specs.View.{rowsOf}
-use Rattle.inputs.proofs.ReadingLaws.{loaded}
+use mathlib.Core.List.{List}
+use Prim.Native.Nat.{ℕ, _≤_}
+use lib.ListN.{length, take}
+use lib.Seq.{length-take-le}
+use Rattle.inputs.proofs.SplitLaws.{events-left}
+use Rattle.inputs.proofs.ReadingLaws.{Loaded, loaded}
 use Rattle.text.proofs.AppendingLaws.{appended-as}
 use Rattle.text.proofs.DigitLaws.{length-digits}
 use Rattle.text.proofs.LineLaws.{length-two}
@@ -25,7 +26,8 @@ image-length-requires c κs = search needs
 
 slice-aggregate-read-cells : tie.Need-slice-aggregate-read-cells
 slice-aggregate-read-cells c =
-    sym (length-take-le (c .before .image-length .result) (c .before .before .before .before .args .words .now) (c .before .image-length .ensures .within))
+    let cut = c .before .image-length in
+    sym (length-take-le (cut .result) (c .before .before .before .before .args .words .now) (cut .ensures .within))
 
 slice-aggregate-read-cells-2 : tie.Need-slice-aggregate-read-cells-2
 slice-aggregate-read-cells-2 c = search needs
@@ -39,27 +41,31 @@ enum-known-n c = search needs
 cast-size : tie.Need-cast-size
 cast-size c = search needs
 
+-- ---- a table was read
+
+-- the words of the image
+abbrev image : tie.After-image-length → List ℕ
+image c = take (c .image-length .result) (c .before .before .before .args .words .now)
+
+table : (c : tie.After-n)
+    → let r = c .before .before .before in
+    Loaded (image (r .before .before .before)) (r .read-cells .last .1 .0) (c .n .given .0 .0)
+table c =
+    let r = c .before .before .before in
+    loaded (image (r .before .before .before)) _ (r .read-cells .last .1 .0) (r .read-cells .result) _
+    (r .read-cells .ensures) (c .n .given .1)
+
+-- its rows are among the cells
+within : (c : tie.After-n) → c .n .given .0 .0 ≤ length (c .before .before .before .read-cells .last .1 .0)
+within c = omega (arith, table c .few, c .before .before .before .read-cells .kept .1 .0)
+
 array-borrow-prefix-cells : tie.Need-array-borrow-prefix-cells
-array-borrow-prefix-cells c =
-    let start = c .before .before .before .before .before .before .before .before .before .before .before in
-    let ws = start .args .words .now in
-    let cut = c .before .before .before .before .before .before .before .before .image-length in
-    let read = c .before .before .before .before .before .read-cells in
-    let n = c .before .before .n .given .0 .0 in
-    let y = read .last .1 .0 in
-    let table = loaded (take (cut .result) ws) _ y (read .result) n (read .ensures) (c .before .before .n .given .1) in
-    omega (arith, table .few, read .kept .1 .0)
+array-borrow-prefix-cells c = within (c .before .before)
 
 slice-aggregate-print-table : tie.Need-slice-aggregate-print-table
 slice-aggregate-print-table c =
-    let start = c .before .before .before .before .before .before .before .before .before .before .before .before in
-    let ws = start .args .words .now in
-    let cut = c .before .before .before .before .before .before .before .before .before .image-length in
-    let read = c .before .before .before .before .before .before .read-cells in
-    let n = c .before .before .before .n .given .0 .0 in
-    let y = read .last .1 .0 in
-    let table = loaded (take (cut .result) ws) _ y (read .result) n (read .ensures) (c .before .before .before .n .given .1) in
-    sym (length-take-le n y (omega (arith, table .few, read .kept .1 .0)))
+    let r = c .before .before .before in
+    sym (length-take-le (r .n .given .0 .0) (r .before .before .before .read-cells .last .1 .0) (within r))
 
 mul-print-table : tie.Need-mul-print-table
 mul-print-table c = search needs
@@ -75,14 +81,9 @@ part-print-table-end c = search needs
 
 print-table-requires : tie.Need-print-table-requires
 print-table-requires c κs =
-    let start = c .before .before .before .before .before .before .before .before .before .before .before .before .before in
-    let ws = start .args .words .now in
-    let cut = c .before .before .before .before .before .before .before .before .before .before .image-length in
-    let read = c .before .before .before .before .before .before .before .read-cells in
-    let n = c .before .before .before .before .n .given .0 .0 in
-    let y = read .last .1 .0 in
-    let table = loaded (take (cut .result) ws) _ y (read .result) n (read .ensures) (c .before .before .before .before .n .given .1) in
-    record { sound = table .sound; room = start .pre }
+    let r = c .before .before .before .before in
+    let start = r .before .before .before .before .before .before .before .before .before in
+    record { sound = table r .sound; room = start .pre }
 
 enum-known-number : tie.Need-enum-known-number
 enum-known-number c = search needs
@@ -98,44 +99,43 @@ cast-put-two-2 c = search needs
 
 put-two-requires : tie.Need-put-two-requires
 put-two-requires c κs =
-    let place = c .before .before .before .number .given .0 .1 .0 in
-    let number = c .before .before .before .number .given .0 .0 in
-    omega (arith, length-two place number, length-digits 20 4 place (omega (arith, c .before .before .known-told2 .given)), length-digits 20 4 number (omega (arith, c .before .before .known-told2 .given)), c .before .before .before .before .before .before .before .before .before .before .before .before .pre)
+    let found = c .before .before .before .number .given .0 in
+    let small = c .before .before .known-told2 .given in
+    let room = c .before .before .before .before .before .before .before .before .before .before .before .before .pre in
+    omega (
+      arith,
+      length-two (found .1 .0) (found .0),
+      length-digits 20 4 (found .1 .0) (omega arith),
+      length-digits 20 4 (found .0) (omega arith),
+    )
 
 same-length : tie.Need-same-length
 same-length c = search needs
 
 returns : tie.Need-returns
 returns c =
-    let start = c .before .before .before .before .before .before .before .before .before .before .before .before .before .before .before .before .before in
-    let ws = start .args .words .now in
-    let cut = c .before .before .before .before .before .before .before .before .before .before .before .before .before .before .image-length in
-    let read = c .before .before .before .before .before .before .before .before .before .before .before .read-cells in
-    let n = c .before .before .before .before .before .before .before .before .n .given .0 .0 in
-    let y = read .last .1 .0 in
-    let table = loaded (take (cut .result) ws) _ y (read .result) n (read .ensures) (c .before .before .before .before .before .before .before .before .n .given .1) in
-    let left = length ws - cut .result in
-    appended-as
-    (sym
-    (words-run ws (take (cut .result) ws) (cut .ensures .image-is) (take left (drop (cut .result) ws)) (rowsOf (take n y))
-    (take-all left (drop (cut .result) ws) (omega (arith, length-drop (cut .result) ws)) ∙ cut .ensures .events-are) (table .rows-are) (table .accepted)))
-    (c .before .before .before .print-table .ensures)
+    let r = c .before .before .before .before .before .before .before .before in
+    let m = r .before .before .before .before .before .before in
+    let ws = m .before .before .before .args .words .now in
+    let cut = m .image-length in
+    let events = events-left ws (cut .result) (cut .ensures) in
+    let t = table r in
+    let text = words-run ws (image m) (cut .ensures .image-is) _ _ events (t .rows-are) (t .accepted) in
+    appended-as (sym text) (c .before .before .before .print-table .ensures)
 
 same-length-2 : tie.Need-same-length-2
 same-length-2 c = search needs
 
 returns-2 : tie.Need-returns-2
 returns-2 c =
-    let start = c .before .before .before .before .before .before .before .before .before .before .before .before .before .before .before in
-    let ws = start .args .words .now in
-    let cut = c .before .before .before .before .before .before .before .before .before .before .before .before .image-length in
-    let read = c .before .before .before .before .before .before .before .before .before .read-cells in
-    let found = c .before .before .before .before .before .before .number .given in
-    appended-as
-    (sym
-    (words-refused ws (take (cut .result) ws) (cut .ensures .image-is) (found .0 .0) (found .0 .1 .0)
-    (sym (read .ensures .answer-is) ∙ found .1)))
-    (c .before .before .put-two .ensures)
+    let f = c .before .before .before .before .before .before in
+    let found = f .number .given in
+    let read = f .before .before .before .read-cells in
+    let m = f .before .before .before .before .before .before in
+    let text =
+    words-refused (m .before .before .before .args .words .now) (image m) (m .image-length .ensures .image-is)
+    (found .0 .0) (found .0 .1 .0) (sym (read .ensures .answer-is) ∙ found .1) in
+    appended-as (sym text) (c .before .before .put-two .ensures)
 
 pub print-words-spec : {M : Type 1} → statement M
 print-words-spec =

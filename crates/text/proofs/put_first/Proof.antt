@@ -41,7 +41,8 @@ same-length c = search needs
 returns : tie.Need-returns
 returns c =
     let x = c .before .before .before .before .before .before .args .cells .now in
-    appended-as (ap (λ (n : ℕ). postsText ++ numbers (n ∷ [])) (sym (rows-length x))) (c .before .before .put-one .ensures)
+    let size = ap (λ (n : ℕ). postsText ++ numbers (n ∷ [])) (sym (rows-length x)) in
+    appended-as size (c .before .before .put-one .ensures)
 
 pub put-first-spec : {M : Type 1} → statement M
 put-first-spec =

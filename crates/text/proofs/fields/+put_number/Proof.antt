@@ -71,10 +71,10 @@ put-number-returns : (t : ℕ) → put-number-lts.Need-returns (
   put-number.Post,
 ) (put-number-at t) put-number.Post
 put-number-returns t c =
-    let n = c .before .before .before .before .before .before .before .args .n in
-    appended-as
-    (ap (λ (b : ℕ). b ∷ []) (c .before .before .before .digit .ensures) ∙ sym (decimal-one n (c .before .before .before .before .before .if1 .taken)))
-    (c .before .before .put-byte .ensures)
+    let d = c .before .before .before in
+    let n = d .before .before .before .before .args .n in
+    let one = sym (decimal-one n (d .before .before .if1 .taken)) in
+    appended-as (ap (λ (b : ℕ). b ∷ []) (d .digit .ensures) ∙ one) (c .before .before .put-byte .ensures)
 
 put-number-put-number-requires : (t : ℕ) → put-number-lts.Need-put-number-requires (
   digit-reads.Asked,
@@ -108,9 +108,10 @@ put-number-put-byte-requires-2 : (t : ℕ) → put-number-lts.Need-put-byte-requ
   put-number.Post,
 ) (put-number-at t) put-number.Post
 put-number-put-byte-requires-2 t c κs =
-    let start = c .before .before .before .before .before .before .before .before in
-    let more = length-decimal-more (start .args .n) (start .fits .n .fits) (c .before .before .before .before .before .before .if1 .left) in
     let put = c .before .before .before .before .put-number in
+    let e = c .before .before .before .before .before .before in
+    let start = e .before .before in
+    let more = length-decimal-more (start .args .n) (start .fits .n .fits) (e .if1 .left) in
     omega (arith, put .kept .0, put .ensures .end-is)
 
 put-number-same-length-2 : (t : ℕ) → put-number-lts.Need-same-length-2 (
@@ -121,7 +122,9 @@ put-number-same-length-2 : (t : ℕ) → put-number-lts.Need-same-length-2 (
   put-number-below t,
   put-number.Post,
 ) (put-number-at t) put-number.Post
-put-number-same-length-2 t c = c .before .before .put-byte2 .kept .0 ∙ c .before .before .before .before .before .before .before .put-number .kept .0
+put-number-same-length-2 t c =
+    let b = c .before .before in
+    b .put-byte2 .kept .0 ∙ b .before .before .before .before .before .put-number .kept .0
 
 put-number-returns-2 : (t : ℕ) → put-number-lts.Need-returns-2 (
   digit-reads.Asked,
@@ -132,12 +135,14 @@ put-number-returns-2 : (t : ℕ) → put-number-lts.Need-returns-2 (
   put-number.Post,
 ) (put-number-at t) put-number.Post
 put-number-returns-2 t c =
-    let start = c .before .before .before .before .before .before .before .before .before .before .before in
+    let p = c .before .before .before .before .before .before .before in
+    let e = p .before .before in
+    let start = e .before .before in
     let n = start .args .n in
+    let more = sym (decimal-more n (start .fits .n .fits) (e .if1 .left)) in
     appended-as
-    (ap (λ (b : ℕ). decimal (n / 10) ++ (b ∷ [])) (c .before .before .before .digit2 .ensures)
-    ∙ sym (decimal-more n (start .fits .n .fits) (c .before .before .before .before .before .before .before .before .before .if1 .left)))
-    (appended-then (omega arith) (c .before .before .before .before .before .before .before .put-number .ensures) (c .before .before .put-byte2 .ensures))
+    (ap (λ (b : ℕ). decimal (n / 10) ++ (b ∷ [])) (c .before .before .before .digit2 .ensures) ∙ more)
+    (appended-then (omega arith) (p .put-number .ensures) (c .before .before .put-byte2 .ensures))
 
 pub +put-number-spec : {M : Type 1} → statement M
 +put-number-spec = close μ-put-number λ t. put-number-lts.spec (

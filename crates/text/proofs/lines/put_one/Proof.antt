@@ -24,7 +24,8 @@ put-field-requires : tie.Need-put-field-requires
 put-field-requires c κs =
     let a = c .before .before .before .before .before .before .before .args in
     let put = c .before .before .before .put-text in
-    omega (arith, length-append (a .s .now) (numbers (a .a ∷ [])), length-last (a .a), put .ensures .end-is, put .kept .0)
+    let long = length-append (a .s .now) (numbers (a .a ∷ [])) in
+    omega (arith, length-last (a .a), put .ensures .end-is, put .kept .0)
 
 same-length : tie.Need-same-length
 same-length c = search needs

@@ -6,7 +6,8 @@ use mathlib.Core.Path.{_≡_, refl, sym, ap, _∙_}
 use mathlib.Core.Bool.{Bool, true, false}
 use mathlib.Core.List.{[], _∷_}
 use Prim.Native.Nat.{ℕ, _-_, _≤_}
-use lib.ListN.{length, getD}
+use lib.ListN.{length}
+use Rattle.machine.specs.Runs.{limit}
 use Rattle.cells.specs.View.{rowsOf}
 use Rattle.text.specs.Running.{goesOn, endOf, lineOf}
 use Rattle.text.specs.Appending.{Appended}
@@ -23,18 +24,26 @@ use Rattle.text.proofs.running.put_word.Reads as put-word-reads
 
 abbrev Inv-loop : tie.InvT-loop
 Inv-loop out₀ at cells₀ words end₀ i₀ out cells end i =
-    Progress out₀ at (rowsOf cells₀) words out (rowsOf cells) end i × (length out ≡ length out₀) × (length cells ≡ length cells₀)
+    Progress out₀ at (rowsOf cells₀) words out (rowsOf cells) end i
+    × (length out ≡ length out₀)
+    × (length cells ≡ length cells₀)
 
 abbrev μ-loop : tie.MeasureT-loop
 μ-loop out₀ at cells₀ words end₀ i₀ out cells end i = length words - i
 
+abbrev start : tie.At-loop Inv-loop μ-loop → tie.Start Inv-loop μ-loop
+start c = c .before .before .before
+
 loop-holds : tie.Need-loop-holds Inv-loop μ-loop
 loop-holds c =
-    let a = c .before .before .args in
-    (progress-none (a .out .now) (a .at) (rowsOf (a .cells .now)) (a .words .now) (c .before .before .pre .sound), refl, refl)
+    let s = c .before .before in
+    let a = s .args in
+    (progress-none (a .out .now) (a .at) (rowsOf (a .cells .now)) (a .words .now) (s .pre .sound), refl, refl)
 
 cast-put-word : tie.Need-cast-put-word Inv-loop μ-loop
-cast-put-word c = omega (arith, c .before .before .before .loop .inv .0 .within, c .before .before .before .before .before .before .pre .few)
+cast-put-word c =
+    let l = c .before .before .before in
+    omega (arith, l .loop .inv .0 .within, start l .pre .few)
 
 mul-put-word : tie.Need-mul-put-word Inv-loop μ-loop
 mul-put-word c = omega arith
@@ -44,13 +53,12 @@ shared-slice-read-put-word c = omega arith
 
 put-word-requires : tie.Need-put-word-requires Inv-loop μ-loop
 put-word-requires c κs =
-    let start = c .before .before .before .before .before .before .before in
-    let l = c .before .before .before .before .loop in
-    let p = l .inv .0 in
+    let l = c .before .before .before .before in
+    let p = l .loop .inv .0 in
     record {
       sound = p .sound;
-      room = omega (arith, p .room, p .appended .end-is, l .inv .1, start .pre .room);
-      few = omega (arith, start .pre .few);
+      room = omega (arith, p .room, p .appended .end-is, l .loop .inv .1, start l .pre .room);
+      few = omega (arith, start l .pre .few);
     }
 
 enum-known-next : tie.Need-enum-known-next Inv-loop μ-loop
@@ -59,22 +67,32 @@ enum-known-next c = search needs
 enum-known-last : tie.Need-enum-known-last Inv-loop μ-loop
 enum-known-last c = search needs
 
+-- ---- after the line of a word
+
+abbrev loop-of : tie.After-put-word Inv-loop μ-loop → tie.At-loop Inv-loop μ-loop
+loop-of c = c .before .before .before .before .before
+
+out-kept : (c : tie.After-put-word Inv-loop μ-loop)
+    → length (c .put-word .last .0) ≡ length (start (loop-of c) .args .out .now)
+out-kept c = c .put-word .kept .0 ∙ loop-of c .loop .inv .1
+
+cells-kept : (c : tie.After-put-word Inv-loop μ-loop)
+    → length (c .put-word .last .1 .1 .0) ≡ length (start (loop-of c) .args .cells .now)
+cells-kept c = c .put-word .kept .1 .1 .0 ∙ loop-of c .loop .inv .2
+
 same-length : tie.Need-same-length Inv-loop μ-loop
-same-length c = c .before .before .before .before .before .before .put-word .kept .0 ∙ c .before .before .before .before .before .before .before .before .before .before .before .loop .inv .1
+same-length c = out-kept (c .before .before .before .before .before .before)
 
 same-length-2 : tie.Need-same-length-2 Inv-loop μ-loop
-same-length-2 c = c .before .before .before .before .before .before .put-word .kept .1 .1 .0 ∙ c .before .before .before .before .before .before .before .before .before .before .before .loop .inv .2
+same-length-2 c = cells-kept (c .before .before .before .before .before .before)
 
 returns : tie.Need-returns Inv-loop μ-loop
 returns c =
-    let start = c .before .before .before .before .before .before .before .before .before .before .before .before .before .before in
-    let a = start .args in
-    let l = c .before .before .before .before .before .before .before .before .before .before .before .loop in
-    let put = c .before .before .before .before .before .before .put-word in
-    let w = getD (a .words .now) (l .i) 0 in
+    let w = c .before .before .before .before .before .before in
+    let put = w .put-word in
+    let l = loop-of w in
     let is = c .before .last .given .1 in
-    progress-stopped (a .out .now) (a .at) (rowsOf (a .cells .now)) (a .words .now) (l .out) (rowsOf (l .cells)) (l .end) (l .i) (l .inv .0)
-    (omega (arith, start .pre .room))
+    progress-stopped _ _ _ _ _ _ _ _ (l .loop .inv .0) (omega (arith, start l .pre .room))
     (put .last .0) _ (omega arith) (sym (put .ensures .taken-is) ∙ ap goesOn is)
     (rw is at (put .ensures .appended))
 
@@ -86,31 +104,41 @@ loop-less c = omega arith
 
 loop-again : tie.Need-loop-again Inv-loop μ-loop
 loop-again c =
-    let start = c .before .before .before .before .before .before .before .before .before .before .before .before .before .before in
-    let a = start .args in
-    let l = c .before .before .before .before .before .before .before .before .before .before .before .loop in
-    let put = c .before .before .before .before .before .before .put-word in
-    let w = getD (a .words .now) (l .i) 0 in
+    let w = c .before .before .before .before .before .before in
+    let put = w .put-word in
+    let l = loop-of w in
     let is = c .before .next .given .1 in (
-      progress-taken (a .out .now) (a .at) (rowsOf (a .cells .now)) (a .words .now) (l .out) (rowsOf (l .cells)) (l .end) (l .i) (l .inv .0)
-          (omega (arith, start .pre .room))
-          (put .last .0) (rowsOf (put .last .1 .1 .0)) _ (omega arith) (omega (arith, start .pre .few))
+      progress-taken _ _ _ _ _ _ _ _ (l .loop .inv .0) (omega (arith, start l .pre .room))
+          (put .last .0) (rowsOf (put .last .1 .1 .0)) _ (omega arith) (omega (arith, start l .pre .few))
           (sym (put .ensures .taken-is) ∙ ap goesOn is)
           (put .ensures .becomes .rows-are)
           (rw is at (put .ensures .appended)),
-      put .kept .0 ∙ l .inv .1,
-      put .kept .1 .1 .0 ∙ l .inv .2,
+      out-kept w,
+      cells-kept w,
     )
 
+-- ---- after the last word
+
 cast-put-done : tie.Need-cast-put-done Inv-loop μ-loop
-cast-put-done c = omega (arith, c .before .before .loop .inv .0 .within, c .before .before .before .before .before .pre .few)
+cast-put-done c =
+    let l = c .before .before in
+    omega (arith, l .loop .inv .0 .within, start l .pre .few)
 
 put-done-requires : tie.Need-put-done-requires Inv-loop μ-loop
 put-done-requires c κs =
-    let start = c .before .before .before .before .before in
-    let l = c .before .before .loop in
-    let p = l .inv .0 in
-    omega (arith, p .room, p .within, p .appended .end-is, l .inv .1, start .pre .room, start .pre .few, length-last (l .i), length-digits 20 3 (l .i) (omega (arith, p .within, start .pre .few)))
+    let l = c .before .before in
+    let p = l .loop .inv .0 in
+    let few : l .loop .i ≤ limit = omega (arith, p .within, start l .pre .few) in
+    let long = length-digits 20 3 (l .loop .i) (omega arith) in
+    omega (
+      arith,
+      p .room,
+      p .within,
+      p .appended .end-is,
+      l .loop .inv .1,
+      start l .pre .room,
+      length-last (l .loop .i),
+    )
 
 same-length-3 : tie.Need-same-length-3 Inv-loop μ-loop
 same-length-3 c = c .before .before .put-done .kept .0 ∙ c .before .before .before .before .before .loop .inv .1
@@ -120,13 +148,11 @@ same-length-4 c = c .before .before .before .before .before .loop .inv .2
 
 returns-2 : tie.Need-returns-2 Inv-loop μ-loop
 returns-2 c =
-    let start = c .before .before .before .before .before .before .before .before in
-    let a = start .args in
-    let l = c .before .before .before .before .before .loop in
-    let all : l .i ≡ length (a .words .now) = omega (arith, l .inv .0 .within) in
-    progress-done (a .out .now) (a .at) (rowsOf (a .cells .now)) (a .words .now) (l .out) (rowsOf (l .cells)) (l .end) (l .i) (l .inv .0)
-    (omega (arith, start .pre .room))
-    _ _ all (c .before .before .put-done .ensures)
+    let l = c .before .before .before .before .before in
+    let s = start l in
+    let all : l .loop .i ≡ length (s .args .words .now) = omega (arith, l .loop .inv .0 .within) in
+    progress-done _ _ _ _ _ _ _ _ (l .loop .inv .0) (omega (arith, s .pre .room)) _ _ all
+    (c .before .before .put-done .ensures)
 
 pub put-run-spec : {M : Type 1} → statement M
 put-run-spec =

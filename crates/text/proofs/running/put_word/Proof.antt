@@ -5,10 +5,11 @@ use mathlib.Core.Bool.{true, false}
 use mathlib.Core.List.{[], _∷_, _++_}
 use Prim.Native.Nat.{ℕ, _≤_}
 use lib.ListN.{length}
-use Rattle.machine.specs.Text.{numbers, stopText}
+use Rattle.machine.specs.Text.{numbers, stopText, wordLine}
 use Rattle.machine.proofs.SoundRows.{sound-few}
 use Rattle.cells.specs.View.{rowsOf}
 use Rattle.cells.proofs.ViewLaws.{rows-length}
+use Rattle.text.specs.Running.{takes}
 use Rattle.text.proofs.AppendingLaws.{appended-as}
 use Rattle.text.proofs.RunLaws.{
   line-is,
@@ -47,34 +48,64 @@ enum-told c = search needs
 location-at-requires-2 : tie.Need-location-at-requires-2
 location-at-requires-2 c κs = search needs
 
+-- ---- after the step
+
+abbrev start : tie.After-advance → tie.Start
+start c = c .before .before .before .before .before .before
+
 count-critical-requires : tie.Need-count-critical-requires
 count-critical-requires c κs =
-    let x = c .before .before .before .before .before .before .before .before .before .before .before .before .args .cells .now in
-    omega (arith, c .before .before .before .before .before .before .advance .kept .0, rows-length x, sound-few (rowsOf x) (c .before .before .before .before .before .before .before .before .before .before .before .before .pre .sound))
+    let step = c .before .before .before .before .before .before in
+    let s = start step in
+    let x = s .args .cells .now in
+    omega (arith, step .advance .kept .0, rows-length x, sound-few (rowsOf x) (s .pre .sound))
+
+-- ---- a taken word
+
+abbrev stepped : tie.After-enum-told → tie.After-advance
+stepped c = c .before .before .before
+
+taken : (c : tie.After-enum-told)
+    → let a = start (stepped c) .args in
+    takes (rowsOf (a .cells .now)) (a .word) ≡ true
+taken c =
+    let a = start (stepped c) .args in
+    let answer = sym (stepped c .advance .ensures .answer-is) ∙ c .enum-told .given .1 in
+    moved-takes (rowsOf (a .cells .now)) (a .word) _ answer
 
 cast-put-five : tie.Need-cast-put-five
 cast-put-five c = search needs
 
+-- its five numbers are its line
+line : (c : tie.After-count-critical)
+    → let l = c .before .before in
+    let step = stepped (l .before .before) in
+    let first = step .before .before in
+    let a = start step .args in
+    numbers (a .place ∷ first .before .before .process-of .result ∷ first .location-at .result
+    ∷ l .location-at2 .result ∷ c .count-critical .result ∷ [])
+    ≡ wordLine (rowsOf (a .cells .now)) (a .place) (a .word)
+line c =
+    let l = c .before .before in
+    let step = stepped (l .before .before) in
+    let first = step .before .before in
+    let a = start step .args in
+    line-is (rowsOf (a .cells .now)) (rowsOf (step .advance .last .0)) (a .place) (a .word) _ _ _ _
+    (first .before .before .process-of .ensures)
+    (first .location-at .ensures)
+    (step .advance .ensures .becomes .rows-are)
+    (l .location-at2 .ensures)
+    (c .count-critical .ensures)
+
 put-five-requires : tie.Need-put-five-requires
 put-five-requires c κs =
-    let start = c .before .before .before .before .before .before .before .before .before .before .before .before .before .before in
-    let x = start .args .cells .now in
-    let w = start .args .word in
-    let i = start .args .place in
-    let step = c .before .before .before .before .before .before .before .before .advance in
-    let taken = moved-takes (rowsOf x) w _ (sym (step .ensures .answer-is) ∙ c .before .before .before .before .before .enum-told .given .1) in
-    let line =
-    line-is (rowsOf x) (rowsOf (step .last .0)) i w
-    (c .before .before .before .before .before .before .before .before .before .before .before .before .process-of .result)
-    (c .before .before .before .before .before .before .before .before .before .before .location-at .result)
-    (c .before .before .before .location-at2 .result)
-    (c .before .count-critical .result)
-    (c .before .before .before .before .before .before .before .before .before .before .before .before .process-of .ensures)
-    (c .before .before .before .before .before .before .before .before .before .before .location-at .ensures)
-    (step .ensures .becomes .rows-are)
-    (c .before .before .before .location-at2 .ensures)
-    (c .before .count-critical .ensures) in
-    omega (arith, ap length line, length-wordLine (rowsOf x) i w (start .pre .sound) (start .pre .few) taken, start .pre .room)
+    let told = c .before .before .before .before .before in
+    let s = start (stepped told) in
+    let t = rowsOf (s .args .cells .now) in
+    let long = length-wordLine t (s .args .place) (s .args .word) (s .pre .sound) (s .pre .few) (taken told) in
+    omega (arith, ap length (line (c .before)), s .pre .room)
+
+-- ---- a refused word
 
 enum-known-why : tie.Need-enum-known-why
 enum-known-why c = search needs
@@ -87,9 +118,12 @@ cast-put-two c = search needs
 
 put-two-requires : tie.Need-put-two-requires
 put-two-requires c κs =
-    let start = c .before .before .before .before .before .before .before .before .before .before .before .before in
+    let s = start (c .before .before .before .before .before .before) in
     let why = c .before .before .before .why .given .0 .0 in
-    omega (arith, length-stopLine (start .args .place) why (start .pre .few) (omega (arith, c .before .before .known-told .given)), start .pre .room)
+    let small = c .before .before .known-told .given in
+    omega (arith, length-stopLine (s .args .place) why (s .pre .few) (omega arith), s .pre .room)
+
+-- ---- the answers
 
 same-length : tie.Need-same-length
 same-length c = search needs
@@ -99,27 +133,14 @@ same-length-2 c = search needs
 
 returns : tie.Need-returns
 returns c =
-    let start = c .before .before .before .before .before .before .before .before .before .before .before .before .before .before .before .before .before in
-    let x = start .args .cells .now in
-    let w = start .args .word in
-    let i = start .args .place in
-    let step = c .before .before .before .before .before .before .before .before .before .before .before .advance in
-    let taken = moved-takes (rowsOf x) w _ (sym (step .ensures .answer-is) ∙ c .before .before .before .before .before .before .before .before .enum-told .given .1) in
-    let line =
-    line-is (rowsOf x) (rowsOf (step .last .0)) i w
-    (c .before .before .before .before .before .before .before .before .before .before .before .before .before .before .before .process-of .result)
-    (c .before .before .before .before .before .before .before .before .before .before .before .before .before .location-at .result)
-    (c .before .before .before .before .before .before .location-at2 .result)
-    (c .before .before .before .before .count-critical .result)
-    (c .before .before .before .before .before .before .before .before .before .before .before .before .before .before .before .process-of .ensures)
-    (c .before .before .before .before .before .before .before .before .before .before .before .before .before .location-at .ensures)
-    (step .ensures .becomes .rows-are)
-    (c .before .before .before .before .before .before .location-at2 .ensures)
-    (c .before .before .before .before .count-critical .ensures) in
+    let told = c .before .before .before .before .before .before .before .before in
+    let step = stepped told in
+    let a = start step .args in
+    let is = lineOf-taken (rowsOf (a .cells .now)) (a .place) (a .word) (taken told) in
     record {
-      becomes = step .ensures .becomes;
-      taken-is = sym taken;
-      appended = appended-as (line ∙ sym (lineOf-taken (rowsOf x) i w taken)) (c .before .before .put-five .ensures);
+      becomes = step .advance .ensures .becomes;
+      taken-is = sym (taken told);
+      appended = appended-as (line (c .before .before .before .before) ∙ sym is) (c .before .before .put-five .ensures);
     }
 
 same-length-3 : tie.Need-same-length-3
@@ -130,19 +151,20 @@ same-length-4 c = search needs
 
 returns-2 : tie.Need-returns-2
 returns-2 c =
-    let start = c .before .before .before .before .before .before .before .before .before .before .before .before .before .before .before in
-    let x = start .args .cells .now in
-    let w = start .args .word in
-    let i = start .args .place in
-    let step = c .before .before .before .before .before .before .before .before .before .advance in
-    let why = c .before .before .before .before .before .before .why .given .0 .0 in
-    let answer = sym (step .ensures .answer-is) ∙ c .before .before .before .before .before .before .why .given .1 in
-    let stopped = refused-takes (rowsOf x) w why answer in
-    let same = ap (λ (n : ℕ). stopText ++ numbers (i ∷ n ∷ [])) (refused-number (rowsOf x) w why answer) in
+    let told = c .before .before .before .before .before .before .why .given in
+    let step = c .before .before .before .before .before .before .before .before .before in
+    let a = start step .args in
+    let t = rowsOf (a .cells .now) in
+    let i = a .place in
+    let why = told .0 .0 in
+    let answer = sym (step .advance .ensures .answer-is) ∙ told .1 in
+    let stopped = refused-takes t (a .word) why answer in
+    let same = ap (λ (n : ℕ). stopText ++ numbers (i ∷ n ∷ [])) (refused-number t (a .word) why answer) in
+    let is = sym same ∙ sym (lineOf-stopped t i (a .word) stopped) in
     record {
-      becomes = step .ensures .becomes;
+      becomes = step .advance .ensures .becomes;
       taken-is = sym stopped;
-      appended = appended-as (sym same ∙ sym (lineOf-stopped (rowsOf x) i w stopped)) (c .before .before .put-two .ensures);
+      appended = appended-as is (c .before .before .put-two .ensures);
     }
 
 pub put-word-spec : {M : Type 1} → statement M
