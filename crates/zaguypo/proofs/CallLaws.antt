@@ -70,7 +70,10 @@ module _ (t : Table) (ws l : List ℕ) where
       let room : length (bytesOf (imageOf u)) ≡ roomFor t =
       omega (arith, length-bytesOf (imageOf u), length-image u some) in
       record {
-        number-is = ne ∙ ap (λ (a : ℕ). numberOf a refusal) te ∙ ap (numberOf (runFrom t zeroTally ws .tally .words)) re;
+        number-is =
+            ne
+            ∙ ap (λ (a : ℕ). numberOf a refusal) te
+            ∙ ap (numberOf (runFrom t zeroTally ws .tally .words)) re;
         lent-is =
             me ∙ placed-first l (bytesOf (imageOf u))
             ∙ ap (λ (k : ℕ). bytesOf (imageOf u) ++ drop k l) room
@@ -85,7 +88,10 @@ module _ (ws l i : List ℕ) (image : i ≡ imagePart ws) where
 
   abbrev reads : Bool → Called
   reads b =
-      elim b [ false ↦ refusedCall l (found (imagePart ws)) | true ↦ tableCall (tableIn (imagePart ws)) (eventPart ws) l ]
+      elim b [
+        | false ↦ refusedCall l (found (imagePart ws))
+        | true ↦ tableCall (tableIn (imagePart ws)) (eventPart ws) l
+      ]
 
   words-by : (b : Bool) → eqb (found (imagePart ws)) accepted ≡ b → wordsCall ws l ≡ reads b
   unfolding wordsCall

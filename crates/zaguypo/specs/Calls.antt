@@ -29,7 +29,10 @@ roomFor t = 4 * imageLength (length t)
 unfoldable pub ranCall : Table → List ℕ → List ℕ → Called
 ranCall t ws l =
     let o = runFrom t zeroTally ws in
-    record { number = numberOf (o .tally .words) (o .refusal); lent = bytesOf (imageOf (o .table)) ++ drop (roomFor t) l }
+    record {
+      number = numberOf (o .tally .words) (o .refusal);
+      lent = bytesOf (imageOf (o .table)) ++ drop (roomFor t) l;
+    }
 
 unfoldable pub tableCall : Table → List ℕ → List ℕ → Called
 unfolding ranCall

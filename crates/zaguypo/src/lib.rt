@@ -21,7 +21,9 @@ const MOST: usize = 8272;
 // The image of the table in the cells, at the start of the lent bytes.
 fn write_image(cells: &[[u16; 8]], image: &mut [u8])
     requires { ⌜ Writable (now cells) (now image) ⌝ }
-    ensures { λ _. ⌜ now (image .exit) ≡ placed (now (image .entry)) 0 (bytesOf (imageOf (rowsOf (now (cells .entry))))) ⌝ }
+    ensures { λ _. ⌜
+        now (image .exit) ≡ placed (now (image .entry)) 0 (bytesOf (imageOf (rowsOf (now (cells .entry)))))
+        ⌝ }
 {
     let mut words = [0u32; 80];
     write_cells(cells, &mut words);
@@ -39,7 +41,10 @@ fn number_of(taken: u32, refusal: u32) -> u64
 // The run of the event words from the table in the cells: 12, then 13, or the run.
 fn run_table(cells: &mut [[u16; 8]], words: &[u32], image: &mut [u8]) -> u64
     requires { ⌜ tableRefusal (rowsOf (now cells)) ≡ 0 ⌝ }
-    ensures { λ r. ⌜ CallsTo (tableCall (rowsOf (now (cells .entry))) (now (words .entry)) (now (image .entry))) (now (image .exit)) r ⌝ }
+    ensures { λ r. ⌜
+        CallsTo (tableCall (rowsOf (now (cells .entry))) (now (words .entry)) (now (image .entry)))
+        (now (image .exit)) r
+        ⌝ }
 {
     if words.len() > machine::RUN_LIMIT {
         return machine::TOO_MANY_WORDS as u64;

@@ -2,7 +2,8 @@
 use native.Mathlib.Omega.{arith}
 use mathlib.Core.Path.{_≡_, sym, ap, _∙_}
 use mathlib.Core.List.{List}
-use Prim.Native.Nat.{ℕ}
+use Prim.Native.Nat.{ℕ, _≤_}
+use lib.ListN.{length}
 use lib.Seq.{length-take-le}
 use Rattle.octets.proofs.ByteLaws.{take-unpacked}
 use Rattle.zaguypo.specs.Calls.{wordsCall}
@@ -18,16 +19,19 @@ use Rattle.zaguypo.proofs.run_input.Reads as run-input-reads
 unpack-requires : tie.Need-unpack-requires
 unpack-requires c κs = search needs
 
+-- as many words were unpacked as the buffer of words holds, or fewer
+within : (c : tie.After-unpack) → c .unpack .result ≤ length (c .unpack .last .1 .0)
+within c =
+    let room = c .before .before .before .before .before .pre .room in
+    omega (arith, c .unpack .ensures .0, c .unpack .kept .1 .0)
+
 slice-reshare-prefix-run-input : tie.Need-slice-reshare-prefix-run-input
-slice-reshare-prefix-run-input c =
-    let start = c .before .before .before .before .before .before .before in
-    omega (arith, start .pre .room, c .before .before .unpack .ensures .0, c .before .before .unpack .kept .1 .0)
+slice-reshare-prefix-run-input c = within (c .before .before)
 
 slice-aggregate-run-input : tie.Need-slice-aggregate-run-input
 slice-aggregate-run-input c =
-    let start = c .before .before .before .before .before .before .before .before in
-    let unpacked = c .before .before .before .unpack in
-    sym (length-take-le (unpacked .result) (unpacked .last .1 .0) (omega (arith, start .pre .room, unpacked .ensures .0, unpacked .kept .1 .0)))
+    let u = c .before .before .before in
+    sym (length-take-le (u .unpack .result) (u .unpack .last .1 .0) (within u))
 
 run-input-requires : tie.Need-run-input-requires
 run-input-requires c κs = search needs

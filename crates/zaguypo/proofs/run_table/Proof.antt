@@ -66,26 +66,30 @@ same-length-2 c = search needs
 
 returns-3 : tie.Need-returns-3
 returns-3 c =
-    let a = c .before .before .before .before .before .before .before .before .before .before .before .before .before .before .args in
+    let put = c .before .before .before .write-image in
+    let w = c .before .before .before .before .before .before .before .before in
+    let e = w .before .before in
+    let start = e .before .before .before .before in
+    let a = start .args in
     let t = rowsOf (a .cells .now) in
-    let ws = a .words .now in
-    let l = a .image .now in
-    let size = rows-length (a .cells .now) in
-    let run = c .before .before .before .before .before .before .before .before .run-words in
+    let run = w .run-words in
     let y = run .last .0 in
     let ran = run .ensures .runs .ran-is in
+    let size = rows-length (a .cells .now) in
     let same = rows-length y in
-    let facts = sound-rows t (c .before .before .before .before .before .before .before .before .before .before .before .before .before .before .pre) in
-    calls-as (sym (tableCall-ran t ws l (omega (arith, c .before .before .before .before .before .before .before .before .before .before .before .if1 .left)) (omega (arith, c .before .before .before .before .before .before .before .before .before .before .if2 .left))))
-    (calls-ran t ws l (rowsOf y) (c .before .before .before .write-image .last .1 .0) (run .result .ran .taken) (run .result .ran .refusal)
-    (c .number-of .result)
+    let kept = run .kept .0 in
+    let some = sound-rows t (start .pre) .0 in
+    let lent = e .if2 .left in
+    let call = tableCall-ran t (a .words .now) (a .image .now) (e .before .if1 .left) (omega arith) in
+    calls-as (sym call)
+    (calls-ran t (a .words .now) (a .image .now) (rowsOf y) (put .last .1 .0) _ _ (c .number-of .result)
     (run .ensures .runs .becomes .rows-are)
-    (omega (arith, run .kept .0))
-    (omega (arith, run .kept .0, facts .0))
+    (omega arith)
+    (omega arith)
     (ap (λ (r : Ran). r .taken) ran)
     (ap (λ (r : Ran). r .refusal) ran)
     (c .number-of .ensures)
-    (c .before .before .before .write-image .ensures))
+    (put .ensures))
 
 pub run-table-spec : {M : Type 1} → statement M
 run-table-spec =

@@ -2,7 +2,7 @@
 use native.Mathlib.Omega.{arith}
 use mathlib.Core.Path.{_≡_, sym, ap, _∙_}
 use mathlib.Core.List.{List}
-use Prim.Native.Nat.{ℕ, _*_}
+use Prim.Native.Nat.{ℕ, _*_, _≤_, _<_}
 use lib.ListN.{length, take, drop, replicate, length-replicate}
 use lib.Seq.{take-at, length-take-le}
 use Rattle.machine.specs.Images.{imageOf}
@@ -23,62 +23,56 @@ use Rattle.octets.proofs.pack.Reads as pack-reads
 slice-aggregate-write-cells : tie.Need-slice-aggregate-write-cells
 slice-aggregate-write-cells c = search needs
 
+-- a sound table has processes, and 80 words are room for its image
+sizes : (s : tie.Start) → let n = length (s .args .cells .now) in (0 < n) × (5 * n ≤ length (replicate {A = ℕ} 80 0))
+sizes s =
+    let x = s .args .cells .now in
+    let facts = sound-rows (rowsOf x) (s .pre .sound) in
+    let size = rows-length x in
+    let zeros = length-replicate {A = ℕ} 80 0 in
+    (omega (arith, facts .0), omega (arith, facts .1))
+
 write-cells-requires : tie.Need-write-cells-requires
 write-cells-requires c κs =
-    let start = c .before .before in
-    let x = start .args .cells .now in
-    let size = rows-length x in
-    let facts = sound-rows (rowsOf x) (start .pre .sound) in
-    let zeros = length-replicate {A = ℕ} 80 0 in
-    record { is-sound = start .pre .sound; long = omega (arith, facts .1) }
+    let s = c .before .before in
+    record { is-sound = s .pre .sound; long = omega (arith, rows-length (s .args .cells .now), sizes s .1) }
 
 mul-all : tie.Need-mul-all
 mul-all c = search needs
 
+-- the image is within the words
+within : (c : tie.After-write-cells)
+    → 5 * length (c .before .before .before .args .cells .now) ≤ length (c .write-cells .last .1 .0)
+within c = omega (arith, sizes (c .before .before .before) .1, c .write-cells .kept .1 .0)
+
 array-share-prefix-words : tie.Need-array-share-prefix-words
-array-share-prefix-words c =
-    let start = c .before .before .before .before in
-    let x = start .args .cells .now in
-    let size = rows-length x in
-    let facts = sound-rows (rowsOf x) (start .pre .sound) in
-    let zeros = length-replicate {A = ℕ} 80 0 in
-    omega (arith, facts .1, c .before .write-cells .kept .1 .0)
+array-share-prefix-words c = within (c .before)
 
 slice-aggregate-pack : tie.Need-slice-aggregate-pack
 slice-aggregate-pack c =
-    let start = c .before .before .before .before .before in
-    let x = start .args .cells .now in
-    let size = rows-length x in
-    let facts = sound-rows (rowsOf x) (start .pre .sound) in
-    let zeros = length-replicate {A = ℕ} 80 0 in
-    let put = c .before .before .write-cells in
-    sym (length-take-le (5 * length x) (put .last .1 .0) (omega (arith, facts .1, put .kept .1 .0)))
+    let w = c .before .before in
+    sym (length-take-le _ (w .write-cells .last .1 .0) (within w))
 
 pack-requires : tie.Need-pack-requires
 pack-requires c κs =
-    let start = c .before .before .before .before .before .before in
-    let x = start .args .cells .now in
-    let size = rows-length x in
-    let facts = sound-rows (rowsOf x) (start .pre .sound) in
-    let zeros = length-replicate {A = ℕ} 80 0 in
-    let put = c .before .before .before .write-cells in
-    omega (arith, length-take-le (5 * length x) (put .last .1 .0) (omega (arith, facts .1, put .kept .1 .0)), start .pre .room)
+    let w = c .before .before .before in
+    let words = length-take-le _ (w .write-cells .last .1 .0) (within w) in
+    omega (arith, w .before .before .before .pre .room)
 
 same-length : tie.Need-same-length
 same-length c = search needs
 
 returns : tie.Need-returns
 returns c =
-    let start = c .before .before .before .before .before .before .before .before .before in
+    let w = c .before .before .before .before .before .before in
+    let start = w .before .before .before in
     let x = start .args .cells .now in
     let size = rows-length x in
-    let facts = sound-rows (rowsOf x) (start .pre .sound) in
-    let zeros = length-replicate {A = ℕ} 80 0 in
-    let put = c .before .before .before .before .before .before .write-cells in
     let all = 5 * length x in
-    let words : take all (put .last .1 .0) ≡ imageOf (rowsOf x) =
-    ap (take all) (put .ensures)
-    ∙ take-at (imageOf (rowsOf x)) _ all (length-image (rowsOf x) (omega (arith, facts .0)) ∙ omega arith) in
+    let image = length-image (rowsOf x) (omega (arith, sizes start .0)) in
+    let long : length (imageOf (rowsOf x)) ≡ all = omega arith in
+    let words : take all (w .write-cells .last .1 .0) ≡ imageOf (rowsOf x) =
+    ap (take all) (w .write-cells .ensures) ∙ take-at (imageOf (rowsOf x)) _ all long in
     c .before .before .pack .ensures ∙ ap (λ (l : List ℕ). placed (start .args .image .now) 0 (bytesOf l)) words
 
 pub write-image-spec : {M : Type 1} → statement M
