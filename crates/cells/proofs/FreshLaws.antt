@@ -9,7 +9,6 @@ use borrow.Author.Tests.{le-leb, lt-leb}
 use Rattle.machine.specs.Rows.{idle, blank}
 use Rattle.machine.specs.Tables.{handed, madeFresh}
 use Rattle.machine.specs.declared.Row.{Row}
-use Rattle.machine.specs.declared.NewTable.{NewTable}
 
 -- sixteen rows, the first i of them at rest
 abbrev pub filled : ℕ → List Row

@@ -1,11 +1,11 @@
 -- Reading and writing arrays of cells is reading and writing rows. Assumes nothing.
 use Prim.Native.Nat.{ℕ, zero, suc}
-use mathlib.Core.Path.{_≡_, refl, ap, sym, _∙_}
+use mathlib.Core.Path.{_≡_, refl, ap}
 use mathlib.Core.List.{List, [], _∷_, map}
 use lib.ListN.{length, getD, set, length-map, List·getD-map}
 use Rattle.machine.specs.Tables.{row}
 use Rattle.machine.specs.declared.Row.{Row}
-use Rattle.cells.specs.View.{rowOf, cellsOf, rowsOf}
+use Rattle.cells.specs.View.{rowOf, rowsOf}
 
 -- a table has as many rows as there are arrays
 pub rows-length : (x : List (List ℕ)) → length (rowsOf x) ≡ length x

@@ -7,11 +7,25 @@ use Rattle.machine.specs.Census.{critical, waiting, below, held, figures, censu
 
 module _ (t : Table) where
   pub census-refused : (tableRefusal t ≡ 0 → ⊥)
-      → censusOf t ≡ record { refusal = tableRefusal t; critical = 0; waiting = 0; below = replicate 17 0; held = replicate 17 0 }
+      → censusOf t
+      ≡ record {
+        refusal = tableRefusal t;
+        critical = 0;
+        waiting = 0;
+        below = replicate 17 0;
+        held = replicate 17 0;
+      }
   unfolding censusOf
   census-refused n = rw (ne-eqb (tableRefusal t) 0 n) refl
 
   pub census-counted : tableRefusal t ≡ 0
-      → censusOf t ≡ record { refusal = 0; critical = critical t; waiting = waiting t; below = figures below t; held = figures held t }
+      → censusOf t
+      ≡ record {
+        refusal = 0;
+        critical = critical t;
+        waiting = waiting t;
+        below = figures below t;
+        held = figures held t;
+      }
   unfolding censusOf
   census-counted e = rw (eq-eqb (tableRefusal t) 0 e) refl

@@ -6,7 +6,7 @@
 --   row-sound  the row that is read is sound where its words pass
 --
 -- Packing is the same for each kind; only this file and Slots know the kinds. Assumes nothing.
-use Prim.Native.Nat.{ℕ, zero, suc, _+_, _*_, _/_, _%_, _^_, _≤_, _<_}
+use Prim.Native.Nat.{ℕ, _+_, _*_, _/_, _%_, _^_, _≤_, _<_}
 use mathlib.Core.Path.{_≡_, refl, sym, ap, ap₂, _∙_, subst}
 use mathlib.Core.Bool.{Bool, true, false, cond, not}
 use mathlib.Core.List.{List}
@@ -39,7 +39,7 @@ use Rattle.machine.specs.Tables.{locations, levelFits}
 use Rattle.machine.specs.declared.Row.{Row}
 use Rattle.machine.proofs.TestLaws.{and-left, and-right, and-intro, split}
 use Rattle.machine.proofs.SoundRows.{SoundRow}
-use Rattle.codec.proofs.Packing.{wordOf, packed}
+use Rattle.codec.proofs.Packing.{wordOf}
 use Rattle.codec.proofs.Locations.{
   code-location,
   at-place,

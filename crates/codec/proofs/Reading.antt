@@ -4,9 +4,9 @@
 --   accepted-facts, facts-accepted    just where there is no refusal
 --
 -- The slots are gone through once, for all kinds. Assumes nothing.
-use Prim.Native.Nat.{ℕ, zero, suc, _+_, _-_, _*_, _^_, _≤_, _<_, min}
+use Prim.Native.Nat.{ℕ, zero, suc, _+_, _*_, _≤_, _<_, min}
 use mathlib.Core.Path.{_≡_, refl, sym, ap, ap₂, _∙_, subst}
-use mathlib.Core.Bool.{Bool, true, false, _&&_}
+use mathlib.Core.Bool.{Bool, true, false}
 use mathlib.Core.List.{List, [], _∷_, _++_}
 use native.Mathlib.Decide.{ℕ-discrete}
 use native.Mathlib.Omega.{arith}
@@ -31,7 +31,7 @@ use Rattle.machine.specs.Images.{
 use Rattle.machine.specs.Tables.{handed}
 use Rattle.machine.specs.declared.NewTable.{NewTable}
 use Rattle.machine.proofs.TestLaws.{and-left, and-right, and-intro}
-use Rattle.codec.proofs.Slots.{Placed, noSlot, At, slot-at, length-slots, Some, placed-at}
+use Rattle.codec.proofs.Slots.{Placed, noSlot, slot-at, length-slots, placed-at}
 use Rattle.codec.proofs.WordChecks.{Passes, passes, refused-none}
 
 -- ---- one word after the other

@@ -4,20 +4,19 @@
 --   table-sound, table-image      the table that is read from an accepted image is sound, and has that image
 --
 -- Assumes nothing.
-use Prim.Native.Nat.{ℕ, zero, suc, _+_, _*_, _≤_, _<_}
+use Prim.Native.Nat.{ℕ, zero, suc, _+_, _*_, _<_}
 use mathlib.Core.Path.{_≡_, refl, sym, ap, ap₂, _∙_, subst}
-use mathlib.Core.Bool.{true}
 use mathlib.Core.List.{List, [], _∷_, map}
 use native.Mathlib.Omega.{arith}
 use lib.ListN.{length, getD, length-map}
 use lib.Seq.{ext-getD}
 use Rattle.machine.specs.Rows.{blank}
-use Rattle.machine.specs.Tables.{Table, row, sound, tableRefusal}
-use Rattle.machine.specs.Images.{Slot, slot, slots, headerOf, sizeIn, bodyOf, wordIn, imageOf, rowIn, rowsIn, tableIn}
+use Rattle.machine.specs.Tables.{Table, row, tableRefusal}
+use Rattle.machine.specs.Images.{slots, headerOf, sizeIn, bodyOf, wordIn, imageOf, rowIn, rowsIn, tableIn}
 use Rattle.machine.specs.declared.Row.{Row}
-use Rattle.machine.proofs.SoundRows.{SoundRow, sound-rows, rows-sound, sound-accepted, accepted-sound}
+use Rattle.machine.proofs.SoundRows.{SoundRow, sound-rows, rows-sound}
 use Rattle.codec.proofs.Packing.{wordOf}
-use Rattle.codec.proofs.Slots.{Placed, noSlot, At, number-below, slot-at, length-slots, Some, placed-at}
+use Rattle.codec.proofs.Slots.{Placed, noSlot, number-below, slot-at, length-slots, placed-at}
 use Rattle.codec.proofs.WordChecks.{Passes, made-again}
 use Rattle.codec.proofs.Fields.{made, kept, row-back, row-sound}
 use Rattle.codec.proofs.Reading.{Accepted, size-is}

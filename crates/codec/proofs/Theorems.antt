@@ -7,7 +7,7 @@ use mathlib.Core.List.{List}
 use native.Mathlib.Omega.{arith}
 use lib.ListN.{length}
 use Rattle.machine.specs.Tables.{Table, sound, handed}
-use Rattle.machine.specs.Images.{imageOf, imageRefusal, tableIn, readImage}
+use Rattle.machine.specs.Images.{imageOf, tableIn, readImage}
 use Rattle.machine.proofs.SoundRows.{sound-accepted, accepted-sound, sound-rows}
 use Rattle.codec.proofs.Reading.{accepted-facts, facts-accepted, read-refusal, read-accepted}
 use Rattle.codec.proofs.RoundTrip.{length-image, image-accepted, image-back, table-sound, table-image}

@@ -5,15 +5,15 @@
 --   read-table, read-refused    what is handed back, by the answer
 --
 -- Assumes nothing.
-use Prim.Native.Nat.{ℕ, zero, suc, _+_, _-_, _≤_, _<_}
-use mathlib.Core.Path.{_≡_, refl, sym, ap, ap₂, _∙_, subst}
+use Prim.Native.Nat.{ℕ, suc, _+_, _-_, _≤_, _<_}
+use mathlib.Core.Path.{_≡_, refl, sym, ap, ap₂, _∙_}
 use mathlib.Core.Bool.{Bool, true, false}
-use mathlib.Core.List.{List, [], _∷_, _++_}
+use mathlib.Core.List.{List, [], _++_}
 use native.Mathlib.Omega.{arith}
 use lib.Dec.{eqb}
-use lib.ListN.{length, getD, take, drop, set, replicate}
+use lib.ListN.{length, getD, take, set, replicate}
 use lib.Seq.{take-suc, set-at, length-take-le, append-snoc}
-use borrow.Author.Tests.{eqb-true, eqb-false}
+use borrow.Author.Tests.{eqb-true}
 use Rattle.machine.specs.Rows.{blank}
 use Rattle.machine.specs.Tables.{Table, row, handed}
 use Rattle.machine.specs.Images.{sizeIn, imageRefusal, tableIn, readImage}
@@ -21,7 +21,7 @@ use Rattle.machine.specs.declared.Row.{Row}
 use Rattle.machine.specs.declared.NewTable.{NewTable}
 use Rattle.cells.specs.View.{rowOf, rowsOf}
 use Rattle.cells.proofs.ViewLaws.{rows-length}
-use Rattle.codec.proofs.Reading.{accepted-facts, read-accepted, size-is}
+use Rattle.codec.proofs.Reading.{accepted-facts, read-accepted}
 use Rattle.codec.proofs.RoundTrip.{length-tableIn}
 use Rattle.images.specs.Answers.{readingOf, ReadInto}
 use Rattle.images.specs.declared.Reading.{Reading}

@@ -31,7 +31,6 @@ use Rattle.machine.specs.Images.{
   rowsIn,
 }
 use Rattle.machine.specs.Tables.{Table}
-use Rattle.machine.specs.declared.Row.{Row}
 use Rattle.codec.proofs.WordChecks.{passes}
 use Rattle.codec.proofs.Fields.{state-kept}
 use Rattle.codec.proofs.Reading.{first-zero, first-some, first-none}

@@ -3,27 +3,25 @@
 --   packable               the rows of a sound table fit their words
 --   write-next             one word more
 --   write-row, write-turn  the four words of a process, the word of a turn cell
---   length-to              the lent words stay as many
 --   written-sound, written-few, written-image    the three outcomes
 --
 -- Assumes nothing.
-use Prim.Native.Nat.{ℕ, zero, suc, _+_, _-_, _*_, _≤_, _<_}
-use mathlib.Core.Path.{_≡_, refl, sym, ap, ap₂, _∙_, subst}
-use mathlib.Core.Bool.{Bool, true, false, cond, not}
-use mathlib.Core.List.{List, [], _∷_, _++_, append-assoc}
+use Prim.Native.Nat.{ℕ, suc, _+_, _*_, _≤_, _<_}
+use mathlib.Core.Path.{_≡_, refl, sym, ap, ap₂, _∙_}
+use mathlib.Core.Bool.{Bool, cond, not}
+use mathlib.Core.List.{List, _∷_, _++_}
 use native.Mathlib.Omega.{arith}
-use lib.Dec.{eqb, leb}
-use lib.ListN.{length, getD, take, drop, set, length-append, length-drop}
+use lib.Dec.{leb}
+use lib.ListN.{length, getD, take, drop, set}
 use lib.Seq.{take-suc, drop-cons, set-at, length-take-le, take-all, append-snoc}
 use borrow.Author.Tests.{eq-eqb, ne-eqb, le-leb, lt-leb}
 use Rattle.machine.specs.Tables.{Table, row, locations, tableRefusal}
-use Rattle.machine.specs.Images.{STATE, EST, LIS, AHEAD, TURN, headerOf, bodyOf, imageOf, Written, writtenOf}
-use Rattle.machine.specs.declared.Row.{Row}
+use Rattle.machine.specs.Images.{EST, LIS, AHEAD, TURN, headerOf, imageOf, Written, writtenOf}
 use Rattle.machine.proofs.SoundRows.{sound-rows}
 use Rattle.codec.proofs.Locations.{place-below}
 use Rattle.codec.proofs.Slots.{Placed, state, est, lis, ahead, turn}
 use Rattle.codec.proofs.RoundTrip.{length-image, image-at}
-use Rattle.images.specs.Writing.{Packable, Room, wordFor, rowWritten, wordsTo, Writes}
+use Rattle.images.specs.Writing.{Packable, wordFor, rowWritten, wordsTo, Writes}
 
 -- ---- one word
 
@@ -44,11 +42,6 @@ next im o i j v e h l is =
 module _ (t : Table) (o : List ℕ) (ok : tableRefusal t ≡ 0) (long : 5 * length t ≤ length o) where
   whole : length (imageOf t) ≡ 5 * length t
   whole = let s = sound-rows t ok in length-image t (omega (arith, s .0))
-
-  pub length-to : (i : ℕ) → i ≤ 5 * length t → length (wordsTo t o i) ≡ length o
-  length-to i h =
-      length-append (take i (imageOf t)) (drop i o)
-      ∙ omega (arith, length-take-le i (imageOf t) (omega (arith, whole)), length-drop i o)
 
   -- the word of kind k and number q, where it stands
   write-next : {k q : ℕ} (i j : ℕ) → Placed (length t) i k q → suc i ≡ j → i < 5 * length t

@@ -4,7 +4,7 @@ use mathlib.Core.Path.{_≡_, refl, sym, ap, subst, _∙_}
 use mathlib.Core.List.{List, [], _∷_}
 use lib.ListN.{length}
 use Rattle.machine.specs.Tables.{Table, tableRefusal}
-use Rattle.machine.specs.Steps.{refusalOf, afterWord, afterWords}
+use Rattle.machine.specs.Steps.{afterWord, afterWords}
 use Rattle.machine.specs.Census.{held, critical}
 use Rattle.machine.proofs.Accepted.{refused-same}
 use Rattle.exclusion.proofs.Theorems.{at-most-k, at-most-one}

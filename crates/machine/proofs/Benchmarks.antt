@@ -1,5 +1,5 @@
--- The starred benchmarks of document 01, and examples with three processes that tell its plausible errors apart: two lists,
--- each evaluated by one theorem. The expected tables are those of a model in another language. Assumes nothing.
+-- The starred benchmarks of document 01, and examples with three processes that tell its plausible errors apart: two
+-- lists, each evaluated by one theorem. The expected tables are those of a model in another language. Assumes nothing.
 use Prim.Native.Nat.{ℕ}
 use mathlib.Core.Path.{_≡_, refl}
 use mathlib.Core.Bool.{Bool, true, false, _&&_}
@@ -36,8 +36,8 @@ same (a ∷ x) (b ∷ y) = eqb a b && same x y
 
 -- ---- the starred benchmarks
 
--- an image, event words after it, and what comes of them: the refusal of the image with its place, or how many words are
--- taken, the refusal of the next one, and the image of the table afterwards
+-- an image, event words after it, and what comes of them: the refusal of the image with its place, or how many words
+-- are taken, the refusal of the next one, and the image of the table afterwards
 pub record Benchmark : Type 0 where
   image : List ℕ
   events : List ℕ
@@ -53,7 +53,10 @@ passes b =
     let f = Images.imageRefusal (b .image) in
     let o = evaluated (Images.tableIn (b .image)) (b .events) in
     eqb (f .refusal) (b .imageRefusal) && eqb (f .place) (b .place)
-    && elim (eqb (f .refusal) 0) [ false ↦ true | true ↦ eqb (o .tally .words) (b .taken) && eqb (o .refusal) (b .refusal) && same (pictured (o .table)) (b .last) ]
+    && elim (eqb (f .refusal) 0) [
+      | false ↦ true
+      | true ↦ eqb (o .tally .words) (b .taken) && eqb (o .refusal) (b .refusal) && same (pictured (o .table)) (b .last)
+    ]
 
 pub allPass : List Benchmark → Bool
 unfolding passes

@@ -6,7 +6,7 @@
 --   passed-cases, looked-cases, reconsidered-cases    the alternatives of GO at 21, LOOK and GO at 23
 --   gone-20 .. gone-40                                what GO is at each location, by rows
 --   flickered-act, flickered-turn                     what FLICKER is
---   turned-is, push-forms                             an assignment to a turn cell, before or after one to a row
+--   push-forms                                        an assignment to a turn cell, before or after one to a row
 --   gone-push, gone-exit                              GO at 24 and at 30 in the paper's order
 --
 -- Assumes nothing.
@@ -120,10 +120,6 @@ module _ (t : Table) (p : ℕ) where
   flickered-turn a e = rw e
 
 -- ---- the two orders
-
-pub turned-is : (t : Table) (k v : ℕ) → turned k v t ≡ turnAssigned t k v
-unfolding turned
-turned-is t k v = refl
 
 -- an assignment to row p that leaves the turn cell alone, and one to turn[k], in either order
 pub push-forms : (t : Table) (p k v : ℕ) (f : Row → Row)

@@ -2,17 +2,17 @@
 --
 --   wordsIn bs       ==  the words that bytes hold, lowest byte first.
 --   bytesOf ws       ==  the bytes of words.
---   bytesRefusal bs  ==  14 where the count is no multiple of 4 or above 33,088, or 0.
+--   bytesFit bs     <=>  their count is a multiple of 4 and at most 33,088; else they meet 14.
 --   callOf bs l      ==  the call's number and the lent bytes l after it.
 --
 -- Assumes nothing.
 use Prim.Native.Nat.{ℕ, _+_, _*_, _/_, _%_, _^_}
-use mathlib.Core.Bool.{Bool, true, false, cond, _&&_, not}
+use mathlib.Core.Bool.{Bool, true, false, _&&_}
 use mathlib.Core.List.{List, [], _∷_, _++_}
 use lib.Dec.{eqb, leb}
 use lib.ListN.{length, getD, take, drop}
 use Rattle.machine.specs.Refusals.{accepted, tooManyWords, tooFewLent, badBytes}
-use Rattle.machine.specs.Runs.{limit, zeroTally, runFrom, Outcome}
+use Rattle.machine.specs.Runs.{limit, zeroTally, runFrom}
 use Rattle.machine.specs.Images.{sizeIn, imageLength, imageOf, imageRefusal, tableIn}
 
 -- ---- words as bytes
@@ -34,9 +34,6 @@ bytesLimit = 33088
 
 abbrev pub bytesFit : List ℕ → Bool
 bytesFit bs = eqb (length bs % 4) 0 && leb (length bs) bytesLimit
-
-abbrev pub bytesRefusal : List ℕ → ℕ
-bytesRefusal bs = cond (bytesFit bs) accepted badBytes
 
 -- ---- an image and the event words after it
 

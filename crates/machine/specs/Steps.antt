@@ -12,7 +12,7 @@
 use Prim.Native.Nat.{ℕ, _-_}
 use mathlib.Core.Bool.{Bool, false, cond, _&&_, _||_, not}
 use mathlib.Core.List.{List, [], _∷_, map}
-use lib.Dec.{eqb, leb, ltb}
+use lib.Dec.{eqb, ltb}
 use lib.ListN.{length, set}
 use Rattle.counting.specs.Sets.{has, size, without, others}
 use Rattle.machine.specs.Refusals.{accepted, badKind, noProcess, notAllowed, badArgument}

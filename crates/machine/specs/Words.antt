@@ -11,7 +11,6 @@ use Prim.Native.Nat.{ℕ, _+_, _*_, _/_, _%_, _^_}
 use mathlib.Core.Bool.{Bool, cond, _&&_, not}
 use lib.Dec.{eqb, leb}
 use Rattle.machine.specs.Refusals.{badKind, noProcess, badArgument}
-use Rattle.machine.specs.declared.Parts.{Parts}
 use Rattle.machine.specs.declared.Apart.{Apart}
 use Rattle.machine.specs.declared.Together.{Together}
 

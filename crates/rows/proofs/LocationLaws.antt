@@ -13,16 +13,16 @@ use mathlib.Core.Bool.{Bool, true, false, cond, _&&_, _||_, not, Bool·beq}
 use mathlib.Core.List.{List, [], _∷_}
 use native.Mathlib.Decide.{decLt}
 use native.Mathlib.Omega.{arith}
-use lib.Dec.{eqb, leb, ltb}
+use lib.Dec.{eqb, ltb}
 use lib.ListN.{getD}
-use borrow.Author.Tests.{ltb-true, lt-ltb, le-ltb, le-leb, lt-leb, ne-eqb, eqb-true}
+use borrow.Author.Tests.{ltb-true, lt-ltb, le-ltb, ne-eqb, eqb-true}
 use Rattle.machine.specs.Words.{STAY, COME, FLICKER, GO, LOOK}
 use Rattle.machine.specs.Tables.{oneOf, locations, levelFits}
 use Rattle.machine.specs.Images.{codeOf}
 use Rattle.machine.specs.Steps.{allowed}
 use Rattle.machine.specs.declared.Row.{Row}
 use Rattle.rows.specs.Places.{kinds, placeOf, placesOf}
-use Rattle.rows.proofs.TestLaws.{every, every-at, same-at, beq-true}
+use Rattle.rows.proofs.TestLaws.{every, every-at, same-at}
 
 -- ---- past the last location
 
@@ -117,11 +117,13 @@ unfolding every
 location-low i h = ltb-true (getD locations i 0) 64 (every-at (λ i. ltb (getD locations i 0) 64) 8 refl i h)
 
 -- no bit is lost where a location is put into a mask
-pub place-exact : (i k : ℕ) → i < 8 → k < 16 → getD kinds i 0 / 2 ^ k % 2 * 2 ^ getD locations i 0 % 2 ^ 64 ≡ placeOf i k
+pub place-exact : (i k : ℕ) → i < 8 → k < 16
+    → getD kinds i 0 / 2 ^ k % 2 * 2 ^ getD locations i 0 % 2 ^ 64 ≡ placeOf i k
 unfolding every
 place-exact i k h j =
-    eqb-true (placeOf i k % 2 ^ 64) (placeOf i k)
-    (every-at (λ k. eqb (placeOf i k % 2 ^ 64) (placeOf i k)) 16 (every-at (λ i. every (λ k. eqb (placeOf i k % 2 ^ 64) (placeOf i k)) 16) 8 refl i h) k j)
+    let fits : ℕ → ℕ → Bool = λ i k. eqb (placeOf i k % 2 ^ 64) (placeOf i k) in
+    let row = every-at (λ i. every (fits i) 16) 8 refl i h in
+    eqb-true (placeOf i k % 2 ^ 64) (placeOf i k) (every-at (fits i) 16 row k j)
 
 -- the locations at which kind k is allowed, whatever lis is
 abbrev pub listed : ℕ → ℕ → Bool
@@ -203,8 +205,9 @@ module _ (k m : ℕ) (r : Row) where
       → (marks m (r .location) && (not (eqb (r .location) 22) || eqb (r .lis) 0)) ≡ allowed k r
   unfolding allowed
   allowed-go e f =
-      ap (λ (x : ℕ). marks x (r .location) && (not (eqb (r .location) 22) || eqb (r .lis) 0)) f
-      ∙ ap (λ (b : Bool). b && (not (eqb (r .location) 22) || eqb (r .lis) 0)) (places-right GO (r .location) (omega arith))
+      let free = not (eqb (r .location) 22) || eqb (r .lis) 0 in
+      ap (λ (x : ℕ). marks x (r .location) && free) f
+      ∙ ap (λ (b : Bool). b && free) (places-right GO (r .location) (omega arith))
       ∙ go-at (eqb (r .lis) 0) (r .location)
       ∙ sym (ap (λ (x : ℕ). allowed x r) e)
 

@@ -1,10 +1,9 @@
 -- The event of an accepted word, told from the row before the step. Assumes nothing.
 use Prim.Native.Nat.{ℕ, zero, suc, _-_, _≤_, _<_}
-use mathlib.Core.Path.{_≡_, refl, sym, ap, subst, _∙_}
+use mathlib.Core.Path.{_≡_, refl, sym, ap, _∙_}
 use mathlib.Core.Bool.{Bool, true, false, cond, _&&_, not}
 use mathlib.Core.Logic.{⊎-elim}
-use mathlib.Core.List.{List, [], _∷_, map}
-use native.Mathlib.Decide.{ℕ-discrete}
+use mathlib.Core.List.{List, [], _∷_}
 use native.Mathlib.Omega.{arith}
 use lib.Dec.{eqb, ltb}
 use lib.ListN.{length, set, length-set}
@@ -14,7 +13,7 @@ use Rattle.machine.specs.Rows.{withLocation, withAct, withBb, withLevel, withLi
 use Rattle.machine.specs.Tables.{Table, row, oneOf, tableRefusal, competitors}
 use Rattle.machine.specs.Words.{GO, kindOf, processOf, argumentOf}
 use Rattle.machine.specs.Steps.{entered, passed, reconsidered, pushed, forgets, looked, turned, flickered, gone, moved}
-use Rattle.machine.specs.Steps.{allowed, wordRefusal, afterWord, eventOf}
+use Rattle.machine.specs.Steps.{allowed, wordRefusal, eventOf}
 use Rattle.machine.specs.declared.Row.{Row}
 use Rattle.machine.specs.declared.Event.{Event}
 use Rattle.machine.proofs.TestLaws.{and-left, or-cases, split, by-one}

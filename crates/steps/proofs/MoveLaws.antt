@@ -3,17 +3,17 @@ use Prim.Native.Nat.{ℕ}
 use mathlib.Core.Path.{_≡_, refl, sym, ap, _∙_}
 use mathlib.Core.Bool.{true}
 use mathlib.Core.Logic.{⊎-elim}
-use mathlib.Core.List.{List, [], _∷_, map}
+use mathlib.Core.List.{List, [], _∷_}
 use lib.Dec.{eqb}
 use lib.ListN.{length, set}
 use borrow.Author.Tests.{eqb-true}
 use Rattle.machine.specs.Rows.{withLocation, withAct}
 use Rattle.machine.specs.Tables.{Table, row, oneOf, competitors}
 use Rattle.machine.specs.Words.{STAY, COME, FLICKER, GO, LOOK}
-use Rattle.machine.specs.Steps.{entered, passed, reconsidered, pushed, turned, forgets, looked, flickered, gone, moved, allowed}
+use Rattle.machine.specs.Steps.{entered, passed, reconsidered, pushed, turned, looked, flickered, gone, moved, allowed}
 use Rattle.machine.specs.declared.Row.{Row}
 use Rattle.machine.proofs.TestLaws.{and-left, or-cases, by-one}
-use Rattle.machine.proofs.Forms.{gone-20, gone-21, gone-22, gone-23, gone-24, gone-30, gone-40}
+use Rattle.machine.proofs.Forms.{gone-20, gone-21, gone-23, gone-24, gone-40}
 use Rattle.cells.specs.View.{rowsOf, Becomes}
 use Rattle.cells.proofs.ViewLaws.{rows-length}
 use Rattle.steps.specs.Moves.{Gone}

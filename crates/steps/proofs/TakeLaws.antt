@@ -1,11 +1,10 @@
 -- A kind with an argument at cells: refused and nothing moved, or taken. Assumes nothing.
-use Prim.Native.Nat.{ℕ, _≤_, _<_}
+use Prim.Native.Nat.{ℕ, _<_}
 use mathlib.Core.Path.{_≡_, refl, sym, ap, _∙_}
 use mathlib.Core.Bool.{Bool, true, false, false≢true, cond, not}
 use mathlib.Core.List.{List}
 use native.Mathlib.Decide.{decLt}
 use native.Mathlib.Omega.{arith}
-use lib.Dec.{eqb}
 use lib.ListN.{length}
 use borrow.Author.Tests.{eq-eqb, ne-eqb}
 use Rattle.counting.specs.Sets.{has}
@@ -14,7 +13,6 @@ use Rattle.machine.specs.Refusals.{accepted, badArgument}
 use Rattle.machine.specs.Tables.{Table, row}
 use Rattle.machine.specs.Words.{LOOK}
 use Rattle.machine.specs.Steps.{moved, allowed, argumentFits}
-use Rattle.machine.specs.declared.Row.{Row}
 use Rattle.machine.specs.declared.Event.{Event}
 use Rattle.machine.specs.declared.Stepped.{Stepped}
 use Rattle.machine.proofs.TestLaws.{cond-zero}

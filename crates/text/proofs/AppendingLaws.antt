@@ -1,11 +1,11 @@
 -- One text put after another is the two put as one. Assumes nothing.
-use mathlib.Core.Path.{_≡_, refl, sym, ap, _∙_}
+use mathlib.Core.Path.{_≡_, refl, ap, _∙_}
 use mathlib.Core.List.{List, [], _∷_, _++_}
 use Prim.Native.Nat.{ℕ, _+_, _≤_, _<_}
 use native.Mathlib.Omega.{arith}
 use lib.ListN.{length, set, length-append}
 use Rattle.octets.specs.Placing.{placed}
-use Rattle.octets.proofs.PlacingLaws.{placed-one, placed-then, length-placed}
+use Rattle.octets.proofs.PlacingLaws.{placed-one, placed-then}
 use Rattle.text.specs.Appending.{Appended}
 
 -- one byte
@@ -32,7 +32,3 @@ appended-then {d} {s} {u} {y} {z} {at} {e} {f} h a b =
           ∙ placed-then d at s u h;
       end-is = omega (arith, a .end-is, b .end-is, length-append s u);
     }
-
--- the buffer is as long as it was
-pub length-appended : {d s y : List ℕ} {at e : ℕ} → at + length s ≤ length d → Appended d at s y e → length y ≡ length d
-length-appended {d} {s} {y} {at} h a = ap length (a .bytes-are) ∙ length-placed d at s h

@@ -2,9 +2,9 @@
 use mathlib.Core.Path.{_≡_, refl, sym, ap, _∙_}
 use mathlib.Core.Bool.{Bool, true, false, cond}
 use mathlib.Core.List.{List, [], _∷_, _++_}
-use Prim.Native.Nat.{ℕ, suc, _+_, _≤_, _<_}
+use Prim.Native.Nat.{ℕ, suc, _≤_, _<_}
 use native.Mathlib.Omega.{arith}
-use borrow.Author.Tests.{eqb-true, eq-eqb, ne-eqb, leb-true}
+use borrow.Author.Tests.{eqb-true, leb-true}
 use lib.Dec.{leb}
 use lib.ListN.{length}
 use Rattle.counting.proofs.CountLaws.{count-le}
@@ -13,7 +13,7 @@ use Rattle.machine.specs.Words.{processOf}
 use Rattle.machine.specs.Steps.{refusalOf, afterWord, eventOf, answerOf}
 use Rattle.machine.specs.Census.{critical, isCritical}
 use Rattle.machine.specs.Runs.{limit}
-use Rattle.machine.specs.Text.{decimal, numbers, doneText, stopText, wordLine, runLines}
+use Rattle.machine.specs.Text.{numbers, doneText, stopText, wordLine, runLines}
 use Rattle.machine.specs.declared.Event.{Event}
 use Rattle.machine.specs.declared.Stepped.{Stepped}
 use Rattle.machine.proofs.TestLaws.{by-one}

@@ -2,7 +2,6 @@
 // and a line feed at the end. Each function answers where its line ends.
 use crate::fields::put_field;
 use crate::fields::put_text;
-ghost use mathlib.Core.Path.{_≡_};
 ghost use mathlib.Core.List.{_∷_, [], _++_};
 ghost use Prim.Native.Nat.{_+_, _≤_};
 ghost use lib.ListN.{length};

@@ -1,14 +1,14 @@
 -- The call from C by its cases. Assumes nothing.
 use mathlib.Core.Path.{_≡_, refl, sym, ap, _∙_}
 use mathlib.Core.Bool.{Bool, true, false}
-use mathlib.Core.List.{List, [], _∷_, _++_}
-use Prim.Native.Nat.{ℕ, _+_, _*_, _≤_, _<_}
+use mathlib.Core.List.{List, _++_}
+use Prim.Native.Nat.{ℕ, _≤_, _<_}
 use native.Mathlib.Omega.{arith}
 use lib.Dec.{leb, eqb}
 use lib.ListN.{length, drop}
 use borrow.Author.Tests.{le-leb, lt-leb, eq-eqb, ne-eqb}
 use Rattle.machine.specs.Refusals.{accepted, tooManyWords, tooFewLent, badBytes}
-use Rattle.machine.specs.Tables.{Table, tableRefusal}
+use Rattle.machine.specs.Tables.{Table}
 use Rattle.machine.specs.Runs.{limit, zeroTally, runFrom}
 use Rattle.machine.specs.Images.{imageOf, imageRefusal, tableIn}
 use Rattle.machine.specs.Bytes.{wordsIn, bytesOf, bytesFit, imagePart, eventPart, numberOf, Called, callOf}

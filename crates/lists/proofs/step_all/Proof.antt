@@ -1,14 +1,13 @@
 -- `step_all` meets its contract: what is left of the list is what the loop still gives. Assumes nothing.
-use Prim.Native.Nat.{ℕ, suc, _+_, _-_, _≤_}
+use Prim.Native.Nat.{ℕ, suc, _-_, _≤_}
 use mathlib.Core.Path.{_≡_, refl, sym, ap, subst, _∙_}
-use mathlib.Core.List.{List}
 use native.Mathlib.Numerals.{add-one}
 use native.Mathlib.Omega.{arith}
 use lib.ListN.{length, getD, drop}
 use lib.Seq.{drop-cons, drop-length}
 use borrow.Author.Needs.{needs}
 use Rattle.machine.specs.Tables.{Table, tableRefusal}
-use Rattle.machine.specs.Steps.{afterWord, afterWords}
+use Rattle.machine.specs.Steps.{afterWords}
 use Rattle.machine.proofs.Soundness.{word-keeps-sound}
 use Rattle.cells.specs.View.{rowsOf}
 use Rattle.lists.proofs.ListLaws.{after-none, after-cons, unsound-same, listed}

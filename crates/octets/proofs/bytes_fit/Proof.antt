@@ -1,6 +1,5 @@
 -- `octets::bytes_fit` meets its contract. Assumes nothing.
 use mathlib.Core.Path.{refl}
-use borrow.Author.Needs.{needs}
 use Rattle.octets.proofs.bytes_fit.Statement.{statement}
 use Rattle.octets.proofs.bytes_fit.Tie as tie
 use Rattle.octets.proofs.bytes_fit.Reads as reads

@@ -1,16 +1,15 @@
 -- `octets::pack` meets its contract. The invariant of its loop: the bytes of the first i words stand at the start.
 -- Assumes nothing.
 use native.Mathlib.Omega.{arith}
-use native.Mathlib.Nat.{zero-add}
 use native.Mathlib.Numerals.{add-one}
 use mathlib.Core.Path.{_≡_, refl, sym, ap, _∙_}
-use mathlib.Core.List.{List, [], _∷_, _++_}
+use mathlib.Core.List.{List, [], _∷_}
 use Prim.Native.Nat.{ℕ, suc, _+_, _-_, _*_, _≤_}
 use lib.ListN.{length, getD, take}
 use lib.Seq.{take-suc, take-length, length-take-le}
 use Rattle.machine.specs.Bytes.{bytesOf}
 use Rattle.octets.specs.Placing.{placed}
-use Rattle.octets.proofs.PlacingLaws.{placed-none, placed-then, length-placed}
+use Rattle.octets.proofs.PlacingLaws.{placed-none, placed-then}
 use Rattle.octets.proofs.ByteLaws.{bytesOf-append, length-bytesOf}
 use Rattle.octets.proofs.pack.Statement.{statement}
 use Rattle.octets.proofs.pack.Tie as tie

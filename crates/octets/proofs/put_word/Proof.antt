@@ -1,10 +1,10 @@
 -- `octets::put_word` meets its contract: four stores in a row. Assumes nothing.
 use borrow.Author.Needs.{needs}
 use native.Mathlib.Omega.{arith}
-use mathlib.Core.Path.{_≡_, sym, ap, _∙_}
-use mathlib.Core.List.{List, [], _∷_, _++_, append-assoc}
+use mathlib.Core.Path.{_≡_, _∙_}
+use mathlib.Core.List.{List, [], _∷_, append-assoc}
 use Prim.Native.Nat.{ℕ, suc, _+_, _/_, _%_, _^_}
-use lib.ListN.{length, set, take, drop, length-set}
+use lib.ListN.{take, drop, length-set}
 use lib.Seq.{sets-eq}
 use Rattle.machine.specs.Bytes.{bytesOf}
 use Rattle.octets.specs.Placing.{placed}

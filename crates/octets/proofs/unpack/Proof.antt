@@ -4,14 +4,14 @@ use native.Mathlib.Omega.{arith}
 use native.Mathlib.Numerals.{add-one}
 use borrow.Author.Needs.{needs}
 use mathlib.Core.Path.{_≡_, refl, sym, ap, _∙_}
-use mathlib.Core.List.{List, [], _∷_, _++_}
-use Prim.Native.Nat.{ℕ, suc, _+_, _-_, _*_, _/_, _^_, _≤_, _<_}
+use mathlib.Core.List.{List, [], _∷_}
+use Prim.Native.Nat.{ℕ, suc, _+_, _-_, _*_, _/_, _≤_, _<_}
 use lib.ListN.{length, getD, take, set, length-set}
 use lib.Seq.{take-suc, take-length, length-take-le}
 use Rattle.machine.specs.Bytes.{wordsIn}
 use Rattle.octets.specs.Placing.{placed, wordOf}
 use Rattle.octets.proofs.PlacingLaws.{placed-none, placed-one, placed-then, length-placed}
-use Rattle.octets.proofs.ByteLaws.{fours, fours-is, wordAt, length-wordsIn, getD-wordsIn}
+use Rattle.octets.proofs.ByteLaws.{fours, fours-is, length-wordsIn, getD-wordsIn}
 use Rattle.octets.proofs.unpack.Statement.{statement}
 use Rattle.octets.proofs.unpack.Tie as tie
 use Rattle.octets.proofs.unpack.Reads as reads

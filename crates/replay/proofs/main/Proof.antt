@@ -1,6 +1,6 @@
 -- `replay::main`: what is written is within the buffer. No contract can say what a program reads or writes. Assumes
 -- nothing.
-use mathlib.Core.Path.{_≡_, sym, _∙_}
+use mathlib.Core.Path.{sym, _∙_}
 use lib.ListN.{length}
 use lib.Seq.{length-take-le}
 use Rattle.text.proofs.PrintLaws.{bytes-within}
@@ -37,13 +37,15 @@ enum-known-length c = search needs
 array-share-prefix-out : tie.Need-array-share-prefix-out
 array-share-prefix-out c =
     let print = c .before .before .before .before .print-run in
-    bytes-within _ _ (print .last .1 .0) (c .before .length .given .0 .0) (sym (c .before .length .given .1) ∙ print .ensures .0) (print .ensures .1)
+    let told = c .before .length .given in
+    bytes-within _ _ (print .last .1 .0) (told .0 .0) (sym (told .1) ∙ print .ensures .0) (print .ensures .1)
 
 slice-aggregate-write-all : tie.Need-slice-aggregate-write-all
 slice-aggregate-write-all c =
     let print = c .before .before .before .before .before .print-run in
-    sym (length-take-le (c .before .before .length .given .0 .0) (print .last .1 .0)
-    (bytes-within _ _ (print .last .1 .0) (c .before .before .length .given .0 .0) (sym (c .before .before .length .given .1) ∙ print .ensures .0) (print .ensures .1)))
+    let told = c .before .before .length .given in
+    sym (length-take-le (told .0 .0) (print .last .1 .0)
+    (bytes-within _ _ (print .last .1 .0) (told .0 .0) (sym (told .1) ∙ print .ensures .0) (print .ensures .1)))
 
 write-all-requires : tie.Need-write-all-requires
 write-all-requires c κs = search needs

@@ -1,7 +1,6 @@
 -- `run` meets its contract. Assumes nothing.
 use mathlib.Core.Path.{_≡_, refl, sym, _∙_}
 use native.Mathlib.Omega.{arith}
-use lib.ListN.{length}
 use borrow.Author.Needs.{needs}
 use Rattle.machine.specs.Tables.{tableRefusal}
 use Rattle.machine.specs.Runs.{zeroTally}

@@ -1,5 +1,5 @@
 -- `run_words` meets its contract. Assumes nothing.
-use Prim.Native.Nat.{ℕ, _+_, _≤_, _<_, _-_}
+use Prim.Native.Nat.{ℕ, _+_, _≤_, _-_}
 use mathlib.Core.Path.{_≡_, refl, ap, sym, subst, _∙_}
 use native.Mathlib.Omega.{arith}
 use lib.ListN.{length, getD, drop}
@@ -11,7 +11,6 @@ use Rattle.machine.specs.declared.Event.{Event}
 use Rattle.machine.specs.declared.Tally.{Tally}
 use Rattle.machine.proofs.Soundness.{word-keeps-sound}
 use Rattle.cells.specs.View.{rowsOf}
-use Rattle.runs.specs.Outcomes.{Room}
 use Rattle.runs.proofs.RunLaws.{answer-moved, answer-refused, run-turn, run-halt, run-past, ended}
 use Rattle.runs.proofs.RunLaws.{counted-words, counted-comes, counted-arrivals}
 use Rattle.runs.proofs.run_words.Statement.{statement}

@@ -1,6 +1,6 @@
 -- `zaguypo::run_table` meets its contract: 12, then 13, or the run and its last image. Assumes nothing.
 use native.Mathlib.Omega.{arith}
-use mathlib.Core.Path.{_≡_, refl, sym, ap, _∙_}
+use mathlib.Core.Path.{refl, sym, ap}
 use Rattle.machine.specs.declared.Ran.{Ran}
 use Rattle.machine.proofs.SoundRows.{sound-rows}
 use Rattle.cells.specs.View.{rowsOf}

@@ -1,5 +1,5 @@
 -- `going::enter` meets its contract: GO at 20. Assumes nothing.
-use mathlib.Core.Path.{_≡_, sym, ap, _∙_}
+use mathlib.Core.Path.{_∙_}
 use Rattle.steps.proofs.MoveLaws.{put-entered}
 use borrow.Author.Needs.{needs}
 use Rattle.steps.proofs.going.enter.Statement.{statement}

@@ -1,6 +1,5 @@
 -- `going::go` meets its contract, location by location. Assumes nothing.
 use Prim.Native.Nat.{ℕ}
-use mathlib.Core.Path.{_≡_, sym, ap, _∙_}
 use mathlib.Core.List.{List}
 use Rattle.machine.specs.Tables.{row}
 use Rattle.machine.specs.declared.Event.{Event}

@@ -1,9 +1,7 @@
 -- `going::go_to` meets its contract. Assumes nothing.
-use mathlib.Core.Path.{_≡_, sym, ap, _∙_}
+use mathlib.Core.Path.{ap, _∙_}
 use lib.ListN.{set}
-use Rattle.machine.specs.Tables.{row}
 use Rattle.machine.specs.Rows.{withLocation}
-use Rattle.machine.specs.declared.Row.{Row}
 use Rattle.cells.specs.View.{rowsOf}
 use borrow.Author.Needs.{needs}
 use Rattle.steps.proofs.going.go_to.Statement.{statement}

@@ -1,5 +1,5 @@
 -- `going::leave` meets its contract: GO at 30. Assumes nothing.
-use mathlib.Core.Path.{_≡_, sym, ap, _∙_}
+use mathlib.Core.Path.{sym, ap, _∙_}
 use mathlib.Core.List.{map}
 use Rattle.machine.specs.Steps.{forgets}
 use Rattle.machine.proofs.Forms.{gone-30}

@@ -1,6 +1,5 @@
 -- `going::push` meets its contract: GO at 24, the turn cell after the row. Assumes nothing.
-use Prim.Native.Nat.{ℕ, _<_}
-use mathlib.Core.Path.{_≡_, sym, ap, _∙_}
+use mathlib.Core.Path.{ap, _∙_}
 use native.Mathlib.Omega.{arith}
 use Rattle.machine.specs.Steps.{turned}
 use Rattle.machine.specs.declared.Row.{Row}

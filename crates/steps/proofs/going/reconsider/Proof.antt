@@ -1,6 +1,6 @@
 -- `going::reconsider` meets its contract: GO at 23. Assumes nothing.
 use Prim.Native.Nat.{_<_}
-use mathlib.Core.Path.{_≡_, sym, ap, subst, _∙_}
+use mathlib.Core.Path.{sym, ap, subst, _∙_}
 use lib.ListN.{length}
 use Rattle.machine.specs.declared.Row.{Row}
 use Rattle.steps.proofs.MoveLaws.{put-reconsidered}

@@ -1,5 +1,5 @@
 -- `going::rest` meets its contract: GO at 40. Assumes nothing.
-use mathlib.Core.Path.{_≡_, sym, ap, _∙_}
+use mathlib.Core.Path.{_∙_}
 use Rattle.steps.proofs.MoveLaws.{put-left}
 use borrow.Author.Needs.{needs}
 use Rattle.steps.proofs.going.rest.Statement.{statement}

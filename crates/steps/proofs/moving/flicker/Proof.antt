@@ -1,9 +1,7 @@
 -- `moving::flicker` meets its contract. Assumes nothing.
-use Prim.Native.Nat.{ℕ, _<_}
-use mathlib.Core.Path.{_≡_, refl, sym, ap, subst, _∙_}
+use mathlib.Core.Path.{sym, ap, _∙_}
 use native.Mathlib.Omega.{arith}
-use lib.ListN.{length, set}
-use Rattle.machine.specs.Tables.{row}
+use lib.ListN.{set}
 use Rattle.machine.specs.Rows.{withAct}
 use Rattle.machine.specs.Steps.{turned}
 use Rattle.machine.specs.declared.Row.{Row}

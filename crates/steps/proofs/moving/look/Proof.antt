@@ -1,6 +1,6 @@
 -- `moving::look` meets its contract. Assumes nothing.
 use Prim.Native.Nat.{ℕ}
-use mathlib.Core.Path.{_≡_, refl, sym, ap, subst, _∙_}
+use mathlib.Core.Path.{ap, _∙_}
 use lib.ListN.{set}
 use Rattle.machine.specs.Tables.{row}
 use Rattle.machine.specs.Steps.{looked}

@@ -1,12 +1,11 @@
 -- `stepping::advance` meets its contract: a word that names a process is its kind, taken. Assumes nothing.
-use Prim.Native.Nat.{ℕ, _≤_, _<_}
-use mathlib.Core.Path.{_≡_, refl, sym, ap, _∙_}
-use mathlib.Core.Bool.{Bool, true}
+use Prim.Native.Nat.{ℕ}
+use mathlib.Core.Path.{_≡_, refl, sym, _∙_}
+use mathlib.Core.Bool.{true}
 use mathlib.Core.List.{List}
 use native.Mathlib.Omega.{arith}
-use lib.ListN.{length}
 use borrow.Author.Tests.{not-true, not-false}
-use Rattle.machine.specs.Words.{kindOf, processOf, argumentOf, formed}
+use Rattle.machine.specs.Words.{formed}
 use Rattle.machine.specs.declared.Stepped.{Stepped}
 use Rattle.steps.specs.Moves.{Ready, Takes, Steps}
 use Rattle.steps.proofs.StepLaws.{formed-kind, kind-steps, process-steps, ready, as-parts, taken-steps}

@@ -1,5 +1,5 @@
 -- `stepping::step` meets its contract. Assumes nothing.
-use mathlib.Core.Path.{_≡_, refl, sym, ap, subst, _∙_}
+use mathlib.Core.Path.{_≡_, sym, _∙_}
 use Rattle.machine.specs.Tables.{tableRefusal}
 use Rattle.cells.specs.View.{rowsOf}
 use Rattle.steps.proofs.StepLaws.{refusal-table, refused-steps}

@@ -1,7 +1,6 @@
 -- `taking::refusal_at` meets its contract: each return is the first refusal that applies. Assumes nothing.
 use Prim.Native.Nat.{ℕ}
 use mathlib.Core.Path.{_≡_, sym, ap, _∙_}
-use mathlib.Core.Bool.{Bool}
 use lib.ListN.{length}
 use borrow.Author.Tests.{not-true, not-false}
 use Rattle.machine.specs.Tables.{row}

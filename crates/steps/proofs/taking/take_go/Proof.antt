@@ -1,5 +1,5 @@
 -- `taking::take_go` meets its contract. Assumes nothing.
-use mathlib.Core.Path.{_≡_, refl, sym, _∙_}
+use mathlib.Core.Path.{sym, _∙_}
 use Rattle.machine.specs.Words.{GO}
 use Rattle.cells.specs.View.{rowsOf}
 use Rattle.steps.proofs.MoveLaws.{moved-go}

@@ -1,12 +1,11 @@
 -- `text::fields::put_number` meets its contract: it calls itself for a tenth of the number, which is less.
 -- Assumes nothing.
 use native.Mathlib.Omega.{arith}
-use mathlib.Core.Path.{_≡_, sym, ap, _∙_}
-use mathlib.Core.List.{List, [], _∷_, _++_}
-use Prim.Native.Nat.{ℕ, _+_, _/_, _%_, _<_, _≤_}
+use mathlib.Core.Path.{sym, ap, _∙_}
+use mathlib.Core.List.{[], _∷_, _++_}
+use Prim.Native.Nat.{ℕ, _/_, _<_}
 use lib.ListN.{length}
 use Rattle.machine.specs.Text.{decimal}
-use Rattle.text.specs.Appending.{Appended}
 use Rattle.text.proofs.AppendingLaws.{appended-as, appended-then}
 use Rattle.text.proofs.DigitLaws.{decimal-one, decimal-more, length-decimal-more}
 use borrow.Fn.Kinds.{In}

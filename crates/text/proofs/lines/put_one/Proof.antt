@@ -1,13 +1,12 @@
 -- `text::lines::put_one` meets its contract. Assumes nothing.
 use native.Mathlib.Omega.{arith}
 use borrow.Author.Needs.{needs}
-use mathlib.Core.Path.{_≡_, sym, ap, _∙_}
-use mathlib.Core.List.{List, [], _∷_, _++_, append-assoc}
-use lib.ListN.{length, length-append}
-use Rattle.machine.specs.Text.{decimal, numbers}
-use Rattle.text.specs.Appending.{Appended, field}
+use mathlib.Core.Path.{sym}
+use mathlib.Core.List.{[], _∷_}
+use lib.ListN.{length-append}
+use Rattle.machine.specs.Text.{numbers}
 use Rattle.text.proofs.AppendingLaws.{appended-as, appended-then}
-use Rattle.text.proofs.LineLaws.{numbers-last, length-last, length-field}
+use Rattle.text.proofs.LineLaws.{numbers-last, length-last}
 use Rattle.text.proofs.lines.put_one.Statement.{statement}
 use Rattle.text.proofs.lines.put_one.Tie as tie
 use Rattle.text.proofs.lines.put_one.Reads as reads

@@ -1,6 +1,6 @@
 -- `text::running::location_at` meets its contract. Assumes nothing.
 use native.Mathlib.Omega.{arith}
-use mathlib.Core.Path.{_≡_, sym, ap}
+use mathlib.Core.Path.{sym, ap}
 use Rattle.machine.specs.declared.Row.{Row}
 use Rattle.machine.proofs.TableLaws.{row-over}
 use Rattle.cells.specs.View.{rowsOf}

@@ -3,15 +3,11 @@
 use native.Mathlib.Omega.{arith}
 use borrow.Author.Needs.{needs}
 use mathlib.Core.Path.{_≡_, refl, sym, ap, _∙_}
-use mathlib.Core.Bool.{Bool, true, false}
-use mathlib.Core.List.{[], _∷_}
-use Prim.Native.Nat.{ℕ, _-_, _≤_}
+use Prim.Native.Nat.{_-_, _≤_}
 use lib.ListN.{length}
 use Rattle.machine.specs.Runs.{limit}
 use Rattle.cells.specs.View.{rowsOf}
-use Rattle.text.specs.Running.{goesOn, endOf, lineOf}
-use Rattle.text.specs.Appending.{Appended}
-use Rattle.text.specs.declared.running.Line.{Line}
+use Rattle.text.specs.Running.{goesOn}
 use Rattle.text.proofs.DigitLaws.{length-digits}
 use Rattle.text.proofs.LineLaws.{length-last}
 use Rattle.text.proofs.ProgressLaws.{Progress, progress-none, progress-taken, progress-stopped, progress-done}

@@ -1,9 +1,9 @@
 -- `text::running::put_word` meets its contract: one line, of the taken word or of the refused one. Assumes nothing.
 use native.Mathlib.Omega.{arith}
 use mathlib.Core.Path.{_≡_, sym, ap, _∙_}
-use mathlib.Core.Bool.{true, false}
+use mathlib.Core.Bool.{true}
 use mathlib.Core.List.{[], _∷_, _++_}
-use Prim.Native.Nat.{ℕ, _≤_}
+use Prim.Native.Nat.{ℕ}
 use lib.ListN.{length}
 use Rattle.machine.specs.Text.{numbers, stopText, wordLine}
 use Rattle.machine.proofs.SoundRows.{sound-few}
