@@ -30,83 +30,79 @@ mul-first c = omega (arith, c .before .pre .few)
 loop-holds : tie.Need-loop-holds Inv-loop μ-loop
 loop-holds c = (omega arith, omega (arith, c .before .pre .some), refl, refl)
 
+-- ---- in the loop
+
+abbrev start : tie.In-loop Inv-loop μ-loop → tie.Start Inv-loop μ-loop
+start c = c .before .before .before
+
 cast-i : tie.Need-cast-i Inv-loop μ-loop
 cast-i c = search needs
 
 add-i : tie.Need-add-i Inv-loop μ-loop
-add-i c =
-    omega (arith, c .before .before .before .pre .few, c .before .loop .inv .2, c .loop-test .taken)
+add-i c = omega (arith, start c .pre .few, c .before .loop .inv .2, c .loop-test .taken)
 
 mul-turn-refusal : tie.Need-mul-turn-refusal Inv-loop μ-loop
-mul-turn-refusal c =
-    omega (arith, c .before .before .before .pre .few, c .before .loop .inv .2, c .loop-test .taken)
+mul-turn-refusal c = omega (arith, start c .pre .few, c .before .loop .inv .2, c .loop-test .taken)
 
 shared-slice-read-turn-refusal : tie.Need-shared-slice-read-turn-refusal Inv-loop μ-loop
 shared-slice-read-turn-refusal c =
-    omega (
-      arith,
-      c .before .before .before .before .pre .length-is,
-      c .before .before .loop .inv .2,
-      c .before
-          .loop-test .taken,
-    )
+    let l = c .before in
+    omega (arith, start l .pre .length-is, l .before .loop .inv .2, l .loop-test .taken)
 
 turn-refusal-requires : tie.Need-turn-refusal-requires Inv-loop μ-loop
-turn-refusal-requires c κs =
-    record { few = c .before .before .before .before .pre .few; below = c .before .loop-test .taken }
+turn-refusal-requires c κs = record { few = start (c .before) .pre .few; below = c .before .loop-test .taken }
+
+-- what the code has found out of the word of turn[k], in the words of the definition
+found : (c : tie.After-turn-refusal Inv-loop μ-loop)
+    → let l = c .before .before in
+    let a = start l .args in
+    let k = l .before .loop .k in
+    c .turn-refusal .result ≡ slotRefusal (a .n) (slot TURN k) (getD (a .words .now) (4 * a .n + k) 0)
+found c =
+    let l = c .before .before in
+    let a = start l .args in
+    let k = l .before .loop .k in
+    c .turn-refusal .ensures
+    ∙ ap (λ (x : ℕ). slotRefusal (a .n) (slot TURN k) (getD (a .words .now) (x + k) 0)) (l .before .loop .inv .2)
 
 cast-t12 : tie.Need-cast-t12 Inv-loop μ-loop
 cast-t12 c =
-    omega (
-      arith,
-      c .before .before .before .before .before .before .pre .few,
-      c .before .before .before .before .loop
-          .inv .2,
-      c .before .before .before .loop-test .taken,
-    )
+    let l = c .before .before .before in
+    omega (arith, start l .pre .few, l .before .loop .inv .2, l .loop-test .taken)
 
 returns : tie.Need-returns Inv-loop μ-loop
 returns c =
-    let n = c .before .before .before .before .before .before .args .n in
-    let ws = c .before .before .before .before .before .before .args .words .now in
-    let k = c .before .before .before .before .loop .k in
-    let inv = c .before .before .before .before .loop .inv in
-    let long = c .before .before .before .before .before .before .pre .length-is in
-    let place = ap (λ (x : ℕ). x + k) (inv .2) in
-    let is = c .before .turn-refusal .ensures ∙ ap (λ (x : ℕ). slotRefusal n (slot TURN k) (getD ws x 0)) place in
-    (λ i. record { refusal = c .before .turn-refusal .result; place = place i })
-    ∙ turns-stop n ws k (c .before .turn-refusal .result) (c .before .before .before .loop-test .taken) long is
-    (c .if1 .taken)
+    let refusal = c .before .turn-refusal .result in
+    let l = c .before .before .before in
+    let s = start l in
+    let k = l .before .loop .k in
+    let inv = l .before .loop .inv in
+    (λ i. record { refusal = refusal; place = inv .2 i + k })
+    ∙ turns-stop (s .args .n) (s .args .words .now) k refusal (l .loop-test .taken) (s .pre .length-is)
+    (found (c .before)) (c .if1 .taken)
     ∙ sym (ap foundOf (inv .3))
 
 add-k : tie.Need-add-k Inv-loop μ-loop
 add-k c =
-    omega (
-      arith,
-      c .before .before .before .before .before .before .pre .few,
-      c .before .before .before .loop-test
-          .taken,
-    )
+    let l = c .before .before .before in
+    omega (arith, start l .pre .few, l .loop-test .taken)
 
 loop-less : tie.Need-loop-less Inv-loop μ-loop
 loop-less c = omega (arith, c .before .before .before .loop-test .taken)
 
 loop-again : tie.Need-loop-again Inv-loop μ-loop
 loop-again c =
-    let n = c .before .before .before .before .before .before .args .n in
-    let ws = c .before .before .before .before .before .before .args .words .now in
-    let k = c .before .before .before .before .loop .k in
-    let inv = c .before .before .before .before .loop .inv in
-    let long = c .before .before .before .before .before .before .pre .length-is in
-    let l : k < n = c .before .before .before .loop-test .taken in
-    let place = ap (λ (x : ℕ). x + k) (inv .2) in
-    let is = c .before .turn-refusal .ensures ∙ ap (λ (x : ℕ). slotRefusal n (slot TURN k) (getD ws x 0)) place in (
-      omega arith,
-      omega arith,
-      inv .2,
-      inv .3 ∙ turns-on n ws k (c .before .turn-refusal .result) l long is
-          (c .if1 .left),
-    )
+    let l = c .before .before .before in
+    let s = start l in
+    let k = l .before .loop .k in
+    let inv = l .before .loop .inv in
+    let more : k < s .args .n = l .loop-test .taken in
+    let on =
+    turns-on (s .args .n) (s .args .words .now) k (c .before .turn-refusal .result) more (s .pre .length-is)
+    (found (c .before)) (c .if1 .left) in
+    (omega arith, omega arith, inv .2, inv .3 ∙ on)
+
+-- ---- after the last turn cell
 
 returns-2 : tie.Need-returns-2 Inv-loop μ-loop
 returns-2 c =

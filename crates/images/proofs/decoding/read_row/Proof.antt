@@ -1,8 +1,9 @@
 -- `images::decoding::read_row` meets its contract. Assumes nothing.
-use Prim.Native.Nat.{_+_, _*_, _<_}
-use mathlib.Core.Path.{refl, sym, ap, _∙_}
+use Prim.Native.Nat.{ℕ, _+_, _*_, _<_}
+use mathlib.Core.Path.{_≡_, refl, sym, ap, _∙_}
 use native.Mathlib.Omega.{arith}
-use lib.ListN.{length, getD, set}
+use lib.ListN.{length, getD, set, drop}
+use Rattle.machine.specs.Images.{rowSlots, firstRefusal}
 use Rattle.cells.specs.View.{rowsOf}
 use Rattle.images.specs.Bounds.{foundOf}
 use Rattle.images.specs.Answers.{rowOfWords}
@@ -60,36 +61,36 @@ shared-slice-read-d c = search needs
 row-refusal-requires : tie.Need-row-refusal-requires
 row-refusal-requires c κs = search needs
 
+-- ---- what the code has found out of the row
+
+abbrev start : tie.After-row-refusal → tie.Start
+start c = c .before .before .before .before .before .before
+
+-- its words are within the image
+within : (s : tie.Start) → 4 * (s .args .q) + 4 < length (s .args .words .now)
+within s = omega (arith, s .pre .1 .0 .length-is, s .pre .1 .1 .0)
+
+-- in the words of the definition
+found : (c : tie.After-row-refusal)
+    → let a = start c .args in
+    c .row-refusal .result
+    ≡ foundOf (firstRefusal (a .n) (4 * a .q + 1) (rowSlots (a .q) 1) (drop (4 * a .q + 1) (a .words .now)))
+found c =
+    let a = start c .args in
+    c .row-refusal .ensures ∙ ap foundOf (row-found (a .n) (a .words .now) (a .q) (within (start c)))
+
 returns : tie.Need-returns
-returns c =
-    let a = c .before .before .before .before .before .before .before .before .args in
-    let within : 4 * (a .q) + 4 < length (a .words .now) = omega (
-      arith,
-      c .before .before .before .before .before .before .before .before .pre .1 .0 .length-is,
-      c .before
-          .before .before .before .before .before .before .before .pre .1 .1 .0,
-    ) in
-    record {
-      found-is = c .before .before .row-refusal .ensures ∙ ap foundOf (row-found (a .n) (a .words .now) (a .q) within);
-      rows-are = λ z. absurd (c .if1 .taken z);
-      size-is = refl;
-    }
+returns c = record { found-is = found (c .before .before); rows-are = λ z. absurd (c .if1 .taken z); size-is = refl }
 
 turn-of-requires : tie.Need-turn-of-requires
 turn-of-requires c κs = search needs
 
 row-of-requires : tie.Need-row-of-requires
 row-of-requires c κs =
-    let a = c .before .before .before .before .before .before .before .before .before .before .args in
-    let within : 4 * (a .q) + 4 < length (a .words .now) = omega (
-      arith,
-      c .before .before .before .before .before .before .before .before .before .before .pre .1 .0
-          .length-is,
-      c .before .before .before .before .before .before .before .before .before .before .pre .1 .1 .0,
-    ) in
-    row-passes (a .n) (a .words .now) (a .q) within
-    (sym (ap (λ (f : Found). f .refusal) (c .before .before .before .before .row-refusal .ensures))
-    ∙ c .before .before .if1 .left)
+    let r = c .before .before .before .before in
+    let a = start r .args in
+    row-passes (a .n) (a .words .now) (a .q) (within (start r))
+    (sym (ap (λ (f : Found). f .refusal) (r .row-refusal .ensures)) ∙ c .before .before .if1 .left)
 
 put-row-requires : tie.Need-put-row-requires
 put-row-requires c κs = search needs
@@ -99,28 +100,16 @@ same-length c = search needs
 
 returns-2 : tie.Need-returns-2
 returns-2 c =
-    let a = c .before .before .before .before .before .before .before .before .before .before .before .before .before
-    .args in
-    let within : 4 * (a .q) + 4 < length (a .words .now) = omega (
-      arith,
-      c .before .before .before .before .before .before .before .before .before .before .before .before
-          .before .pre .1 .0 .length-is,
-      c .before .before .before .before .before .before .before .before .before
-          .before .before .before .before .pre .1 .1 .0,
-    ) in
+    let r = c .before .before .before .before .before .before .before in
+    let a = start r .args in
+    let w : ℕ → ℕ = λ i. getD (a .words .now) (4 * a .q + i) 0 in
+    let turn = c .before .before .before .before .turn-of .ensures in
+    let row-is = c .before .before .row-of .ensures ∙ ap (rowOfWords (w 1) (w 2) (w 3) (w 4)) turn in
+    let put = c .before .put-row .ensures in
     record {
-      found-is = c .before .before .before .before .before .before .before .row-refusal .ensures ∙ ap foundOf
-          (row-found (a .n) (a .words .now) (a .q) within);
-      rows-are =
-          λ z.
-          c .before .put-row .ensures .rows-are
-          ∙ ap (set (rowsOf (a .cells .now)) (a .q))
-          (c .before .before .row-of .ensures
-          ∙ ap
-          (rowOfWords (getD (a .words .now) (4 * (a .q) + 1) 0) (getD (a .words .now) (4 * (a .q) + 2) 0)
-          (getD (a .words .now) (4 * (a .q) + 3) 0) (getD (a .words .now) (4 * (a .q) + 4) 0))
-          (c .before .before .before .before .turn-of .ensures));
-      size-is = c .before .put-row .ensures .size-is;
+      found-is = found r;
+      rows-are = λ z. put .rows-are ∙ ap (set (rowsOf (a .cells .now)) (a .q)) row-is;
+      size-is = put .size-is;
     }
 
 pub read-row-spec : {M : Type 1} → statement M

@@ -25,9 +25,10 @@ slice-aggregate-new-table c = search needs
 
 new-table-requires : tie.Need-new-table-requires
 new-table-requires c κs =
-    let ws = c .before .before .before .before .before .before .before .before .args .words .now in
     let told = c .before .before .answer .given in
-    let into = subst (ReadInto ws _ _) (told .1) (c .before .before .before .before .before .read-cells .ensures) in
+    let read = c .before .before .before .before .before in
+    let ws = read .before .before .before .args .words .now in
+    let into = subst (ReadInto ws _ _) (told .1) (read .read-cells .ensures) in
     (read-few ws _ _ (told .0 .0) into, into .size-is)
 
 enum-known-answer-2 : tie.Need-enum-known-answer-2
@@ -38,17 +39,18 @@ no-table-requires c κs = search needs
 
 returns : tie.Need-returns
 returns c =
-    let ws = c .before .before .before .before .before .before .before .before .before .args .words .now in
     let told = c .before .before .before .answer .given in
-    let into = subst (ReadInto ws _ _) (told .1) (c .before .before .before .before .before .before .read-cells
-    .ensures) in
+    let read = c .before .before .before .before .before .before in
+    let ws = read .before .before .before .args .words .now in
+    let into = subst (ReadInto ws _ _) (told .1) (read .read-cells .ensures) in
     c .new-table .ensures ∙ read-table ws _ _ (told .0 .0) into
 
 returns-2 : tie.Need-returns-2
 returns-2 c =
-    let ws = c .before .before .before .before .before .before .before .before .args .words .now in
     let told = c .before .before .answer2 .given in
-    let into = subst (ReadInto ws _ _) (told .1) (c .before .before .before .before .before .read-cells .ensures) in
+    let read = c .before .before .before .before .before in
+    let ws = read .before .before .before .args .words .now in
+    let into = subst (ReadInto ws _ _) (told .1) (read .read-cells .ensures) in
     c .no-table .ensures ∙ read-refused ws _ _ (told .0 .0) (told .0 .1 .0) into
 
 pub read-spec : {M : Type 1} → statement M
