@@ -44,7 +44,7 @@ pub fn critical(cells: &[[u16; 8]]) -> u16
 }
 
 // How many processes wait, at 20 to 24.
-pub fn waiting(cells: &[[u16; 8]]) -> u16
+fn waiting(cells: &[[u16; 8]]) -> u16
     requires { ⌜ length (now cells) ≤ 16 ⌝ }
     ensures { λ s. ⌜ s ≡ waiting (rowsOf (now (cells .entry))) ⌝ }
 {

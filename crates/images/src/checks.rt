@@ -61,7 +61,7 @@ fn set_refusal(n: u16, full: u16, kind: u16, q: u16, w: u32) -> u16
 }
 
 // The refusal of a word that holds turn[k], or 0.
-pub fn turn_refusal(n: u16, k: u16, w: u32) -> u16
+pub(crate) fn turn_refusal(n: u16, k: u16, w: u32) -> u16
     requires { ⌜ Numbered n k ⌝ }
     ensures { λ r. ⌜ r ≡ slotRefusal n (slot TURN k) w ⌝ }
 {
@@ -75,7 +75,7 @@ pub fn turn_refusal(n: u16, k: u16, w: u32) -> u16
 }
 
 // The first refusal of the four words of process q, in their order.
-pub fn row_refusal(n: u16, full: u16, q: u16, a: u32, b: u32, c: u32, d: u32) -> Found
+pub(crate) fn row_refusal(n: u16, full: u16, q: u16, a: u32, b: u32, c: u32, d: u32) -> Found
     requires { ⌜ Full n full ⌝ }
     requires { ⌜ Numbered n q ⌝ }
     ensures { λ f. ⌜ f ≡ foundOf (firstRefusal n (4 * q + 1) (rowSlots q 1) (a ∷ b ∷ c ∷ d ∷ [])) ⌝ }

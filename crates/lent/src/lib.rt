@@ -61,7 +61,7 @@ fn row_of(c: [u16; 8]) -> Row
 }
 
 // The rows written over the cells, as many as there are of both. Proved by hand.
-pub fn load(rows: &[Row], cells: &mut [[u16; 8]])
+fn load(rows: &[Row], cells: &mut [[u16; 8]])
     ensures { λ _. ⌜
         now (cells .exit) ≡ written cellsOf (now (rows .entry)) (now (cells .entry))
         ⌝ }
@@ -75,7 +75,7 @@ pub fn load(rows: &[Row], cells: &mut [[u16; 8]])
 }
 
 // The cells written over the rows, as many as there are of both. Proved by hand.
-pub fn store(cells: &[[u16; 8]], rows: &mut [Row])
+fn store(cells: &[[u16; 8]], rows: &mut [Row])
     ensures { λ _. ⌜
         now (rows .exit) ≡ written rowOf (now (cells .entry)) (now (rows .entry))
         ⌝ }

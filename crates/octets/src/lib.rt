@@ -22,7 +22,7 @@ fn wide(b: u8) -> u32
 }
 
 // The word that four bytes make.
-pub fn word_of(a: u8, b: u8, c: u8, d: u8) -> u32
+fn word_of(a: u8, b: u8, c: u8, d: u8) -> u32
     ensures { λ r. ⌜ r ≡ wordOf a b c d ⌝ }
 {
     wide(a) + wide(b) * 256 + wide(c) * 65536 + wide(d) * 16777216
@@ -45,7 +45,7 @@ pub fn unpack(bytes: &[u8], words: &mut [u32]) -> usize
 }
 
 // The four bytes of a word, put into `bytes` from `at` on.
-pub fn put_word(bytes: &mut [u8], at: usize, word: u32)
+fn put_word(bytes: &mut [u8], at: usize, word: u32)
     requires { ⌜ at + 4 ≤ length (now bytes) ⌝ }
     ensures { λ _. ⌜ now (bytes .exit) ≡ placed (now (bytes .entry)) at (bytesOf (word ∷ [])) ⌝ }
 {

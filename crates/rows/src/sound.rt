@@ -23,7 +23,7 @@ pub fn full_set(n: u16) -> u16
 }
 
 // Whether bit l of a mask is set; a mask has bits below 64 only.
-pub fn marked(mask: u64, l: u16) -> bool
+pub(crate) fn marked(mask: u64, l: u16) -> bool
     ensures { λ b. ⌜ b ≡ (ltb l 64 && eqb (mask / 2 ^ (l % 64) % 2) 1) ⌝ }
 {
     (l < 64) & ((mask >> (l % 64)) % 2 == 1)

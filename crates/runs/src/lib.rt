@@ -18,7 +18,7 @@ pub struct RunAnswer {
 }
 
 // The tally after an accepted word with an event.
-pub fn counted(event: Event, tally: Tally) -> Tally
+fn counted(event: Event, tally: Tally) -> Tally
     requires { ⌜ Room tally ⌝ }
     ensures { λ h. ⌜ h ≡ counted event tally ⌝ }
 {

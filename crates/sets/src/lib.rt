@@ -1,6 +1,6 @@
 // Sets of process numbers in the bits of a u16 (counting/specs/Sets.antt says what they mean).
-// `has`, `size`, `lowest_member` and `without` take any arguments. `member_of`, `first_of`, `removed`
-// and `others` are for crates above that know their arguments to be in range, and do not branch.
+// `has`, `size`, `lowest_member` and `without` take any arguments. `removed` and `others` are for
+// crates above that know their arguments to be in range, and do not branch.
 ghost use mathlib.Core.Path.{_≡_};
 ghost use Prim.Native.Nat.{_<_};
 ghost use Rattle.counting.specs.Sets.{has, size, without, others};
@@ -20,7 +20,7 @@ pub fn has(s: u16, q: u16) -> bool
 }
 
 // Whether q, below 16, is in s.
-pub fn member_of(s: u16, q: u16) -> bool
+fn member_of(s: u16, q: u16) -> bool
     requires { ⌜ q < 16 ⌝ }
     ensures { λ r. ⌜ r ≡ has s q ⌝ }
 {
@@ -45,7 +45,7 @@ pub fn lowest_member(s: u16) -> Lowest
 }
 
 // The lowest member of an s that has one.
-pub fn first_of(s: u16) -> u16
+fn first_of(s: u16) -> u16
     requires { ⌜ 0 < s ⌝ }
     ensures { λ r. ⌜ lowestOf s ≡ Lowest.Member r ⌝ }
 {

@@ -13,7 +13,7 @@ ghost use Rattle.cells.specs.View.{rowsOf, Becomes};
 ghost use Rattle.steps.specs.Moves.{Ready, At, Free, Gone, Goes};
 
 // Process p goes to a location, with everything else kept.
-pub fn go_to(cells: &mut [[u16; 8]], p: u16, l: u16)
+pub(crate) fn go_to(cells: &mut [[u16; 8]], p: u16, l: u16)
     requires { ⌜ Ready (now cells) p ⌝ }
     ensures { λ _. ⌜ Becomes (now (cells .entry))
         (set (rowsOf (now (cells .entry))) p (withLocation l (row (rowsOf (now (cells .entry))) p)))
@@ -88,7 +88,7 @@ fn rest(cells: &mut [[u16; 8]], p: u16)
 }
 
 // GO of process p where it is allowed.
-pub fn go(cells: &mut [[u16; 8]], p: u16) -> Event
+pub(crate) fn go(cells: &mut [[u16; 8]], p: u16) -> Event
     requires { ⌜ Free (now cells) p ⌝ }
     ensures { λ e. ⌜ Goes (now (cells .entry)) p (now (cells .exit)) e ⌝ }
 {

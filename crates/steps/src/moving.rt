@@ -9,7 +9,7 @@ ghost use Rattle.cells.specs.View.{rowsOf, Becomes};
 ghost use Rattle.steps.specs.Moves.{lookedAt, Ready};
 
 // FLICKER of process p: at 24 the turn cell of its level becomes `a`, elsewhere its act.
-pub fn flicker(cells: &mut [[u16; 8]], p: u16, a: u16)
+pub(crate) fn flicker(cells: &mut [[u16; 8]], p: u16, a: u16)
     requires { ⌜ Ready (now cells) p ⌝ }
     ensures { λ _. ⌜ Becomes (now (cells .entry)) (flickered (rowsOf (now (cells .entry))) p a)
         (now (cells .exit)) ⌝ }
@@ -23,7 +23,7 @@ pub fn flicker(cells: &mut [[u16; 8]], p: u16, a: u16)
 }
 
 // LOOK of process p at q.
-pub fn look(cells: &mut [[u16; 8]], p: u16, q: u16)
+pub(crate) fn look(cells: &mut [[u16; 8]], p: u16, q: u16)
     requires { ⌜ (p < length (now cells)) × (length (now cells) ≤ 16) × (q < length (now cells)) ⌝ }
     ensures { λ _. ⌜ Becomes (now (cells .entry)) (lookedAt (rowsOf (now (cells .entry))) p q)
         (now (cells .exit)) ⌝ }

@@ -31,7 +31,7 @@ fn refusal_at(cells: &[[u16; 8]], kind: u16, p: u16, a: u16) -> u16
 }
 
 // LOOK of process p at `a`.
-pub fn take_look(cells: &mut [[u16; 8]], p: u16, a: u16) -> Stepped
+pub(crate) fn take_look(cells: &mut [[u16; 8]], p: u16, a: u16) -> Stepped
     requires { ⌜ Ready (now cells) p ⌝ }
     ensures { λ s. ⌜ Takes (now (cells .entry)) LOOK p a (now (cells .exit)) s ⌝ }
 {
@@ -44,7 +44,7 @@ pub fn take_look(cells: &mut [[u16; 8]], p: u16, a: u16) -> Stepped
 }
 
 // GO of process p.
-pub fn take_go(cells: &mut [[u16; 8]], p: u16, a: u16) -> Stepped
+pub(crate) fn take_go(cells: &mut [[u16; 8]], p: u16, a: u16) -> Stepped
     requires { ⌜ Ready (now cells) p ⌝ }
     ensures { λ s. ⌜ Takes (now (cells .entry)) GO p a (now (cells .exit)) s ⌝ }
 {
@@ -57,7 +57,7 @@ pub fn take_go(cells: &mut [[u16; 8]], p: u16, a: u16) -> Stepped
 }
 
 // FLICKER of process p to `a`.
-pub fn take_flicker(cells: &mut [[u16; 8]], p: u16, a: u16) -> Stepped
+pub(crate) fn take_flicker(cells: &mut [[u16; 8]], p: u16, a: u16) -> Stepped
     requires { ⌜ Ready (now cells) p ⌝ }
     ensures { λ s. ⌜ Takes (now (cells .entry)) FLICKER p a (now (cells .exit)) s ⌝ }
 {
@@ -71,7 +71,7 @@ pub fn take_flicker(cells: &mut [[u16; 8]], p: u16, a: u16) -> Stepped
 
 // STAY or COME of process p, the kinds of a process at rest. One function for both: with five cases
 // the compiler makes the choice of a kind a jump through a table, which is slower.
-pub fn take_resting(cells: &mut [[u16; 8]], kind: u16, p: u16, a: u16) -> Stepped
+pub(crate) fn take_resting(cells: &mut [[u16; 8]], kind: u16, p: u16, a: u16) -> Stepped
     requires { ⌜ Resting (now cells) kind p ⌝ }
     ensures { λ s. ⌜ Takes (now (cells .entry)) kind p a (now (cells .exit)) s ⌝ }
 {

@@ -8,7 +8,7 @@ ghost use Rattle.machine.specs.Text.{decimal};
 ghost use Rattle.text.specs.Appending.{Appended, field};
 
 // One byte.
-pub fn put_byte(out: &mut [u8], at: usize, b: u8) -> usize
+fn put_byte(out: &mut [u8], at: usize, b: u8) -> usize
     requires { ⌜ at < length (now out) ⌝ }
     ensures { λ r. ⌜ Appended (now (out .entry)) at (b ∷ []) (now (out .exit)) r ⌝ }
 {
@@ -17,7 +17,7 @@ pub fn put_byte(out: &mut [u8], at: usize, b: u8) -> usize
 }
 
 // The bytes of `s`.
-pub fn put_text(out: &mut [u8], at: usize, s: &[u8]) -> usize
+pub(crate) fn put_text(out: &mut [u8], at: usize, s: &[u8]) -> usize
     requires { ⌜ at + length (now s) ≤ length (now out) ⌝ }
     ensures { λ r. ⌜ Appended (now (out .entry)) at (now (s .entry)) (now (out .exit)) r ⌝ }
 {
@@ -38,7 +38,7 @@ fn digit(n: u32) -> u8
 }
 
 // The decimal digits of a number: those of its tenth, where it has one, and the last.
-pub fn put_number(out: &mut [u8], at: usize, n: u32) -> usize
+fn put_number(out: &mut [u8], at: usize, n: u32) -> usize
     requires { ⌜ at + length (decimal n) ≤ length (now out) ⌝ }
     ensures { λ r. ⌜ Appended (now (out .entry)) at (decimal n) (now (out .exit)) r ⌝ }
 {
@@ -50,7 +50,7 @@ pub fn put_number(out: &mut [u8], at: usize, n: u32) -> usize
 }
 
 // The decimal digits of a number, and the byte b after them.
-pub fn put_field(out: &mut [u8], at: usize, n: u32, b: u8) -> usize
+pub(crate) fn put_field(out: &mut [u8], at: usize, n: u32, b: u8) -> usize
     requires { ⌜ at + length (decimal n) < length (now out) ⌝ }
     ensures { λ r. ⌜ Appended (now (out .entry)) at (field n b) (now (out .exit)) r ⌝ }
 {

@@ -9,7 +9,7 @@ ghost use Rattle.machine.specs.Text.{numbers};
 ghost use Rattle.text.specs.Appending.{Appended};
 
 // A line of one number after a text.
-pub fn put_one(out: &mut [u8], at: usize, s: &[u8], a: u32) -> usize
+pub(crate) fn put_one(out: &mut [u8], at: usize, s: &[u8], a: u32) -> usize
     requires { ⌜ at + length (now s ++ numbers (a ∷ [])) ≤ length (now out) ⌝ }
     ensures { λ r. ⌜ Appended (now (out .entry)) at (now (s .entry) ++ numbers (a ∷ [])) (now (out .exit)) r ⌝ }
 {
@@ -18,7 +18,7 @@ pub fn put_one(out: &mut [u8], at: usize, s: &[u8], a: u32) -> usize
 }
 
 // A line of two numbers after a text.
-pub fn put_two(out: &mut [u8], at: usize, s: &[u8], a: u32, b: u32) -> usize
+pub(crate) fn put_two(out: &mut [u8], at: usize, s: &[u8], a: u32, b: u32) -> usize
     requires { ⌜ at + length (now s ++ numbers (a ∷ b ∷ [])) ≤ length (now out) ⌝ }
     ensures { λ r. ⌜ Appended (now (out .entry)) at (now (s .entry) ++ numbers (a ∷ b ∷ [])) (now (out .exit)) r ⌝ }
 {
@@ -28,7 +28,7 @@ pub fn put_two(out: &mut [u8], at: usize, s: &[u8], a: u32, b: u32) -> usize
 }
 
 // A line of five numbers.
-pub fn put_five(out: &mut [u8], at: usize, a: u32, b: u32, c: u32, d: u32, e: u32) -> usize
+pub(crate) fn put_five(out: &mut [u8], at: usize, a: u32, b: u32, c: u32, d: u32, e: u32) -> usize
     requires { ⌜ at + length (numbers (a ∷ b ∷ c ∷ d ∷ e ∷ [])) ≤ length (now out) ⌝ }
     ensures { λ r. ⌜ Appended (now (out .entry)) at (numbers (a ∷ b ∷ c ∷ d ∷ e ∷ [])) (now (out .exit)) r ⌝ }
 {

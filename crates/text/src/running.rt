@@ -42,7 +42,7 @@ fn count_critical(cells: &[[u16; 8]]) -> u32
 
 // The step of a word, which is the word at `place`, and its line; or the last line where the word
 // is refused.
-pub fn put_word(out: &mut [u8], at: usize, cells: &mut [[u16; 8]], place: u32, word: u32) -> Line
+fn put_word(out: &mut [u8], at: usize, cells: &mut [[u16; 8]], place: u32, word: u32) -> Line
     requires { ⌜ Ready (now cells) (now out) at place ⌝ }
     ensures { λ r. ⌜
         WordPrinted (now (cells .entry)) (now (out .entry)) at place word (now (cells .exit)) (now (out .exit)) r
@@ -69,7 +69,7 @@ fn put_done(out: &mut [u8], at: usize, taken: u32) -> usize
 }
 
 // A line for each word up to the first that is refused, and the last line.
-pub fn put_run(out: &mut [u8], at: usize, cells: &mut [[u16; 8]], words: &[u32]) -> usize
+pub(crate) fn put_run(out: &mut [u8], at: usize, cells: &mut [[u16; 8]], words: &[u32]) -> usize
     requires { ⌜ RunReady (now cells) (now out) at (length (now words)) ⌝ }
     ensures { λ r. ⌜
         Appended (now (out .entry)) at (runLines (rowsOf (now (cells .entry))) 0 (now (words .entry)))
