@@ -40,7 +40,8 @@ pub data Step (t : Table) (p : ℕ) : Table → Type 0 where
       row t p .location ≡ 20
       → Step t p
       (assigned t p
-      (λ r. withLocation 21 (withEst (others (length t) p) (withLevel (length t - 1) (withAct 1 (withAhead (Cp t) r))))))
+      (λ r.
+      withLocation 21 (withEst (others (length t) p) (withLevel (length t - 1) (withAct 1 (withAhead (Cp t) r))))))
   -- 21: if level > 0 then lis := est; goto 22 else goto 30
   starts-pass :
       row t p .location ≡ 21 → 0 < row t p .level

@@ -90,8 +90,9 @@ same-length-2 : tie.Need-same-length-2
 same-length-2 c = search needs
 
 -- elsewhere than at 21 GO is quiet
-quiet : (c : tie.Else1) (y : List (List ℕ)) → Gone (c .before .before .before .args .cells .now) (c .before .before .before .args .p) y
-    → Goes (c .before .before .before .args .cells .now) (c .before .before .before .args .p) y Event.Quiet
+quiet : (c : tie.Else1) (y : List (List ℕ))
+    → let a = c .before .before .before .args in
+    Gone (a .cells .now) (a .p) y → Goes (a .cells .now) (a .p) y Event.Quiet
 quiet c y =
     let s = c .before .before .before in
     let x = s .args .cells .now in

@@ -45,10 +45,11 @@ same-length c = search needs
 
 returns : tie.Need-returns
 returns c =
-    let s = c .before .before .before .before .before .before .before .before .before .before .before .before in
+    let first = c .before .before .before .before .before .before .before .before .before .before in
+    let s = first .before .before in
     let x = s .args .cells .now in
     let p = s .args .p in
-    let competing = c .before .before .before .before .before .before .before .before .before .before .competitors .ensures in
+    let competing = first .competitors .ensures in
     let gathered = c .before .before .before .before .before .before .before .before .row-at in
     let made = c .before .before .before .before .before .before .pushed .ensures in
     let put = c .before .before .before .before .before .put-row .ensures in

@@ -56,7 +56,9 @@ argument-of-requires c κs = search needs
 formed-so : (c : tie.Else2) → formed (c .before .before .before .before .args .word) ≡ true
 formed-so c = sym (c .before .before .formed .ensures) ∙ not-false _ (c .before .if1 .left)
 
-here : (c : tie.Else2) → (let s = c .before .before .before in Ready (s .before .args .cells .now) (s .process-of .result))
+here : (c : tie.Else2)
+    → let s = c .before .before .before in
+    Ready (s .before .args .cells .now) (s .process-of .result)
 here c =
     let s = c .before .before .before .before in
     ready (s .args .cells .now) (s .args .word) (s .pre) _ (omega (arith, c .if2 .left))

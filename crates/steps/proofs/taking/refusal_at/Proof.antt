@@ -33,7 +33,8 @@ argument-fits-requires c κs = search needs
 -- ---- what the code has found out, in the words of the definitions
 
 allowed-is : (c : tie.After-allowed)
-    → (let s = c .before .before in c .allowed .result ≡ allowed (s .args .kind) (row (rowsOf (s .args .cells .now)) (s .args .p)))
+    → let a = c .before .before .args in
+    c .allowed .result ≡ allowed (a .kind) (row (rowsOf (a .cells .now)) (a .p))
 allowed-is c = c .allowed .ensures ∙ ap (allowed (c .before .before .args .kind)) (c .before .row-at .ensures)
 
 fits-is : (c : tie.After-argument-fits)
