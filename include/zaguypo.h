@@ -64,8 +64,8 @@ struct zaguypo_census {
     uint16_t refusal;  /* 0, 6 or 7 */
     uint16_t critical; /* processes at 30 */
     uint16_t waiting;  /* processes at 20 to 24 */
-    uint16_t below[17];
-    uint16_t held[17];
+    uint16_t below[17]; /* at k: processes at 21 to 30 with a level under k */
+    uint16_t held[17];  /* at k: those, and those at 21 to 30, but not at 24, with fewer than k members in ahead */
 };
 
 struct zaguypo_census zaguypo_census(const struct zaguypo_row *rows, size_t size);
