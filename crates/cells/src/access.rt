@@ -1,4 +1,4 @@
-// One row of a table in place. The functions here are for crates that know the index to be in
+// One row of a table in place. The functions on a slice are for crates that know the index to be in
 // range.
 use machine::Row;
 ghost use mathlib.Core.Path.{_≡_};
@@ -6,14 +6,12 @@ ghost use Prim.Native.Nat.{_<_};
 ghost use lib.ListN.{length, set};
 ghost use Rattle.machine.specs.Tables.{row};
 ghost use Rattle.machine.specs.Steps.{turned};
-ghost use Rattle.cells.specs.View.{rowsOf, Becomes};
+ghost use Rattle.cells.specs.View.{rowOf, cellsOf, rowsOf, Becomes};
 
-// The row of process p.
-pub fn row_at(cells: &[[u16; 8]], p: usize) -> Row
-    requires { ⌜ p < length (now cells) ⌝ }
-    ensures { λ r. ⌜ r ≡ row (rowsOf (now (cells .entry))) p ⌝ }
+// The row that eight cells hold.
+pub fn row_of(c: [u16; 8]) -> Row
+    ensures { λ r. ⌜ r ≡ rowOf c ⌝ }
 {
-    let c = cells[p];
     Row {
         location: c[0],
         act: c[1],
@@ -26,13 +24,11 @@ pub fn row_at(cells: &[[u16; 8]], p: usize) -> Row
     }
 }
 
-// The row of process p becomes r.
-pub fn put_row(cells: &mut [[u16; 8]], p: usize, r: Row)
-    requires { ⌜ p < length (now cells) ⌝ }
-    ensures { λ _. ⌜ Becomes (now (cells .entry)) (set (rowsOf (now (cells .entry))) p r)
-        (now (cells .exit)) ⌝ }
+// The eight cells of a row.
+pub fn cells_of(r: Row) -> [u16; 8]
+    ensures { λ c. ⌜ c ≡ cellsOf r ⌝ }
 {
-    cells[p] = [
+    [
         r.location,
         r.act,
         r.bb,
@@ -41,7 +37,24 @@ pub fn put_row(cells: &mut [[u16; 8]], p: usize, r: Row)
         r.lis,
         r.ahead,
         r.turn,
-    ];
+    ]
+}
+
+// The row of process p.
+pub fn row_at(cells: &[[u16; 8]], p: usize) -> Row
+    requires { ⌜ p < length (now cells) ⌝ }
+    ensures { λ r. ⌜ r ≡ row (rowsOf (now (cells .entry))) p ⌝ }
+{
+    row_of(cells[p])
+}
+
+// The row of process p becomes r.
+pub fn put_row(cells: &mut [[u16; 8]], p: usize, r: Row)
+    requires { ⌜ p < length (now cells) ⌝ }
+    ensures { λ _. ⌜ Becomes (now (cells .entry)) (set (rowsOf (now (cells .entry))) p r)
+        (now (cells .exit)) ⌝ }
+{
+    cells[p] = cells_of(r);
 }
 
 // The cell turn[k] becomes v.

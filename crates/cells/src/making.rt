@@ -5,33 +5,30 @@ use machine::Row;
 ghost use mathlib.Core.Path.{_≡_};
 ghost use mathlib.Core.List.{[]};
 ghost use lib.ListN.{length};
-ghost use Rattle.machine.specs.Refusals.{wrongSize};
 ghost use Rattle.machine.specs.Tables.{freshTable, handed, madeFresh};
 ghost use Rattle.cells.specs.View.{Becomes};
 
-// What stands past a table's end.
-const BLANK: Row = Row {
-    location: 0,
-    act: 0,
-    bb: 0,
-    level: 0,
-    est: 0,
-    lis: 0,
-    ahead: 0,
-    turn: 0,
-};
+// No table, for a refusal and its place.
+pub fn no_table(refusal: u16, place: u16) -> NewTable
+    ensures { λ r. ⌜ r ≡ handed refusal place [] ⌝ }
+{
+    let rows = [Row::BLANK; 16];
+    NewTable {
+        refusal: refusal,
+        place: place,
+        size: 0,
+        rows: rows,
+    }
+}
 
 // The fresh table of n processes with every variable 0; 6 and no table for n outside 2 to 16.
 pub fn fresh(n: u32) -> NewTable
     ensures { λ r. ⌜ r ≡ madeFresh n ⌝ }
 {
-    if n < 2 {
-        return refused();
+    if (n < 2) | (16 < n) {
+        return no_table(machine::WRONG_SIZE, 0);
     }
-    if 16 < n {
-        return refused();
-    }
-    let mut rows = [BLANK; 16];
+    let mut rows = [Row::BLANK; 16];
     let size = n as usize;
     let mut q = 0;
     while q < size {
@@ -42,19 +39,6 @@ pub fn fresh(n: u32) -> NewTable
         refusal: 0,
         place: 0,
         size: n as u16,
-        rows: rows,
-    }
-}
-
-// 6 and no table.
-fn refused() -> NewTable
-    ensures { λ r. ⌜ r ≡ handed wrongSize 0 [] ⌝ }
-{
-    let rows = [BLANK; 16];
-    NewTable {
-        refusal: machine::WRONG_SIZE,
-        place: 0,
-        size: 0,
         rows: rows,
     }
 }

@@ -8,7 +8,6 @@ use machine::OUT_OF_RANGE;
 ghost use mathlib.Core.Path.{_≡_};
 ghost use mathlib.Core.List.{[], _∷_};
 ghost use Prim.Native.Nat.{_+_, _*_, _<_};
-ghost use Rattle.machine.specs.Tables.{levelFits};
 ghost use Rattle.machine.specs.Images.{slot, STATE, TURN, rowSlots, slotRefusal, firstRefusal};
 ghost use Rattle.rows.specs.Bounds.{Full};
 ghost use Rattle.images.specs.Bounds.{Numbered, SetKind, foundOf};
@@ -17,13 +16,6 @@ ghost use Rattle.images.specs.Bounds.{Numbered, SetKind, foundOf};
 const STATE_UPPER: u32 = 0x9000;
 
 const TURN_UPPER: u32 = 0xd000;
-
-// Whether level v goes with location l.
-fn level_fits(l: u16, v: u16) -> bool
-    ensures { λ b. ⌜ b ≡ levelFits l v ⌝ }
-{
-    (!((22 <= l) & (l <= 24)) | (0 < v)) & (!(l == 30) | (v == 0))
-}
 
 // The refusal of a word with location, act, bb and level, or 0.
 fn state_refusal(n: u16, q: u16, w: u32) -> u16
@@ -38,7 +30,7 @@ fn state_refusal(n: u16, q: u16, w: u32) -> u16
     if !((code < 8) & (level < n)) {
         return OUT_OF_RANGE;
     }
-    if !level_fits(rows::codes::location_of(code), level) {
+    if !rows::sound::location_fits(rows::codes::location_of(code), level) {
         return LEVEL_MISFIT;
     }
     0

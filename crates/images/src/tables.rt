@@ -1,40 +1,15 @@
 // A whole new table from an image.
 use crate::Reading;
 use crate::decoding::read_cells;
+use cells::making::no_table;
 use machine::NewTable;
 use machine::Row;
 ghost use mathlib.Core.Path.{_≡_};
-ghost use mathlib.Core.List.{[]};
 ghost use Prim.Native.Nat.{_≤_};
 ghost use lib.ListN.{length, take};
 ghost use Rattle.machine.specs.Tables.{handed};
 ghost use Rattle.machine.specs.Images.{readImage};
 ghost use Rattle.cells.specs.View.{rowsOf};
-
-// No process: what stands past a table's end.
-const BLANK: Row = Row {
-    location: 0,
-    act: 0,
-    bb: 0,
-    level: 0,
-    est: 0,
-    lis: 0,
-    ahead: 0,
-    turn: 0,
-};
-
-// No table, for a refusal and its place.
-fn no_table(number: u16, place: u16) -> NewTable
-    ensures { λ t. ⌜ t ≡ handed number place [] ⌝ }
-{
-    let rows = [BLANK; 16];
-    NewTable {
-        refusal: number,
-        place,
-        size: 0,
-        rows,
-    }
-}
 
 // The table that the first n cells stand for.
 fn new_table(cells: &[[u16; 8]], n: u16) -> NewTable
@@ -42,7 +17,7 @@ fn new_table(cells: &[[u16; 8]], n: u16) -> NewTable
     ensures { λ t. ⌜ t ≡ handed 0 0 (rowsOf (take n (now (cells .entry)))) ⌝ }
 {
     let m = n as usize;
-    let mut rows = [BLANK; 16];
+    let mut rows = [Row::BLANK; 16];
     let mut q = 0;
     while q < m {
         rows[q] = cells::access::row_at(cells, q);

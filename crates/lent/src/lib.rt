@@ -1,6 +1,8 @@
 // The lent forms: a lent table of rows and a lent tally. The rows are written into cells, the work
 // is done there in place, and the rows are written back. What is said to be proved by hand holds a
 // reference to a struct, which the borrow checker does not cover.
+use cells::access::cells_of;
+use cells::access::row_of;
 use machine::Ran;
 use machine::Row;
 use machine::Stepped;
@@ -26,38 +28,6 @@ fn lesser(a: usize, b: usize) -> usize
     ensures { λ r. ⌜ r ≡ min a b ⌝ }
 {
     if a < b { a } else { b }
-}
-
-// The eight cells of a row.
-fn cells_of(r: Row) -> [u16; 8]
-    ensures { λ c. ⌜ c ≡ cellsOf r ⌝ }
-{
-    [
-        r.location,
-        r.act,
-        r.bb,
-        r.level,
-        r.est,
-        r.lis,
-        r.ahead,
-        r.turn,
-    ]
-}
-
-// The row that eight cells hold.
-fn row_of(c: [u16; 8]) -> Row
-    ensures { λ r. ⌜ r ≡ rowOf c ⌝ }
-{
-    Row {
-        location: c[0],
-        act: c[1],
-        bb: c[2],
-        level: c[3],
-        est: c[4],
-        lis: c[5],
-        ahead: c[6],
-        turn: c[7],
-    }
 }
 
 // The rows written over the cells, as many as there are of both. Proved by hand.

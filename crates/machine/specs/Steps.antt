@@ -2,6 +2,7 @@
 --
 --   goRow n p c v r  ==  row r of process p after GO; c is the set of those that compete, v what turn[level] holds.
 --   moved t k p a    ==  the table after kind k, process p and argument a, where they are allowed.
+--   refusalAt t k p a  ==  the first of 10 and 11 that applies to kind k, process p and argument a, or 0.
 --   wordRefusal t w  ==  the first of 8 to 11 that applies to a word, or 0.
 --   refusalOf t w    ==  the step's refusal: 6, 7, then the word's, or 0.
 --   afterWord t w    ==  the table after the step; the one given where the step refuses.
@@ -111,14 +112,18 @@ argumentFits n k r a =
     cond (eqb k FLICKER) (cond (eqb (r .location) 24) (ltb a n) (ltb a 2))
     (cond (eqb k LOOK) (has (r .lis) a) (eqb a 0))
 
+-- 0, or the first refusal of kind k with argument a where process p is
+abbrev pub refusalAt : Table → ℕ → ℕ → ℕ → ℕ
+refusalAt t k p a =
+    cond (not (allowed k (row t p))) notAllowed
+    (cond (not (argumentFits (length t) k (row t p) a)) badArgument accepted)
+
 -- 0, or the first refusal of a word; a table has at most 16 processes, so one over 15 is not below its length
 unfoldable pub wordRefusal : Table → ℕ → ℕ
 wordRefusal t w =
-    let r = row t (processOf w) in
     cond (not (formed w)) badKind
     (cond (not (ltb (processOf w) (length t))) noProcess
-    (cond (not (allowed (kindOf w) r)) notAllowed
-    (cond (not (argumentFits (length t) (kindOf w) r (argumentOf w))) badArgument accepted)))
+    (refusalAt t (kindOf w) (processOf w) (argumentOf w)))
 
 -- ---- the step
 

@@ -26,6 +26,18 @@ impl Row {
         ahead: 0,
         turn: 0,
     };
+
+    // No process: what stands past a table's end.
+    pub const BLANK: Row = Row {
+        location: 0,
+        act: 0,
+        bb: 0,
+        level: 0,
+        est: 0,
+        lis: 0,
+        ahead: 0,
+        turn: 0,
+    };
 }
 
 // The eight locations, by their codes 0 to 7 in an image.

@@ -30,7 +30,7 @@ pub(crate) fn marked(mask: u64, l: u16) -> bool
 }
 
 // Whether location l is one of the eight and level v goes with it.
-fn location_fits(l: u16, v: u16) -> bool
+pub fn location_fits(l: u16, v: u16) -> bool
     ensures { λ b. ⌜ b ≡ (oneOf l locations && levelFits l v) ⌝ }
 {
     if v == 0 {

@@ -11,7 +11,7 @@ use lib.ListN.{length}
 use borrow.Author.Tests.{eq-eqb, ne-eqb, eqb-true, leb-true, lt-ltb, le-ltb}
 use Rattle.machine.specs.Tables.{Table, row, tableRefusal}
 use Rattle.machine.specs.Words.{kindOf, processOf, argumentOf, isKind, spareClear, formed}
-use Rattle.machine.specs.Steps.{moved, wordRefusal, refusalOf, afterWord, eventOf, answerOf}
+use Rattle.machine.specs.Steps.{moved, wordRefusal, refusalOf, afterWord, eventOf, answerOf, refusalAt}
 use Rattle.machine.specs.declared.Event.{Event}
 use Rattle.machine.specs.declared.Stepped.{Stepped}
 use Rattle.machine.proofs.TestLaws.{and-left, and-right, split}
@@ -19,7 +19,7 @@ use Rattle.machine.proofs.SoundRows.{sound-row, sound-few}
 use Rattle.machine.proofs.Accepted.{refused-same}
 use Rattle.cells.specs.View.{rowsOf}
 use Rattle.cells.proofs.ViewLaws.{rows-length}
-use Rattle.steps.specs.Moves.{kindEvent, refusalAt, Ready, Takes, Steps}
+use Rattle.steps.specs.Moves.{kindEvent, Ready, Takes, Steps}
 use Rattle.steps.proofs.EventLaws.{event-told}
 
 -- ---- the refusal and the answer

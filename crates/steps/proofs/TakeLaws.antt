@@ -12,12 +12,12 @@ use Rattle.counting.proofs.SetLaws.{has-over}
 use Rattle.machine.specs.Refusals.{accepted, badArgument}
 use Rattle.machine.specs.Tables.{Table, row}
 use Rattle.machine.specs.Words.{LOOK}
-use Rattle.machine.specs.Steps.{moved, allowed, argumentFits}
+use Rattle.machine.specs.Steps.{moved, allowed, argumentFits, refusalAt}
 use Rattle.machine.specs.declared.Event.{Event}
 use Rattle.machine.specs.declared.Stepped.{Stepped}
 use Rattle.machine.proofs.TestLaws.{cond-zero}
 use Rattle.cells.specs.View.{rowsOf}
-use Rattle.steps.specs.Moves.{kindEvent, refusalAt, Ready, Moves, Takes}
+use Rattle.steps.specs.Moves.{kindEvent, Ready, Moves, Takes}
 
 -- ---- what refuses, in the code's order
 

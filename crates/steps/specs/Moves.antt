@@ -3,10 +3,11 @@
 --   lookedAt t p q    ==   the table after LOOK of process p at q.
 --   goEvent r         ==   the event of GO at a row, read before the step.
 --   kindEvent k r     ==   the event of an allowed kind at a row, read before the step.
---   refusalAt t k p a ==   the refusal of kind k with argument a at the row of process p, or 0.
 --   Ready x p         <=>  process p of the cells x can move: what a sound table gives.
---   At x p l          <=>  and it is at location l.
---   Free, Asked, Resting   and GO is allowed; and kind k is one of the five; and it is STAY or COME.
+--   At x p l          <=>  it can, and is at location l.
+--   Free x p          <=>  it can, and GO is allowed where it is.
+--   Asked x k p       <=>  it can, and kind k is at most LOOK.
+--   Resting x k p     <=>  it can, and kind k is STAY or COME.
 --   Gone, Goes, Moves <=>  the cells x have become y by GO, by GO with event e, by kind k with event e.
 --   Takes x k p a y s <=>  kind k with argument a made y of the cells x and answered s.
 --   Steps x w y s     <=>  the step of word w made y of the cells x and answered s.
@@ -14,14 +15,14 @@
 -- Assumes nothing.
 use Prim.Native.Nat.{ℕ, _^_, _≤_, _<_}
 use mathlib.Core.Path.{_≡_}
-use mathlib.Core.Bool.{true, cond, _&&_, not}
+use mathlib.Core.Bool.{true, cond, _&&_}
 use mathlib.Core.List.{List}
 use lib.Dec.{eqb}
 use lib.ListN.{length, set}
-use Rattle.machine.specs.Refusals.{accepted, notAllowed, badArgument}
+use Rattle.machine.specs.Refusals.{accepted}
 use Rattle.machine.specs.Tables.{Table, row}
 use Rattle.machine.specs.Words.{COME, GO}
-use Rattle.machine.specs.Steps.{looked, gone, moved, allowed, argumentFits, afterWord, answerOf}
+use Rattle.machine.specs.Steps.{looked, gone, moved, allowed, refusalAt, afterWord, answerOf}
 use Rattle.machine.specs.declared.Row.{Row}
 use Rattle.machine.specs.declared.Event.{Event}
 use Rattle.machine.specs.declared.Stepped.{Stepped}
@@ -38,14 +39,6 @@ goEvent r = cond (eqb (r .location) 21 && eqb (r .level) 0) Event.Arrival Event.
 
 abbrev pub kindEvent : ℕ → Row → Event
 kindEvent k r = cond (eqb k COME) Event.Come (cond (eqb k GO) (goEvent r) Event.Quiet)
-
--- ---- what refuses a kind
-
--- the part of `wordRefusal` that asks the row: 10, then 11
-abbrev pub refusalAt : Table → ℕ → ℕ → ℕ → ℕ
-refusalAt t k p a =
-    cond (not (allowed k (row t p))) notAllowed
-    (cond (not (argumentFits (length t) k (row t p) a)) badArgument accepted)
 
 -- ---- what the inner functions require
 

@@ -11,7 +11,8 @@ use machine::Stepped;
 ghost use mathlib.Core.Path.{_≡_};
 ghost use Rattle.machine.specs.Words.{FLICKER, GO, LOOK};
 ghost use Rattle.cells.specs.View.{rowsOf};
-ghost use Rattle.steps.specs.Moves.{refusalAt, Ready, Asked, Resting, Takes};
+ghost use Rattle.machine.specs.Steps.{refusalAt};
+ghost use Rattle.steps.specs.Moves.{Ready, Asked, Resting, Takes};
 
 // 0, or the refusal of a kind and an argument at the row of p: 10, then 11.
 fn refusal_at(cells: &[[u16; 8]], kind: u16, p: u16, a: u16) -> u16

@@ -12,9 +12,9 @@ use Rattle.lent.proofs.RowsAndCells.{rowTy, rowVal, rowLaws, Cells, cel
 use Rattle.lent.proofs.lesser as lesser
 use Rattle.lent.proofs.lesser.Symbol as lesser-def
 use Rattle.lent.proofs.lesser.Met as lesser-thm
-use Rattle.lent.proofs.cells_of as cells-of
-use Rattle.lent.proofs.cells_of.Symbol as cells-of-def
-use Rattle.lent.proofs.cells_of.Met as cells-of-thm
+use Rattle.cells.proofs.access.cells_of as cells-of
+use Rattle.cells.proofs.access.cells_of.Symbol as cells-of-def
+use Rattle.cells.proofs.access.cells_of.Met as cells-of-thm
 use Rattle.lent.proofs.load.Key.{name as #load}
 use Rattle.lent.proofs.load as f
 use Rattle.lent.proofs.load.Statement as stated
@@ -38,5 +38,5 @@ load-spec 𝓤 H 𝓜 𝓖 𝓡 =
           lesser-def.name lesser-def.routine code.calls-lent·lesser (lesser-thm.met 𝓤 H 𝓜 𝓖 𝓡);
       converter-met =
           cited 𝓤 H (tripleOf 𝓤 H A cells-of.signature (cells-of.spec 𝓤 H A mem run)) 𝓜 𝓡 code.env
-          cells-of-def.name cells-of-def.routine code.calls-lent·cells-of (cells-of-thm.met 𝓤 H 𝓜 𝓖 𝓡);
+          cells-of-def.name cells-of-def.routine code.calls-cells·access·cells-of (cells-of-thm.met 𝓤 H 𝓜 𝓖 𝓡);
     }))

@@ -12,9 +12,9 @@ use Rattle.lent.proofs.RowsAndCells.{rowTy, rowVal, rowLaws, Cells, cel
 use Rattle.lent.proofs.lesser as lesser
 use Rattle.lent.proofs.lesser.Symbol as lesser-def
 use Rattle.lent.proofs.lesser.Met as lesser-thm
-use Rattle.lent.proofs.row_of as row-of
-use Rattle.lent.proofs.row_of.Symbol as row-of-def
-use Rattle.lent.proofs.row_of.Met as row-of-thm
+use Rattle.cells.proofs.access.row_of as row-of
+use Rattle.cells.proofs.access.row_of.Symbol as row-of-def
+use Rattle.cells.proofs.access.row_of.Met as row-of-thm
 use Rattle.lent.proofs.store.Key.{name as #store}
 use Rattle.lent.proofs.store as f
 use Rattle.lent.proofs.store.Statement as stated
@@ -38,5 +38,5 @@ store-spec 𝓤 H 𝓜 𝓖 𝓡 =
           lesser-def.name lesser-def.routine code.calls-lent·lesser (lesser-thm.met 𝓤 H 𝓜 𝓖 𝓡);
       converter-met =
           cited 𝓤 H (tripleOf 𝓤 H A row-of.signature (row-of.spec 𝓤 H A mem run)) 𝓜 𝓡 code.env
-          row-of-def.name row-of-def.routine code.calls-lent·row-of (row-of-thm.met 𝓤 H 𝓜 𝓖 𝓡);
+          row-of-def.name row-of-def.routine code.calls-cells·access·row-of (row-of-thm.met 𝓤 H 𝓜 𝓖 𝓡);
     }))

@@ -9,23 +9,18 @@ use Rattle.text.proofs.print_bad.Reads as reads
 use Rattle.text.proofs.print_bad.Lts as lts
 use Rattle.text.proofs.lines.put_one.Reads as put-one-reads
 
--- src/lib.rt:83:21
 slice-aggregate-put-one : tie.Need-slice-aggregate-put-one
 slice-aggregate-put-one c = search needs
 
--- src/lib.rt:83:32
 cast-put-one : tie.Need-cast-put-one
 cast-put-one c = search needs
 
--- src/lib.rt:83:5
 put-one-requires : tie.Need-put-one-requires
 put-one-requires c κs = omega (arith, length-last 14, length-digits 20 1 14 (omega arith))
 
--- src/lib.rt:79:1
 same-length : tie.Need-same-length
 same-length c = search needs
 
--- src/lib.rt:79:1
 returns : tie.Need-returns
 returns c = search needs
 

@@ -1,10 +1,19 @@
-use Rattle.cells.specs.View.{cellsOf}
+-- `access::put_row` meets its contract. Assumes nothing.
+use Prim.Native.Nat.{ℕ}
+use mathlib.Core.Path.{ap, _∙_}
+use mathlib.Core.List.{List}
+use lib.ListN.{set}
+use Rattle.cells.specs.View.{cellsOf, rowsOf}
 use Rattle.cells.proofs.ViewLaws.{rows-set}
 use borrow.Author.Needs.{needs}
 use Rattle.cells.proofs.access.put_row.Statement.{statement}
 use Rattle.cells.proofs.access.put_row.Tie as tie
 use Rattle.cells.proofs.access.put_row.Reads as reads
 use Rattle.cells.proofs.access.put_row.Lts as lts
+use Rattle.cells.proofs.access.cells_of.Reads as cells-of-reads
+
+cells-of-requires : tie.Need-cells-of-requires
+cells-of-requires c κs = search needs
 
 mul-t5 : tie.Need-mul-t5
 mul-t5 c = search needs
@@ -17,8 +26,10 @@ same-length c = search needs
 
 returns : tie.Need-returns
 returns c =
-    let a = c .args in
-    record { rows-are = rows-set (a .cells .now) (a .p) (cellsOf (a .r)); size-is = search needs }
+    let a = c .before .args in
+    let put = ap (λ (v : List ℕ). rowsOf (set (a .cells .now) (a .p) v)) (c .cells-of .ensures) in
+    record { rows-are = put ∙ rows-set (a .cells .now) (a .p) (cellsOf (a .r)); size-is = search needs }
 
 pub put-row-spec : {M : Type 1} → statement M
-put-row-spec = tie.close (tie.spec mul-t5 slice-set-from-cells same-length returns)
+put-row-spec =
+    tie.close (tie.spec cells-of-requires mul-t5 slice-set-from-cells same-length returns)

@@ -1,56 +1,26 @@
-use mathlib.Core.Path.{sym}
+-- `access::row_at` meets its contract. Assumes nothing.
+use mathlib.Core.Path.{sym, _∙_}
 use Rattle.cells.proofs.ViewLaws.{rows-row}
 use borrow.Author.Needs.{needs}
 use Rattle.cells.proofs.access.row_at.Statement.{statement}
 use Rattle.cells.proofs.access.row_at.Tie as tie
 use Rattle.cells.proofs.access.row_at.Reads as reads
 use Rattle.cells.proofs.access.row_at.Lts as lts
+use Rattle.cells.proofs.access.row_of.Reads as row-of-reads
 
-mul-c : tie.Need-mul-c
-mul-c c = search needs
+mul-row-of : tie.Need-mul-row-of
+mul-row-of c = search needs
 
-shared-slice-copy-out-c : tie.Need-shared-slice-copy-out-c
-shared-slice-copy-out-c c = search needs
+shared-slice-copy-out-row-of : tie.Need-shared-slice-copy-out-row-of
+shared-slice-copy-out-row-of c = search needs
 
-array-read-t9 : tie.Need-array-read-t9
-array-read-t9 c = search needs
-
-array-read-t12 : tie.Need-array-read-t12
-array-read-t12 c = search needs
-
-array-read-t15 : tie.Need-array-read-t15
-array-read-t15 c = search needs
-
-array-read-t18 : tie.Need-array-read-t18
-array-read-t18 c = search needs
-
-array-read-t21 : tie.Need-array-read-t21
-array-read-t21 c = search needs
-
-array-read-t24 : tie.Need-array-read-t24
-array-read-t24 c = search needs
-
-array-read-t27 : tie.Need-array-read-t27
-array-read-t27 c = search needs
-
-array-read-t30 : tie.Need-array-read-t30
-array-read-t30 c = search needs
+row-of-requires : tie.Need-row-of-requires
+row-of-requires c κs = search needs
 
 returns : tie.Need-returns
-returns c = sym (rows-row (c .before .args .cells .now) (c .before .args .p))
+returns c =
+    let a = c .before .before .args in
+    c .row-of .ensures ∙ sym (rows-row (a .cells .now) (a .p))
 
 pub row-at-spec : {M : Type 1} → statement M
-row-at-spec =
-    tie.close
-    (tie.spec
-    mul-c
-    shared-slice-copy-out-c
-    array-read-t9
-    array-read-t12
-    array-read-t15
-    array-read-t18
-    array-read-t21
-    array-read-t24
-    array-read-t27
-    array-read-t30
-    returns)
+row-at-spec = tie.close (tie.spec mul-row-of shared-slice-copy-out-row-of row-of-requires returns)

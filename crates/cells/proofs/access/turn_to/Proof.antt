@@ -1,3 +1,4 @@
+-- `access::turn_to` meets its contract. Assumes nothing.
 use mathlib.Core.Path.{ap, _∙_}
 use lib.ListN.{set}
 use Rattle.machine.specs.Rows.{withTurn}

@@ -8,12 +8,12 @@ use borrow.Author.Needs.{needs}
 use Rattle.machine.specs.Rows.{idle}
 use Rattle.machine.specs.declared.Row.{Row}
 use Rattle.machine.specs.declared.NewTable.{NewTable}
-use Rattle.cells.proofs.FreshLaws.{filled, filled-suc, made-table, made-few, made-many}
+use Rattle.cells.proofs.FreshLaws.{filled, filled-suc, made-table, made-none, made-size}
 use Rattle.cells.proofs.making.fresh.Statement.{statement}
 use Rattle.cells.proofs.making.fresh.Tie as tie
 use Rattle.cells.proofs.making.fresh.Reads as reads
 use Rattle.cells.proofs.making.fresh.Lts as lts
-use Rattle.cells.proofs.making.refused.Reads as refused-reads
+use Rattle.cells.proofs.making.no_table.Reads as no-table-reads
 
 abbrev Inv-loop : tie.InvT-loop
 Inv-loop n rows₀ size q₀ rows q = (q ≤ size) × (2 ≤ n) × (n ≤ 16) × (size ≡ n) × (length rows ≡ 16) × (rows ≡ filled q)
@@ -21,22 +21,16 @@ Inv-loop n rows₀ size q₀ rows q = (q ≤ size) × (2 ≤ n) × (n ≤ 16) ×
 abbrev μ-loop : tie.MeasureT-loop
 μ-loop n rows₀ size q₀ rows q = size - q
 
-refused-requires : tie.Need-refused-requires Inv-loop μ-loop
-refused-requires c κs = search needs
+no-table-requires : tie.Need-no-table-requires Inv-loop μ-loop
+no-table-requires c κs = search needs
 
 returns : tie.Need-returns Inv-loop μ-loop
-returns c = c .refused .ensures ∙ made-few (c .before .before .args .n) (c .before .if1 .taken)
-
-refused-requires-2 : tie.Need-refused-requires-2 Inv-loop μ-loop
-refused-requires-2 c κs = search needs
-
-returns-2 : tie.Need-returns-2 Inv-loop μ-loop
-returns-2 c =
-    let n = c .before .before .before .args .n in
-    c .refused2 .ensures ∙ made-many n (omega arith) (c .before .if2 .taken)
+returns c = c .no-table .ensures ∙ made-none (c .before .before .args .n) (c .before .if1 .taken)
 
 loop-holds : tie.Need-loop-holds Inv-loop μ-loop
-loop-holds c = (search needs, search needs, search needs, refl, refl, refl)
+loop-holds c =
+    let size = made-size (c .before .args .n) (c .if1 .left) in
+    (search needs, size .0, size .1, refl, refl, refl)
 
 mul-rows : tie.Need-mul-rows Inv-loop μ-loop
 mul-rows c = search needs
@@ -57,13 +51,13 @@ loop-again c =
     let rows-are = ap (λ (l : List Row). set l q idle) (v .5) ∙ filled-suc q (omega arith) in
     (search needs, search needs, search needs, v .3, search needs, rows-are)
 
-cast-t12 : tie.Need-cast-t12 Inv-loop μ-loop
-cast-t12 c = search needs
+cast-t14 : tie.Need-cast-t14 Inv-loop μ-loop
+cast-t14 c = search needs
 
-returns-3 : tie.Need-returns-3 Inv-loop μ-loop
-returns-3 c =
+returns-2 : tie.Need-returns-2 Inv-loop μ-loop
+returns-2 c =
     let v = c .before .loop .inv in
-    let n = c .before .before .before .before .args .n in
+    let n = c .before .before .before .args .n in
     let e : c .before .loop .q ≡ n = omega arith in
     ap {B = NewTable} (λ (l : List Row). record { refusal = 0; place = 0; size = n; rows = l }) (v .5 ∙ ap filled e)
     ∙ made-table n (omega arith) (omega arith)
@@ -74,15 +68,13 @@ fresh-spec =
     (tie.spec
     Inv-loop
     μ-loop
-    refused-requires
+    no-table-requires
     returns
-    refused-requires-2
-    returns-2
     loop-holds
     mul-rows
     array-set-from-rows
     add-q
     loop-less
     loop-again
-    cast-t12
-    returns-3)
+    cast-t14
+    returns-2)

@@ -1,12 +1,12 @@
--- `making::refused` meets its contract. Assumes nothing.
+-- `making::no_table` meets its contract. Assumes nothing.
 use mathlib.Core.Path.{refl}
-use Rattle.cells.proofs.making.refused.Statement.{statement}
-use Rattle.cells.proofs.making.refused.Tie as tie
-use Rattle.cells.proofs.making.refused.Reads as reads
-use Rattle.cells.proofs.making.refused.Lts as lts
+use Rattle.cells.proofs.making.no_table.Statement.{statement}
+use Rattle.cells.proofs.making.no_table.Tie as tie
+use Rattle.cells.proofs.making.no_table.Reads as reads
+use Rattle.cells.proofs.making.no_table.Lts as lts
 
 returns : tie.Need-returns
 returns c = refl
 
-pub refused-spec : {M : Type 1} → statement M
-refused-spec = tie.close (tie.spec returns)
+pub no-table-spec : {M : Type 1} → statement M
+no-table-spec = tie.close (tie.spec returns)

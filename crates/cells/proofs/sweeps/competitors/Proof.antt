@@ -1,3 +1,4 @@
+-- `sweeps::competitors` meets its contract: the set of the rows passed, at each turn of the loop. Assumes nothing.
 use Prim.Native.Nat.{ℕ, _+_, _*_, _^_, _%_, _≤_, _<_, _-_}
 use mathlib.Core.Path.{_≡_, ap, sym, subst, _∙_}
 use mathlib.Core.Logic.{⊎-elim}

@@ -1,3 +1,4 @@
+-- `sweeps::forget` meets its contract: the rows passed have forgotten p, at each turn of the loop. Assumes nothing.
 use Prim.Native.Nat.{ℕ, _≤_, _<_, _-_}
 use mathlib.Core.Path.{_≡_, refl, ap, _∙_}
 use native.Mathlib.Omega.{arith}

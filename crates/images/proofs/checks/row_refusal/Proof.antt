@@ -8,38 +8,30 @@ use Rattle.images.proofs.checks.row_refusal.Lts as lts
 use Rattle.images.proofs.checks.set_refusal.Reads as set-refusal-reads
 use Rattle.images.proofs.checks.state_refusal.Reads as state-refusal-reads
 
--- src/checks.rt:75:9
 state-refusal-requires : tie.Need-state-refusal-requires
 state-refusal-requires c κs = search needs
 
--- src/checks.rt:77:47
 mul-t13 : tie.Need-mul-t13
 mul-t13 c = search needs
 
--- src/checks.rt:77:47
 add-t14 : tie.Need-add-t14
 add-t14 c = search needs
 
--- src/checks.rt:77:9
 returns : tie.Need-returns
 returns c =
     let x = c .before .before .args in
     state-stops (x .n) (x .q) (x .a) (x .b) (x .c) (x .d)
     (c .before .state-refusal .result) (c .before .state-refusal .ensures) (c .if1 .taken)
 
--- src/checks.rt:79:9
 set-refusal-requires : tie.Need-set-refusal-requires
 set-refusal-requires c κs = search needs
 
--- src/checks.rt:81:48
 mul-t15 : tie.Need-mul-t15
 mul-t15 c = search needs
 
--- src/checks.rt:81:48
 add-t16 : tie.Need-add-t16
 add-t16 c = search needs
 
--- src/checks.rt:81:9
 returns-2 : tie.Need-returns-2
 returns-2 c =
     let x = c .before .before .before .before .args in
@@ -48,19 +40,15 @@ returns-2 c =
     (c .before .before .if1 .left)
     (c .before .set-refusal .result) (c .before .set-refusal .ensures) (c .if2 .taken)
 
--- src/checks.rt:83:9
 set-refusal-requires-2 : tie.Need-set-refusal-requires-2
 set-refusal-requires-2 c κs = search needs
 
--- src/checks.rt:85:47
 mul-t17 : tie.Need-mul-t17
 mul-t17 c = search needs
 
--- src/checks.rt:85:47
 add-t18 : tie.Need-add-t18
 add-t18 c = search needs
 
--- src/checks.rt:85:9
 returns-3 : tie.Need-returns-3
 returns-3 c =
     let x = c .before .before .before .before .before .before .args in
@@ -72,19 +60,15 @@ returns-3 c =
     (c .before .before .if2 .left)
     (c .before .set-refusal2 .result) (c .before .set-refusal2 .ensures) (c .if3 .taken)
 
--- src/checks.rt:87:9
 set-refusal-requires-3 : tie.Need-set-refusal-requires-3
 set-refusal-requires-3 c κs = search needs
 
--- src/checks.rt:89:48
 mul-t19 : tie.Need-mul-t19
 mul-t19 c = search needs
 
--- src/checks.rt:89:48
 add-t20 : tie.Need-add-t20
 add-t20 c = search needs
 
--- src/checks.rt:89:9
 returns-4 : tie.Need-returns-4
 returns-4 c =
     let x = c .before .before .before .before .before .before .before .before .args in
@@ -98,7 +82,6 @@ returns-4 c =
     (c .before .before .if3 .left)
     (c .before .set-refusal3 .result) (c .before .set-refusal3 .ensures) (c .if4 .taken)
 
--- src/checks.rt:70:1
 returns-5 : tie.Need-returns-5
 returns-5 c =
     let x = c .before .before .before .before .before .before .before .before .args in

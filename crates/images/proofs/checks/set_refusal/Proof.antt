@@ -8,22 +8,18 @@ use Rattle.images.proofs.checks.set_refusal.Tie as tie
 use Rattle.images.proofs.checks.set_refusal.Reads as reads
 use Rattle.images.proofs.checks.set_refusal.Lts as lts
 
--- src/checks.rt:46:19
 mul-if1 : tie.Need-mul-if1
 mul-if1 c = search needs
 
--- src/checks.rt:46:19
 add-if1 : tie.Need-add-if1
 add-if1 c = search needs
 
--- src/checks.rt:47:9
 returns : tie.Need-returns
 returns c =
     let a = c .before .args in
     sym (set-slot (a .n) (a .kind) (a .q) (a .w) (a .full) (c .before .pre .1 .1) (c .before .pre .0 .is)
     (omega arith) ∙ choice-on _ _ _ (c .if1 .taken))
 
--- src/checks.rt:50:9
 returns-2 : tie.Need-returns-2
 returns-2 c =
     let a = c .before .before .args in
@@ -31,7 +27,6 @@ returns-2 c =
     (c .before .before .pre .0 .is) (omega arith) ∙ choice-off _ _ _ (c .before .if1 .left) ∙ choice-on _ _ _
     (c .if2 .taken))
 
--- src/checks.rt:40:1
 returns-3 : tie.Need-returns-3
 returns-3 c =
     let a = c .before .before .args in

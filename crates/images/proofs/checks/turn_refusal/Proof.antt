@@ -8,24 +8,20 @@ use Rattle.images.proofs.checks.turn_refusal.Tie as tie
 use Rattle.images.proofs.checks.turn_refusal.Reads as reads
 use Rattle.images.proofs.checks.turn_refusal.Lts as lts
 
--- src/checks.rt:60:22
 add-if1 : tie.Need-add-if1
 add-if1 c = search needs
 
--- src/checks.rt:61:9
 returns : tie.Need-returns
 returns c =
     let a = c .before .args in
     sym (turn-slot (a .n) (a .k) (a .w) (omega arith) ∙ choice-on _ _ _ (c .if1 .taken))
 
--- src/checks.rt:64:9
 returns-2 : tie.Need-returns-2
 returns-2 c =
     let a = c .before .before .args in
     sym (turn-slot (a .n) (a .k) (a .w) (omega arith) ∙ choice-off _ _ _ (c .before .if1 .left) ∙ choice-on _ _ _
     (c .if2 .taken))
 
--- src/checks.rt:56:1
 returns-3 : tie.Need-returns-3
 returns-3 c =
     let a = c .before .before .args in

@@ -9,7 +9,7 @@ use Rattle.images.proofs.tables.read.Reads as reads
 use Rattle.images.proofs.tables.read.Lts as lts
 use Rattle.images.proofs.decoding.read_cells.Reads as read-cells-reads
 use Rattle.images.proofs.tables.new_table.Reads as new-table-reads
-use Rattle.images.proofs.tables.no_table.Reads as no-table-reads
+use Rattle.cells.proofs.making.no_table.Reads as no-table-reads
 
 slice-aggregate-read-cells : tie.Need-slice-aggregate-read-cells
 slice-aggregate-read-cells c = search needs

@@ -6,19 +6,15 @@ use Rattle.text.proofs.fields.put_byte.Tie as tie
 use Rattle.text.proofs.fields.put_byte.Reads as reads
 use Rattle.text.proofs.fields.put_byte.Lts as lts
 
--- src/fields.rt:15:5
 slice-write-out : tie.Need-slice-write-out
 slice-write-out c = search needs
 
--- src/fields.rt:16:5
 add-result : tie.Need-add-result
 add-result c = search needs
 
--- src/fields.rt:11:1
 same-length : tie.Need-same-length
 same-length c = search needs
 
--- src/fields.rt:11:1
 returns : tie.Need-returns
 returns c = appended-one (c .args .out .now) (c .args .at) (c .args .b) (c .pre)
 
