@@ -63,6 +63,9 @@ pub const RUN_LIMIT: usize = 8192;
 // The most bytes of an input.
 pub const BYTES_LIMIT: usize = 33088;
 
+// The words that they hold.
+pub const INPUT_LIMIT: usize = 8272;
+
 // The refusals by number; specs/Refusals.antt says what each means.
 pub const NO_HEADER: u16 = 1;
 

@@ -16,9 +16,10 @@ use Rattle.machine.specs.Refusals.{accepted, tooManyWords}
 use Rattle.machine.specs.Tables.{Table, tableRefusal}
 use Rattle.machine.specs.Runs.{limit}
 use Rattle.machine.specs.Images.{imageRefusal, tableIn}
-use Rattle.machine.specs.Bytes.{bytesFit, imagePart, eventPart}
+use Rattle.machine.specs.Bytes.{imagePart, eventPart}
 use Rattle.machine.specs.Text.{postsText, stopText, imageText, numbers, runLines, printed}
 use Rattle.cells.specs.View.{rowsOf}
+use Rattle.octets.specs.Placing.{Whole}
 use Rattle.text.specs.declared.Printed.{Printed}
 
 -- ---- the parts
@@ -59,8 +60,6 @@ pub record TableReady (x : List (List ℕ)) (d : List ℕ) : Type 0 where
   pub sound : tableRefusal (rowsOf x) ≡ 0
   pub room : textRoom ≤ length d
 
--- 8,272 words are as many as 33,088 bytes hold
 pub record InputReady (bs ws d : List ℕ) : Type 0 where
-  pub fit : bytesFit bs ≡ true
-  pub words-room : length ws ≡ 8272
+  pub whole : Whole bs ws
   pub room : textRoom ≤ length d

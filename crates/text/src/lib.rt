@@ -117,6 +117,6 @@ pub fn print_run(input: &[u8], out: &mut [u8]) -> Printed
     if !octets::bytes_fit(input) {
         return Printed::Bytes(print_bad(out));
     }
-    let mut words = [0u32; 8272];
+    let mut words = [0u32; machine::INPUT_LIMIT];
     Printed::Bytes(print_input(out, input, &mut words))
 }

@@ -12,10 +12,8 @@ ghost use Rattle.cells.specs.View.{rowsOf};
 ghost use Rattle.octets.specs.Placing.{placed, Whole};
 ghost use Rattle.zaguypo.specs.Calls.{tableCall, wordsCall, CallsTo, Writable};
 
-// The words of a short input, and of the longest.
+// The most words of a short input.
 const FEW: usize = 256;
-
-const MOST: usize = 8272;
 
 // The image of the table in the cells, at the start of the lent bytes.
 fn write_image(cells: &[[u16; 8]], image: &mut [u8])
@@ -97,6 +95,6 @@ pub extern "C" fn zaguypo_run(input: &[u8], image: &mut [u8]) -> u64
         let mut words = [0u32; FEW];
         return run_bytes(input, &mut words, image);
     }
-    let mut words = [0u32; MOST];
+    let mut words = [0u32; machine::INPUT_LIMIT];
     run_bytes(input, &mut words, image)
 }

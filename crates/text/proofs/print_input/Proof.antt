@@ -4,8 +4,7 @@ use mathlib.Core.Path.{sym, ap}
 use Prim.Native.Nat.{_≤_}
 use lib.ListN.{length}
 use lib.Seq.{length-take-le}
-use Rattle.octets.specs.Placing.{Whole}
-use Rattle.octets.proofs.ByteLaws.{fits-whole, take-unpacked}
+use Rattle.octets.proofs.ByteLaws.{take-unpacked}
 use Rattle.text.specs.Printing.{wordsText}
 use Rattle.text.proofs.AppendingLaws.{appended-as}
 use borrow.Author.Needs.{needs}
@@ -16,17 +15,13 @@ use Rattle.text.proofs.print_input.Lts as lts
 use Rattle.octets.proofs.unpack.Reads as unpack-reads
 use Rattle.text.proofs.print_words.Reads as print-words-reads
 
--- the bytes are whole words, and there is room for them
-whole : (s : tie.Start) → Whole (s .args .input .now) (s .args .words .now)
-whole s = fits-whole (s .args .input .now) (s .args .words .now) (s .pre .fit) (s .pre .words-room)
-
 unpack-requires : tie.Need-unpack-requires
-unpack-requires c κs = whole (c .before .before .before .before)
+unpack-requires c κs = c .before .before .before .before .pre .whole
 
 -- as many words were unpacked as the buffer of words holds, or fewer
 within : (c : tie.After-unpack) → c .unpack .result ≤ length (c .unpack .last .1 .0)
 within c =
-    let room = whole (c .before .before .before .before .before) .room in
+    let room = c .before .before .before .before .before .pre .whole .room in
     omega (arith, c .unpack .ensures .0, c .unpack .kept .1 .0)
 
 slice-reshare-prefix-print-words : tie.Need-slice-reshare-prefix-print-words

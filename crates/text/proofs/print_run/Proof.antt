@@ -5,6 +5,7 @@ use Prim.Native.Nat.{ℕ}
 use lib.ListN.{length-replicate}
 use borrow.Author.Tests.{not-true, not-false}
 use Rattle.machine.specs.Bytes.{bytesFit}
+use Rattle.octets.proofs.ByteLaws.{fits-whole}
 use Rattle.text.proofs.PrintLaws.{short-print, whole-print, printed-bad, printed-words}
 use borrow.Author.Needs.{needs}
 use Rattle.text.proofs.print_run.Statement.{statement}
@@ -48,8 +49,7 @@ fit c = sym (c .before .bytes-fit .ensures) ∙ not-false _ (c .if2 .left)
 print-input-requires : tie.Need-print-input-requires
 print-input-requires c κs =
     record {
-      fit = fit (c .before .before);
-      words-room = length-replicate {A = ℕ} 8272 0;
+      whole = fits-whole _ _ (fit (c .before .before)) (length-replicate {A = ℕ} 8272 0);
       room = c .before .before .before .before .if1 .left;
     }
 
