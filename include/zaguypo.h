@@ -45,11 +45,16 @@ struct zaguypo_ran {
     uint32_t taken, refusal;
 };
 
+/* The answer of a step: the refusal or 0. Later versions may add fields. */
+struct zaguypo_stepped {
+    uint16_t refusal;
+};
+
 /* ---- liblent.a */
 
-/* One step by one word. Answers 0 and moves the rows; or 6 where there are not 2 to 16 rows, 7 where a row is unsound, 8 to 11
-   as above, and no row changes. */
-uint16_t zaguypo_step(struct zaguypo_row *rows, size_t size, uint32_t word);
+/* One step by one word. The refusal is 0 and the rows are moved; or it is 6 where there are not 2 to 16 rows, 7 where a row is
+   unsound, 8 to 11 as above, and no row changes. */
+struct zaguypo_stepped zaguypo_step(struct zaguypo_row *rows, size_t size, uint32_t word);
 
 /* A run: the words in order, up to the first that is refused. Refusals 6, 7 and then 12 for more than 8,192 words take no word
    and change no row. The tally, whatever it held, is that of this run: zero after 6, 7 and 12. */

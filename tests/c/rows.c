@@ -166,7 +166,7 @@ static struct zaguypo_ran model_run(struct zaguypo_row *t, size_t n, const uint3
 static unsigned step_both(struct lent *t, size_t n, uint32_t w)
 {
     struct lent u = *t;
-    unsigned answer = zaguypo_step(t->rows, n, w), expected = model_step(u.rows, n, w);
+    unsigned answer = zaguypo_step(t->rows, n, w).refusal, expected = model_step(u.rows, n, w);
     check(answer == expected, "answer of a step", n, w);
     check(same(t, &u), "rows after a step", n, w);
     return answer;
@@ -368,7 +368,7 @@ static void printed_run(void)
     struct zaguypo_tally h = {9, 9, 9};
     fill(&t, IDLE, 2);
     for (int i = 0; i < 7; i++) {
-        check(zaguypo_step(t.rows, 2, ws[i]) == 0, "taken", 2, ws[i]);
+        check(zaguypo_step(t.rows, 2, ws[i]).refusal == 0, "taken", 2, ws[i]);
         check(t.rows[0].location == after[i], "location", 2, ws[i]);
     }
     fill(&u, IDLE, 2);

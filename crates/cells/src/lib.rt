@@ -5,3 +5,4 @@ pub mod access; // one row read or written, the turn cell
 pub mod sweeps; // every row: who competes, a process that leaves every ahead set
 pub mod checks; // whether a table is sound
 pub mod making; // fresh tables
+pub mod sizes; // the lesser of two

@@ -1,12 +1,13 @@
--- Arrays filled number after number, from the first on: `upTo g n` is g 0, g 1, .. of n numbers. Assumes nothing.
-use Prim.Native.Nat.{ℕ, zero, suc, _+_, _-_, _<_}
-use mathlib.Core.Path.{_≡_, refl, ap, ap₂, sym, subst, _∙_}
-use mathlib.Core.List.{List, [], _∷_, _++_, append-assoc, append-nil}
+-- `upTo g n`, the list of g 0, g 1, .. of n numbers, and arrays that are filled with it. Assumes nothing.
+use Prim.Native.Nat.{ℕ, zero, suc, _+_, _≤_, _<_}
+use mathlib.Core.Path.{_≡_, refl, ap, ap₂, sym, _∙_}
+use mathlib.Core.List.{List, [], _∷_, _++_}
 use native.Mathlib.Decide.{ℕ-discrete}
 use native.Mathlib.Omega.{arith}
 use native.Mathlib.Numerals.{add-one}
-use lib.ListN.{length, getD, set, replicate, length-append, List·getD-append}
-use lib.Seq.{set-append-seam, getD-at}
+use lib.ListN.{length, getD, set, replicate, length-append, length-replicate, List·getD-append}
+use lib.Seq.{getD-at}
+use Rattle.counting.proofs.PlacingLaws.{begun, begun-start, begun-next, begun-end, placed-whole}
 use Rattle.machine.specs.Census.{upTo}
 
 pub upTo-cong : (f g : ℕ → ℕ) (n : ℕ) → ((i : ℕ) → i < n → f i ≡ g i) → upTo f n ≡ upTo g n
@@ -31,31 +32,26 @@ module _ (g : ℕ → ℕ) where
       go (no ne) before =
           List·getD-append (upTo g n) (g n ∷ []) 0 i (omega (arith, ne, upTo-length n)) ∙ before (omega (arith, ne))
 
-  -- ---- an array of m numbers: the first k are those of g, the others 0
+-- ---- an array of m numbers that is filled with those of g
 
-  abbrev pub Filled : ℕ → ℕ → List ℕ → Type 0
-  Filled m k a = a ≡ upTo g k ++ replicate (m - k) 0
+module _ (g : ℕ → ℕ) (m : ℕ) where
+  -- the first i are those of g, the others 0
+  abbrev pub filled : ℕ → List ℕ
+  filled i = begun (replicate m 0) 0 (upTo g m) i
 
-  pub filled-zero : (m : ℕ) → Filled m 0 (replicate m 0)
-  unfolding upTo
-  filled-zero m =
-      let e : m ≡ m - 0 = omega arith in
-      ap (λ (k : ℕ). replicate k 0) e
+  pub filled-start : replicate m 0 ≡ filled 0
+  filled-start = begun-start (replicate m 0) 0 (upTo g m)
 
-  -- the next number written
-  fill : (k m : ℕ) → set (upTo g k ++ replicate (suc m) 0) k (g k) ≡ upTo g (suc k) ++ replicate m 0
-  unfolding upTo
-  fill k m =
-      subst (λ (i : ℕ). set (upTo g k ++ 0 ∷ replicate m 0) i (g k) ≡ upTo g k ++ g k ∷ replicate m 0) (upTo-length k)
-      (set-append-seam (upTo g k) 0 (replicate m 0) (g k))
-      ∙ sym (append-assoc (upTo g k) (g k ∷ []) (replicate m 0))
+  pub filled-next : (i v : ℕ) (a : List ℕ) → i < m → v ≡ g i → a ≡ filled i → set a i v ≡ filled (i + 1)
+  filled-next i v a l e is =
+      let long = length-replicate {A = ℕ} m 0 in
+      let count = upTo-length g m in
+      ap (λ (b : List ℕ). set b i v) is
+      ∙ begun-next (replicate m 0) 0 (upTo g m) (omega arith) i (i + 1) i v 0 (omega arith) refl (omega arith)
+      (e ∙ sym (upTo-at g m i l))
 
-  pub filled-next : (m k : ℕ) (a : List ℕ) (v : ℕ) → k < m → v ≡ g k → Filled m k a → Filled m (k + 1) (set a k v)
-  filled-next m k a v l e h =
-      let r : m - k ≡ suc (m - (k + 1)) = omega arith in
-      rw (h, e, r, fill k (m - (k + 1)), add-one k) refl
-
-  pub filled-all : (m k : ℕ) (a : List ℕ) → k ≡ m → Filled m k a → a ≡ upTo g m
-  filled-all m k a e h =
-      let r : m - k ≡ 0 = omega arith in
-      rw (h, r, append-nil (upTo g k), e) refl
+  pub filled-end : (i : ℕ) → m ≤ i → filled i ≡ upTo g m
+  filled-end i h =
+      let count = upTo-length g m in
+      begun-end (replicate m 0) 0 (upTo g m) i (omega arith)
+      ∙ placed-whole (replicate m 0) (upTo g m) (count ∙ sym (length-replicate {A = ℕ} m 0))

@@ -18,7 +18,7 @@ use Rattle.machine.specs.Tables.{competes}
 use Rattle.machine.specs.Census.{isBelow, isHeld}
 use Rattle.machine.specs.declared.Row.{Row}
 use Rattle.census.specs.Series.{belowFrom, heldFrom}
-use Rattle.census.proofs.TestLaws.{cond-le}
+use Rattle.counting.proofs.TestLaws.{cond-le}
 
 -- 16 is reached by no i below 16
 reached : (b : Bool) (v i : ℕ) → i < 16 → leb (cond b v 16) i ≡ (b && ltb v (suc i))

@@ -1,4 +1,5 @@
--- The figures of all k counted in one pass over the rows. A series is 16 counts, of which count i is figure i + 1: how
+-- What the functions inside this crate promise: the figures of all k counted in one pass over the rows (the census
+-- itself promises `censusOf` of machine/specs/Census). A series is 16 counts, of which count i is figure i + 1: how
 -- many processes have a threshold of i or less.
 --
 --   isAt low high r   <=>  a row is at the locations from `low` to `high`.

@@ -13,7 +13,7 @@
 use Prim.Native.Nat.{ℕ, zero, suc, _+_, _≤_, _<_}
 use mathlib.Core.Path.{_≡_, refl, sym, ap, _∙_, subst}
 use mathlib.Core.Logic.{_⊎_, inl, inr}
-use mathlib.Core.Bool.{Bool, true, false}
+use mathlib.Core.Bool.{Bool, true, false, false≢true}
 use native.Mathlib.Nat.{le-refl, mul-one}
 use native.Mathlib.Numerals.{add-one}
 use native.Mathlib.Decide.{ℕ-discrete, decLt}
@@ -127,11 +127,8 @@ count-strict P Q n p h l hp hq =
 pub count-pos : (P : ℕ → Bool) (n p : ℕ) → p < n → P p ≡ true → 1 ≤ count P n
 count-pos P n p l h =
     let none = count-none (λ q. false) n (λ q k. refl) in
-    let more = count-strict (λ q. false) P n p (λ q k e. absurd (not-true e)) l refl h in
+    let more = count-strict (λ q. false) P n p (λ q k e. absurd (false≢true e)) l refl h in
     omega arith
-  where
-    not-true : false ≡ true → ⊥
-    not-true e = let z = ap bit e in omega arith
 
 -- ---- a number that has P, found
 

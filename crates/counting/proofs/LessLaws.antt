@@ -8,7 +8,7 @@
 -- Assumes nothing.
 use Prim.Native.Nat.{ℕ, _+_, _<_}
 use mathlib.Core.Path.{_≡_, refl, sym, ap, _∙_}
-use mathlib.Core.Bool.{Bool, true, false, _&&_, not}
+use mathlib.Core.Bool.{Bool, true, false, _&&_, not, and-true, and-false, and-eq-true-iff}
 use native.Mathlib.Omega.{arith}
 use lib.Dec.{eqb}
 use borrow.Author.Tests.{eq-eqb, ne-eqb}
@@ -22,24 +22,12 @@ less P p q = P q && not (eqb q p)
 module _ (P : ℕ → Bool) (p : ℕ) where
   pub less-same : less P p p ≡ false
   less-same = ap (λ (b : Bool). P p && not b) (eq-eqb p p refl) ∙ and-false (P p)
-    where
-      and-false : (b : Bool) → (b && false) ≡ false
-      and-false true = refl
-      and-false false = refl
 
   pub less-other : (q : ℕ) → (q ≡ p → ⊥) → less P p q ≡ P q
   less-other q ne = ap (λ (b : Bool). P q && not b) (ne-eqb q p ne) ∙ and-true (P q)
-    where
-      and-true : (b : Bool) → (b && true) ≡ b
-      and-true true = refl
-      and-true false = refl
 
   pub less-implies : (q : ℕ) → less P p q ≡ true → P q ≡ true
-  less-implies q h = left (P q) (not (eqb q p)) h
-    where
-      left : (a b : Bool) → (a && b) ≡ true → a ≡ true
-      left true b e = refl
-      left false b e = e
+  less-implies q h = and-eq-true-iff (P q) (not (eqb q p)) .0 h .0
 
   -- a count is that of the others, and what p counts
   pub count-less : (n : ℕ) → p < n → count P n ≡ count (less P p) n + bit (P p)

@@ -14,7 +14,7 @@
 -- Assumes nothing.
 use Prim.Native.Nat.{ℕ, zero, suc, _+_, _-_, _*_, _/_, _%_, _^_, _≤_, _<_}
 use mathlib.Core.Path.{_≡_, refl, sym, ap, _∙_, subst}
-use mathlib.Core.Bool.{Bool, true, false, _&&_, not}
+use mathlib.Core.Bool.{Bool, true, false, _&&_, not, false≢true}
 use native.Mathlib.Nat.{div-eq-of-lt, lt-of-lt-of-le, mod-eq-of-lt, mod-one, add-comm, pow-suc}
 use native.Mathlib.Numerals.{one-add}
 use native.Mathlib.Decide.{ℕ-discrete, decLt}
@@ -171,14 +171,11 @@ pub without-injective : (s a b : ℕ)
     → a ≡ b
 without-injective s a b l ha hb e = go (decLt a 16) (ℕ-discrete a b)
   where
-    never : false ≡ true → ⊥
-    never i = let z = ap bit i in omega arith
-
     go : Dec (a < 16) → Dec (a ≡ b) → a ≡ b
     go k (yes i) = i
-    go (no nk) (no ne) = absurd (never (sym (has-over s 16 a l (omega (arith, nk))) ∙ ha))
+    go (no nk) (no ne) = absurd (false≢true (sym (has-over s 16 a l (omega (arith, nk))) ∙ ha))
     go (yes k) (no ne) =
-        absurd (never (sym (without-same s a) ∙ ap (λ (x : ℕ). has x a) e ∙ without-other s b a k ne ∙ ha))
+        absurd (false≢true (sym (without-same s a) ∙ ap (λ (x : ℕ). has x a) e ∙ without-other s b a k ne ∙ ha))
 
 module _ (n p : ℕ) where
   pub has-others : (q : ℕ) → q < n → has (others n p) q ≡ not (eqb q p)

@@ -1,3 +1,4 @@
--- What a sum, a count and a set of process numbers are.
+-- What a sum, a count, a set of process numbers and a list put into another are.
 pub mod Sums
 pub mod Sets
+pub mod Placing

@@ -22,9 +22,11 @@ use Rattle.machine.specs.declared.Row.{Row}
 use Rattle.machine.proofs.SoundRows.{sound-row, sound-few}
 use Rattle.exclusion.proofs.Frame.{Becomes, other-rows-keep, TurnsKept, TurnsKeptBut, competes-at}
 use Rattle.exclusion.proofs.Reaching.{Held, Reaches, Stops, reaches-competes, reaches-held}
-use Rattle.exclusion.proofs.Bounded.{Bounded, Stopper, countRows-mono, bounded-few, bounded-stop, bounded-leave, stopper-kept, stopper-own, bounded-row}
+use Rattle.exclusion.proofs.Bounded.{Bounded, Stopper, countRows-mono, bounded-few, bounded-stop, bounded-leave}
+use Rattle.exclusion.proofs.Bounded.{stopper-kept, stopper-own, bounded-row}
 use Rattle.exclusion.proofs.Effects.{Stays, Alone, Effect, enteredRow, loweredRow, pushedRow, forgotten}
-use Rattle.exclusion.proofs.Effects.Effect.{idled, stayed, entered, lowered, went-to-push, passed, flickered, pushed, exited}
+use Rattle.exclusion.proofs.Effects.Effect.{idled, stayed, entered, lowered, went-to-push, passed, flickered}
+use Rattle.exclusion.proofs.Effects.Effect.{pushed, exited}
 use Rattle.exclusion.proofs.Invariant.{Invariant}
 
 module _ (t u : Table) (p : ℕ) (l : p < length t) (i : Invariant t) (k : ℕ) where

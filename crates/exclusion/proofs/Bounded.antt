@@ -20,7 +20,9 @@ use Rattle.machine.specs.Tables.{Table, row, competes}
 use Rattle.machine.specs.Census.{countRows, isHeld, held}
 use Rattle.machine.specs.declared.Row.{Row}
 use Rattle.exclusion.proofs.Frame.{Becomes, other-rows-keep, competes-within}
-use Rattle.exclusion.proofs.Reaching.{Held, Reaches, Stops, isReaching, held-of-isHeld, isHeld-of-held, reaches-of-isReaching, isReaching-of-reaches, reaches-competes, stops-reaches, stops-not-held}
+use Rattle.exclusion.proofs.Reaching.{Held, Reaches, Stops, isReaching, held-of-isHeld, isHeld-of-held}
+use Rattle.exclusion.proofs.Reaching.{reaches-of-isReaching, isReaching-of-reaches, reaches-competes}
+use Rattle.exclusion.proofs.Reaching.{stops-reaches, stops-not-held}
 
 abbrev pub reaching : ℕ → Table → ℕ
 reaching k t = countRows (isReaching k) t

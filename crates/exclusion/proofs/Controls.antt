@@ -16,7 +16,8 @@ use Rattle.counting.specs.Sets.{has, size, without, others}
 use Rattle.machine.specs.Rows.{idle, withLocation}
 use Rattle.machine.specs.Tables.{Table, sound, freshTable, competitors}
 use Rattle.machine.specs.Words.{COME, FLICKER, GO, LOOK, wordOf}
-use Rattle.machine.specs.Steps.{entered, passed, looked, reconsidered, goRow, flickered, forgets, gone, allowed, argumentFits, afterWords}
+use Rattle.machine.specs.Steps.{entered, passed, looked, reconsidered, goRow, flickered, forgets, gone, allowed}
+use Rattle.machine.specs.Steps.{argumentFits, afterWords}
 use Rattle.machine.specs.Census.{countRows, held, critical}
 
 -- process p of two goes from 10 to 30 while the other shows act 0

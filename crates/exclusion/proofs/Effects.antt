@@ -9,7 +9,7 @@
 -- Assumes nothing.
 use Prim.Native.Nat.{ℕ, _-_, _≤_, _<_}
 use mathlib.Core.Path.{_≡_, refl, ap, _∙_}
-use mathlib.Core.Bool.{true, false, _&&_}
+use mathlib.Core.Bool.{true, false, _&&_, and-eq-true-iff}
 use native.Mathlib.Omega.{arith}
 use lib.Dec.{leb}
 use lib.ListN.{length, set}
@@ -19,10 +19,12 @@ use Rattle.counting.proofs.SetLaws.{has-zero, without-none, without-other}
 use Rattle.machine.specs.Rows.{blank, withLocation, withAct, withBb, withLevel, withEst, withLis, withAhead}
 use Rattle.machine.specs.Tables.{Table, row, competes}
 use Rattle.machine.specs.System.{Cp, Step}
-use Rattle.machine.specs.System.Step.{rests, comes, flickers-20, enters, starts-pass, wins, discards, keeps, ends-pass, lowers, to-push, waits, skips, flickers-24, pushes, exits, flickers-40, leaves}
+use Rattle.machine.specs.System.Step.{rests, comes, flickers-20, enters, starts-pass, wins, discards, keeps, ends-pass}
+use Rattle.machine.specs.System.Step.{lowers, to-push, waits, skips, flickers-24, pushes, exits, flickers-40, leaves}
 use Rattle.machine.specs.declared.Row.{Row}
-use Rattle.machine.proofs.TestLaws.{and-intro}
-use Rattle.exclusion.proofs.Frame.{bare, Becomes, TurnsKept, TurnsKeptBut, set-becomes, set-keeps-turns, turn-becomes, other-turns-keep, turn-set-becomes, turn-set-is, turn-set-others, map-becomes, competes-at}
+use Rattle.exclusion.proofs.Frame.{bare, Becomes, TurnsKept, TurnsKeptBut, set-becomes, set-keeps-turns}
+use Rattle.exclusion.proofs.Frame.{turn-becomes, other-turns-keep, turn-set-becomes, turn-set-is}
+use Rattle.exclusion.proofs.Frame.{turn-set-others, map-becomes, competes-at}
 
 pub record Idles (r s : Row) : Type 0 where
   pub idle-before : competes r ≡ false
@@ -95,7 +97,7 @@ abbrev Inside : ℕ → Type 0
 Inside v = (21 ≤ v) × (v ≤ 23)
 
 inside-competes : (v : ℕ) → Inside v → (leb 21 v && leb v 30) ≡ true
-inside-competes v (a, b) = and-intro (leb 21 v) (leb v 30) (le-leb 21 v a) (le-leb v 30 (omega arith))
+inside-competes v (a, b) = and-eq-true-iff (leb 21 v) (leb v 30) .1 (le-leb 21 v a, le-leb v 30 (omega arith))
 
 module _ (t : Table) (p : ℕ) (l : p < length t) where
   -- from location v, at which p does not compete, to row s, at which it does not either

@@ -22,7 +22,8 @@ use Rattle.exclusion.proofs.Reaching.{isHeld-of-held}
 use Rattle.exclusion.proofs.Bounded.{countRows-mono, bounded-held}
 use Rattle.exclusion.proofs.Effects.{effect-of}
 use Rattle.exclusion.proofs.Invariant.{Invariant}
-use Rattle.exclusion.proofs.RowClauses.{effect-keeps-bb-inside, effect-keeps-ahead-in-est, effect-keeps-act-shown, effect-keeps-ahead-competes}
+use Rattle.exclusion.proofs.RowClauses.{effect-keeps-bb-inside, effect-keeps-ahead-in-est}
+use Rattle.exclusion.proofs.RowClauses.{effect-keeps-act-shown, effect-keeps-ahead-competes}
 use Rattle.exclusion.proofs.BoundClause.{effect-keeps-bounded}
 use Rattle.exclusion.proofs.Fresh.{fresh-invariant}
 

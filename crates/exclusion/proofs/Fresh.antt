@@ -8,7 +8,7 @@
 -- Assumes nothing.
 use Prim.Native.Nat.{ℕ, zero, suc, _≤_}
 use mathlib.Core.Path.{_≡_, refl, sym, _∙_, subst}
-use mathlib.Core.Bool.{Bool, true, false, _&&_, false≢true}
+use mathlib.Core.Bool.{Bool, true, false, _&&_, false≢true, and-eq-true-iff}
 use mathlib.Core.Logic.{inl}
 use mathlib.Core.List.{[], _∷_}
 use native.Mathlib.Omega.{arith}
@@ -22,7 +22,6 @@ use Rattle.counting.proofs.CountLaws.{count-none}
 use Rattle.machine.specs.Rows.{idle, blank}
 use Rattle.machine.specs.Tables.{Table, row, sound, resting, allResting, fresh, freshTable, competes}
 use Rattle.machine.specs.declared.Row.{Row}
-use Rattle.machine.proofs.TestLaws.{and-left, and-right, and-intro}
 use Rattle.machine.proofs.SoundRows.{SoundRow, sound-accepted, accepted-sound, rows-sound}
 use Rattle.exclusion.proofs.Frame.{competes-at}
 use Rattle.exclusion.proofs.Reaching.{isReaching, reaches-of-isReaching, reaches-competes}
@@ -40,27 +39,27 @@ rests-of-test r h =
     let b : Bool = eqb (r .act) 0 in
     let c : Bool = eqb (r .bb) 0 in
     let d : Bool = eqb (r .ahead) 0 in
-    let abc = and-left (a && b && c) d h in
+    let abc = and-eq-true-iff (a && b && c) d .0 h .0 in
     record {
-      idle-now = competes-at r 10 (eqb-true _ _ (and-left a b (and-left (a && b) c abc)));
-      no-bb = eqb-true _ _ (and-right (a && b) c abc);
-      none-ahead = eqb-true _ _ (and-right (a && b && c) d h);
+      idle-now = competes-at r 10 (eqb-true _ _ (and-eq-true-iff a b .0 (and-eq-true-iff (a && b) c .0 abc .0) .0));
+      no-bb = eqb-true _ _ (and-eq-true-iff (a && b) c .0 abc .1);
+      none-ahead = eqb-true _ _ (and-eq-true-iff (a && b && c) d .0 h .1);
     }
 
 all-rest : (t : Table) → allResting t ≡ true → (q : ℕ) → Resting (row t q)
 unfolding allResting
 all-rest [] h q = record { idle-now = refl; no-bb = refl; none-ahead = refl }
-all-rest (r ∷ t) h zero = rests-of-test r (and-left (resting r) (allResting t) h)
-all-rest (r ∷ t) h (suc q) = all-rest t (and-right (resting r) (allResting t) h) q
+all-rest (r ∷ t) h zero = rests-of-test r (and-eq-true-iff (resting r) (allResting t) .0 h .0)
+all-rest (r ∷ t) h (suc q) = all-rest t (and-eq-true-iff (resting r) (allResting t) .0 h .1) q
 
 module _ (t : Table) (h : fresh t ≡ true) where
   fresh-rests : (q : ℕ) → Resting (row t q)
   unfolding fresh
-  fresh-rests = all-rest t (and-right (sound t) (allResting t) h)
+  fresh-rests = all-rest t (and-eq-true-iff (sound t) (allResting t) .0 h .1)
 
   pub fresh-sound : sound t ≡ true
   unfolding fresh
-  fresh-sound = and-left (sound t) (allResting t) h
+  fresh-sound = and-eq-true-iff (sound t) (allResting t) .0 h .0
 
   nobody-competes : (q : ℕ) → competes (row t q) ≡ true → ⊥
   nobody-competes q c = false≢true (sym (fresh-rests q .idle-now) ∙ c)
@@ -114,10 +113,11 @@ pub freshTable-fresh : (n : ℕ) → 2 ≤ n → n ≤ 16 → fresh (freshTable 
 unfolding fresh
 freshTable-fresh n a b =
     let e : length (freshTable n) ≡ n = length-replicate n idle in
-    and-intro (sound (freshTable n)) (allResting (freshTable n))
-    (accepted-sound (freshTable n)
-    (rows-sound (freshTable n) (omega arith) (omega arith)
-    (λ q l.
-    subst (λ (m : ℕ). SoundRow m q (row (freshTable n) q)) (sym e)
-    (subst (SoundRow n q) (sym (getD-replicate n q idle blank (omega arith))) (made-row n q a)))))
-    (made-rests n)
+    and-eq-true-iff (sound (freshTable n)) (allResting (freshTable n)) .1 (
+      accepted-sound (freshTable n)
+          (rows-sound (freshTable n) (omega arith) (omega arith)
+          (λ q l.
+          subst (λ (m : ℕ). SoundRow m q (row (freshTable n) q)) (sym e)
+          (subst (SoundRow n q) (sym (getD-replicate n q idle blank (omega arith))) (made-row n q a)))),
+      made-rests n,
+    )

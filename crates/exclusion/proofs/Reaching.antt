@@ -8,8 +8,8 @@
 -- Assumes nothing.
 use Prim.Native.Nat.{ℕ, _+_, _≤_, _<_}
 use mathlib.Core.Path.{_≡_, ap}
-use mathlib.Core.Bool.{Bool, true, _&&_, _||_, not}
-use mathlib.Core.Logic.{_⊎_, inl, inr}
+use mathlib.Core.Bool.{Bool, true, _&&_, _||_, not, and-eq-true-iff, or-eq-true-iff}
+use mathlib.Core.Logic.{_⊎_, inl, inr, Or·inl, Or·inr}
 use native.Mathlib.Omega.{arith}
 use lib.Dec.{eqb, ltb}
 use borrow.Author.Tests.{eqb-true, eqb-false, ltb-true, eq-eqb, ne-eqb, lt-ltb, not-true}
@@ -17,7 +17,7 @@ use Rattle.counting.specs.Sets.{size}
 use Rattle.machine.specs.Tables.{competes}
 use Rattle.machine.specs.Census.{isHeld}
 use Rattle.machine.specs.declared.Row.{Row}
-use Rattle.machine.proofs.TestLaws.{and-intro, and-left, and-right, or-cases, or-left, or-right}
+use Rattle.counting.proofs.TestLaws.{or-cases}
 
 -- not at 24, with fewer than k ahead
 abbrev pub Few : ℕ → Row → Type 0
@@ -79,28 +79,29 @@ module _ (k : ℕ) (r : Row) where
   held-cases : (ltb (r .level) k ≡ true) ⊎ (isFew ≡ true) → (r .level < k) ⊎ Few k r
   held-cases (inl e) = inl (ltb-true _ _ e)
   held-cases (inr e) =
-      let away = and-left (not (eqb (r .location) 24)) (ltb (size (r .ahead)) k) e in
-      inr (differs _ _ away, ltb-true _ _ (and-right (not (eqb (r .location) 24)) (ltb (size (r .ahead)) k) e))
+      let both = and-eq-true-iff (not (eqb (r .location) 24)) (ltb (size (r .ahead)) k) .0 e in
+      inr (differs _ _ (both .0), ltb-true _ _ (both .1))
 
   pub held-of-isHeld : isHeld k r ≡ true → Held k r
   held-of-isHeld h =
-      let why = and-right (competes r) (ltb (r .level) k || isFew) h in
-      (and-left (competes r) (ltb (r .level) k || isFew) h, held-cases (or-cases (ltb (r .level) k) isFew why))
+      let both = and-eq-true-iff (competes r) (ltb (r .level) k || isFew) .0 h in
+      (both .0, held-cases (or-cases (ltb (r .level) k) isFew (both .1)))
 
   isFew-of-few : Few k r → isFew ≡ true
-  isFew-of-few (n, h) = and-intro _ _ (ap not (ne-eqb _ _ n)) (lt-ltb _ _ h)
+  isFew-of-few (n, h) = and-eq-true-iff _ _ .1 (ap not (ne-eqb _ _ n), lt-ltb _ _ h)
 
   pub isHeld-of-held : Held k r → isHeld k r ≡ true
-  isHeld-of-held (c, inl h) = and-intro _ _ c (or-left _ isFew (lt-ltb _ _ h))
-  isHeld-of-held (c, inr h) = and-intro _ _ c (or-right (ltb (r .level) k) _ (isFew-of-few h))
+  isHeld-of-held (c, inl h) = and-eq-true-iff _ _ .1 (c, or-eq-true-iff _ isFew .1 (Or·inl (lt-ltb _ _ h)))
+  isHeld-of-held (c, inr h) =
+      and-eq-true-iff _ _ .1 (c, or-eq-true-iff (ltb (r .level) k) _ .1 (Or·inr (isFew-of-few h)))
 
   pushing-cases : (eqb (r .location) 24 ≡ true) ⊎ (not (eqb (r .bb) 0) ≡ true) → Pushing r
   pushing-cases (inl e) = inl (eqb-true _ _ e)
   pushing-cases (inr e) = inr (differs _ _ e)
 
   isPushing-of-pushing : Pushing r → isPushing ≡ true
-  isPushing-of-pushing (inl i) = or-left _ (not (eqb (r .bb) 0)) (eq-eqb _ _ i)
-  isPushing-of-pushing (inr n) = or-right (eqb (r .location) 24) _ (ap not (ne-eqb _ _ n))
+  isPushing-of-pushing (inl i) = or-eq-true-iff _ (not (eqb (r .bb) 0)) .1 (Or·inl (eq-eqb _ _ i))
+  isPushing-of-pushing (inr n) = or-eq-true-iff (eqb (r .location) 24) _ .1 (Or·inr (ap not (ne-eqb _ _ n)))
 
   pub reaches-of-isReaching : isReaching ≡ true → Reaches k r
   reaches-of-isReaching h = go (or-cases (isHeld k r) (competes r && (eqb (r .level) k && isPushing)) h)
@@ -108,13 +109,14 @@ module _ (k : ℕ) (r : Row) where
       go : (isHeld k r ≡ true) ⊎ ((competes r && (eqb (r .level) k && isPushing)) ≡ true) → Reaches k r
       go (inl e) = inl (held-of-isHeld e)
       go (inr e) =
-          let there = and-right (competes r) (eqb (r .level) k && isPushing) e in
-          let level = eqb-true _ _ (and-left (eqb (r .level) k) isPushing there) in
-          let why = and-right (eqb (r .level) k) isPushing there in
-          let pushing = pushing-cases (or-cases (eqb (r .location) 24) (not (eqb (r .bb) 0)) why) in
-          inr (and-left (competes r) (eqb (r .level) k && isPushing) e, level, pushing)
+          let both = and-eq-true-iff (competes r) (eqb (r .level) k && isPushing) .0 e in
+          let there = and-eq-true-iff (eqb (r .level) k) isPushing .0 (both .1) in
+          let pushing = pushing-cases (or-cases (eqb (r .location) 24) (not (eqb (r .bb) 0)) (there .1)) in
+          inr (both .0, eqb-true _ _ (there .0), pushing)
 
   pub isReaching-of-reaches : Reaches k r → isReaching ≡ true
-  isReaching-of-reaches (inl h) = or-left _ (competes r && (eqb (r .level) k && isPushing)) (isHeld-of-held h)
+  isReaching-of-reaches (inl h) =
+      or-eq-true-iff _ (competes r && (eqb (r .level) k && isPushing)) .1 (Or·inl (isHeld-of-held h))
   isReaching-of-reaches (inr (c, e, h)) =
-      or-right (isHeld k r) _ (and-intro _ _ c (and-intro _ _ (eq-eqb _ _ e) (isPushing-of-pushing h)))
+      let there = and-eq-true-iff _ _ .1 (eq-eqb _ _ e, isPushing-of-pushing h) in
+      or-eq-true-iff (isHeld k r) _ .1 (Or·inr (and-eq-true-iff _ _ .1 (c, there)))

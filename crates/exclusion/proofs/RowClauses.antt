@@ -15,8 +15,10 @@ use Rattle.machine.specs.declared.Row.{Row}
 use Rattle.machine.proofs.SoundRows.{sound-row, sound-few}
 use Rattle.exclusion.proofs.Frame.{other-rows-keep, competes-at, competes-within}
 use Rattle.exclusion.proofs.Effects.{Alone, Effect}
-use Rattle.exclusion.proofs.Effects.Effect.{idled, stayed, entered, lowered, went-to-push, passed, flickered, pushed, exited}
-use Rattle.exclusion.proofs.Invariant.{BbInside, AheadInEst, ActShown, Invariant, competitor-competes, without-member}
+use Rattle.exclusion.proofs.Effects.Effect.{idled, stayed, entered, lowered, went-to-push, passed, flickered}
+use Rattle.exclusion.proofs.Effects.Effect.{pushed, exited}
+use Rattle.exclusion.proofs.Invariant.{BbInside, AheadInEst, ActShown, Invariant, competitor-competes}
+use Rattle.exclusion.proofs.Invariant.{without-member}
 
 module _ (t u : Table) (p : ℕ) (l : p < length t) (i : Invariant t) where
   -- who competes is not p, where p does not

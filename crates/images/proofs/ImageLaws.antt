@@ -6,35 +6,38 @@
 --   image-rows, image-turns     all words: the rows decide where they refuse, else the turn cells
 --
 -- Assumes nothing.
-use Prim.Native.Nat.{ℕ, _+_, _-_, _*_, _≤_}
+use Prim.Native.Nat.{ℕ, _-_, _≤_}
 use mathlib.Core.Path.{_≡_, refl, sym, ap, _∙_, subst}
-use mathlib.Core.Bool.{Bool, true, false, cond}
+use mathlib.Core.Bool.{Bool, true, false, cond, and-eq-true-iff}
 use mathlib.Core.List.{List}
 use native.Mathlib.Omega.{arith}
 use lib.Dec.{eqb, leb}
-use lib.ListN.{length, getD, take, drop, length-drop, List·getD-eq-default}
-use lib.Seq.{drop-drop}
+use lib.ListN.{length, getD, take, drop, List·getD-eq-default}
 use borrow.Author.Tests.{leb-true, eq-eqb, ne-eqb}
 use Rattle.machine.specs.Images.{
+  imageLength,
+  turnPlace,
   headerOf,
   sizeIn,
   isHeader,
   rowSlots,
   turnSlots,
   slots,
-  Found,
   firstRefusal,
   rowsIn,
   tableIn,
   imageRefusal,
 }
-use Rattle.machine.proofs.TestLaws.{and-left, and-right, split}
-use Rattle.codec.proofs.Slots.{length-rowSlots}
-use Rattle.codec.proofs.Reading.{first-some, first-none}
+use Rattle.machine.specs.declared.Found.{Found}
+use Rattle.counting.proofs.TestLaws.{split}
+use Rattle.image_theorems.proofs.Slots.{length-rowSlots}
+use Rattle.image_theorems.proofs.Reading.{first-some}
 use Rattle.cells.specs.View.{rowsOf}
-use Rattle.codec.proofs.RoundTrip.{length-tableIn}
+use Rattle.image_theorems.proofs.RoundTrip.{length-tableIn}
 use Rattle.images.specs.Answers.{readingOf, ReadInto}
-use Rattle.images.specs.declared.Reading.{Reading}
+use Rattle.images.proofs.ReadingLaws.{reading-by}
+use Rattle.images.proofs.WalkLaws.{part-on}
+use Rattle.machine.specs.declared.Reading.{Reading}
 
 -- ---- the header
 
@@ -46,8 +49,8 @@ pub record Header (w n : ℕ) : Type 0 where
 
 header-true : (w : ℕ) → isHeader w ≡ true → Header w (sizeIn w)
 header-true w h =
-    let low : headerOf 2 ≤ w = leb-true _ _ (and-left (leb (headerOf 2) w) (leb w (headerOf 16)) h) in
-    let high : w ≤ headerOf 16 = leb-true _ _ (and-right (leb (headerOf 2) w) (leb w (headerOf 16)) h) in
+    let low : headerOf 2 ≤ w = leb-true _ _ (and-eq-true-iff (leb (headerOf 2) w) (leb w (headerOf 16)) .0 h .0) in
+    let high : w ≤ headerOf 16 = leb-true _ _ (and-eq-true-iff (leb (headerOf 2) w) (leb w (headerOf 16)) .0 h .1) in
     record { is-header = h; size-is = refl; some = omega arith; few = omega arith }
 
 module _ (w n : ℕ) (is : n ≡ cond (isHeader w) (sizeIn w) 0) where
@@ -66,25 +69,16 @@ module _ (w n : ℕ) (is : n ≡ cond (isHeader w) (sizeIn w) 0) where
 -- ---- the answer
 
 module _ (ws : List ℕ) where
-  -- by the refusal
-  abbrev answer : Bool → ℕ → ℕ → Reading
-  answer b r p = elim b as (λ _. Reading) [ true ↦ Reading.Table (sizeIn (getD ws 0 0)) | false ↦ Reading.Refused r p ]
-
   pub reading-refused : (r p : ℕ) → imageRefusal ws ≡ record { refusal = r; place = p } → (r ≡ 0 → ⊥)
       → Reading.Refused r p ≡ readingOf ws
-  unfolding readingOf
   reading-refused r p e ne =
       sym
-      (ap (λ (f : Found). answer (eqb (f .refusal) 0) (f .refusal) (f .place)) e
-      ∙ ap (λ (b : Bool). answer b r p) (ne-eqb r 0 ne))
+      (reading-by ws false (ap (λ (f : Found). eqb (f .refusal) 0) e ∙ ne-eqb r 0 ne)
+      ∙ ap (λ (f : Found). Reading.Refused (f .refusal) (f .place)) e)
 
-  pub reading-accepted : (n : ℕ) → imageRefusal ws .refusal ≡ 0 → sizeIn (getD ws 0 0) ≡ n → Reading.Table n
-      ≡ readingOf ws
-  unfolding readingOf
-  reading-accepted n z e =
-      sym
-      (ap (λ (b : Bool). answer b (imageRefusal ws .refusal) (imageRefusal ws .place)) (eq-eqb _ _ z)
-      ∙ ap Reading.Table e)
+  pub reading-accepted : (n : ℕ) → imageRefusal ws .refusal ≡ 0 → sizeIn (getD ws 0 0) ≡ n
+      → Reading.Table n ≡ readingOf ws
+  reading-accepted n z e = sym (reading-by ws true (eq-eqb _ _ z) ∙ ap Reading.Table e)
 
 -- ---- the whole
 
@@ -118,7 +112,7 @@ empty-header ws e = ap isHeader (List·getD-eq-default ws 0 (omega arith))
 
 -- ---- the words
 
-module _ (n : ℕ) (ws : List ℕ) (long : length ws ≡ 5 * n) where
+module _ (n : ℕ) (ws : List ℕ) (long : length ws ≡ imageLength n) where
   abbrev ofRows : Found
   ofRows = firstRefusal n 1 (rowSlots 0 n) (drop 1 ws)
 
@@ -128,11 +122,9 @@ module _ (n : ℕ) (ws : List ℕ) (long : length ws ≡ 5 * n) where
 
   pub image-turns : 2 ≤ n
       → ofRows .refusal ≡ 0
-      → firstRefusal n 1 (slots n) (drop 1 ws) ≡ firstRefusal n (4 * n + 1) (turnSlots 1 (n - 1)) (drop (4 * n + 1) ws)
+      → firstRefusal n 1 (slots n) (drop 1 ws)
+      ≡ firstRefusal n (turnPlace n 1) (turnSlots 1 (n - 1)) (drop (turnPlace n 1) ws)
   unfolding slots
   image-turns some none =
-      let rows = length-rowSlots 0 n in
-      first-none n 1 (rowSlots 0 n) (turnSlots 1 (n - 1)) (drop 1 ws) (omega (arith, length-drop 1 ws)) none
-      ∙ ap (λ (k : ℕ). firstRefusal n (1 + k) (turnSlots 1 (n - 1)) (drop k (drop 1 ws))) rows
-      ∙ ap (firstRefusal n (1 + 4 * n) (turnSlots 1 (n - 1))) (drop-drop (4 * n) 1 ws)
-      ∙ ap (λ (k : ℕ). firstRefusal n k (turnSlots 1 (n - 1)) (drop k ws)) {x = 1 + 4 * n} {y = 4 * n + 1} (omega arith)
+      part-on n 1 (turnPlace n 1) (rowSlots 0 n) (turnSlots 1 (n - 1)) ws (omega (arith, length-rowSlots 0 n))
+      (omega arith) none

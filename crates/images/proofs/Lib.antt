@@ -4,3 +4,4 @@ pub mod WalkLaws
 pub mod ImageLaws
 pub mod WriteLaws
 pub mod TableLaws
+pub mod ReadingLaws

@@ -1,4 +1,3 @@
--- What the functions on images require and promise, beside the definitions of `machine`.
-pub mod Bounds
+-- What the functions on images promise, and what those inside the crate require of each other.
 pub mod Answers
-pub mod Writing
+pub mod Inner

@@ -1,16 +1,17 @@
 // The check of a word of an image where it stands. `n` is the number of processes, `full` the set
 // of all of them, `q` the number that the word is to have. The upper half of a word, its kind,
 // spare bits and number, is compared at once.
-use crate::Found;
+use crate::sizes::row_place;
+use machine::Found;
 use machine::LEVEL_MISFIT;
 use machine::MALFORMED;
 use machine::OUT_OF_RANGE;
 ghost use mathlib.Core.Path.{_≡_};
 ghost use mathlib.Core.List.{[], _∷_};
-ghost use Prim.Native.Nat.{_+_, _*_, _<_};
-ghost use Rattle.machine.specs.Images.{slot, STATE, TURN, rowSlots, slotRefusal, firstRefusal};
+ghost use Rattle.machine.specs.Images.{slot, STATE, TURN, rowPlace, rowSlots};
+ghost use Rattle.machine.specs.Images.{slotRefusal, firstRefusal};
 ghost use Rattle.rows.specs.Bounds.{Full};
-ghost use Rattle.images.specs.Bounds.{Numbered, SetKind, foundOf};
+ghost use Rattle.images.specs.Inner.{Numbered, SetKind};
 
 // The upper half of a word of kind STATE and of kind TURN, less its number.
 const STATE_UPPER: u32 = 0x9000;
@@ -70,34 +71,35 @@ pub(crate) fn turn_refusal(n: u16, k: u16, w: u32) -> u16
 pub(crate) fn row_refusal(n: u16, full: u16, q: u16, a: u32, b: u32, c: u32, d: u32) -> Found
     requires { ⌜ Full n full ⌝ }
     requires { ⌜ Numbered n q ⌝ }
-    ensures { λ f. ⌜ f ≡ foundOf (firstRefusal n (4 * q + 1) (rowSlots q 1) (a ∷ b ∷ c ∷ d ∷ [])) ⌝ }
+    ensures { λ f. ⌜ f ≡ firstRefusal n (rowPlace q) (rowSlots q 1) (a ∷ b ∷ c ∷ d ∷ []) ⌝ }
 {
+    let at = row_place(q as usize) as u16;
     let first = state_refusal(n, q, a);
     if first != 0 {
         return Found {
             refusal: first,
-            place: 4 * q + 1,
+            place: at,
         };
     }
     let second = set_refusal(n, full, crate::EST, q, b);
     if second != 0 {
         return Found {
             refusal: second,
-            place: 4 * q + 2,
+            place: at + 1,
         };
     }
     let third = set_refusal(n, full, crate::LIS, q, c);
     if third != 0 {
         return Found {
             refusal: third,
-            place: 4 * q + 3,
+            place: at + 2,
         };
     }
     let fourth = set_refusal(n, full, crate::AHEAD, q, d);
     if fourth != 0 {
         return Found {
             refusal: fourth,
-            place: 4 * q + 4,
+            place: at + 3,
         };
     }
     Found {

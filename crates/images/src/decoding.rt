@@ -1,18 +1,23 @@
 // Reading an image: row by row its four words in order, then the words of the turn cells.
-use crate::Found;
-use crate::HEADER;
-use crate::Reading;
 use crate::checks::row_refusal;
 use crate::checks::turn_refusal;
+use crate::sizes::image_words;
+use crate::sizes::row_place;
+use crate::sizes::turn_place;
+use cells::sizes::lesser;
+use machine::Found;
+use machine::HEADER;
+use machine::Reading;
 use machine::Row;
 ghost use mathlib.Core.Path.{_≡_};
 ghost use mathlib.Core.Bool.{cond};
-ghost use Prim.Native.Nat.{_+_, _-_, _*_, _≤_, _<_, min};
+ghost use Prim.Native.Nat.{_-_, _≤_, _<_};
 ghost use lib.ListN.{length, drop};
-ghost use Rattle.machine.specs.Images.{codeIn, turnSlots, firstRefusal, isHeader, sizeIn};
+ghost use Rattle.machine.specs.Images.{turnPlace, rowSlots, turnSlots, slots, firstRefusal};
+ghost use Rattle.machine.specs.Images.{codeIn, isHeader, sizeIn};
 ghost use Rattle.rows.specs.Bounds.{Full};
-ghost use Rattle.images.specs.Bounds.{foundOf};
-ghost use Rattle.images.specs.Answers.{Sized, rowOfWords, turnOfWords, RowRead, RowsRead, WordsRead, ReadInto};
+ghost use Rattle.images.specs.Answers.{ReadInto};
+ghost use Rattle.images.specs.Inner.{Sized, rowOfWords, turnOfWords, RowRead, WordsRead};
 
 // The row that the four words of a process and its turn cell hold.
 fn row_of(a: u32, b: u32, c: u32, d: u32, turn: u16) -> Row
@@ -40,7 +45,7 @@ fn turn_of(words: &[u32], n: u16, q: u16) -> u16
     if q == 0 {
         return 0;
     }
-    let i = 4 * (n as usize) + q as usize;
+    let i = turn_place(n as usize, q as usize);
     (words[i] % 256) as u16
 }
 
@@ -52,11 +57,11 @@ fn read_row(words: &[u32], cells: &mut [[u16; 8]], n: u16, full: u16, q: u16) ->
     requires { ⌜ n ≤ length (now cells) ⌝ }
     ensures { λ f. ⌜ RowRead (now (words .entry)) n q (now (cells .entry)) (now (cells .exit)) f ⌝ }
 {
-    let i = 4 * (q as usize);
-    let a = words[i + 1];
-    let b = words[i + 2];
-    let c = words[i + 3];
-    let d = words[i + 4];
+    let i = row_place(q as usize);
+    let a = words[i];
+    let b = words[i + 1];
+    let c = words[i + 2];
+    let d = words[i + 3];
     let f = row_refusal(n, full, q, a, b, c, d);
     if f.refusal != 0 {
         return f;
@@ -70,7 +75,9 @@ fn read_row(words: &[u32], cells: &mut [[u16; 8]], n: u16, full: u16, q: u16) ->
 fn read_rows(words: &[u32], cells: &mut [[u16; 8]], n: u16) -> Found
     requires { ⌜ Sized (now words) n ⌝ }
     requires { ⌜ n ≤ length (now cells) ⌝ }
-    ensures { λ f. ⌜ RowsRead (now (words .entry)) n (now (cells .entry)) (now (cells .exit)) f ⌝ }
+    ensures { λ f. ⌜
+        WordsRead (rowSlots 0 n) (now (words .entry)) n (now (cells .entry)) (now (cells .exit)) f
+        ⌝ }
 {
     let full = rows::sound::full_set(n);
     let mut q: u16 = 0;
@@ -91,13 +98,13 @@ fn read_rows(words: &[u32], cells: &mut [[u16; 8]], n: u16) -> Found
 fn check_turns(words: &[u32], n: u16) -> Found
     requires { ⌜ Sized (now words) n ⌝ }
     ensures { λ f. ⌜
-        f ≡ foundOf (firstRefusal n (4 * n + 1) (turnSlots 1 (n - 1)) (drop (4 * n + 1) (now (words .entry))))
+        f ≡ firstRefusal n (turnPlace n 1) (turnSlots 1 (n - 1))
+        (drop (turnPlace n 1) (now (words .entry)))
         ⌝ }
 {
-    let first = 4 * (n as usize);
     let mut k: u16 = 1;
     while k < n {
-        let i = first + k as usize;
+        let i = turn_place(n as usize, k as usize);
         let r = turn_refusal(n, k, words[i]);
         if r != 0 {
             return Found {
@@ -113,18 +120,13 @@ fn check_turns(words: &[u32], n: u16) -> Found
     }
 }
 
-// The lesser of two numbers.
-fn lesser(a: usize, b: usize) -> usize
-    ensures { λ m. ⌜ m ≡ min a b ⌝ }
-{
-    if a < b { a } else { b }
-}
-
 // All words past the header in order, up to the first refusal.
 fn read_words(words: &[u32], cells: &mut [[u16; 8]], n: u16) -> Found
     requires { ⌜ Sized (now words) n ⌝ }
     requires { ⌜ n ≤ length (now cells) ⌝ }
-    ensures { λ f. ⌜ WordsRead (now (words .entry)) n (now (cells .entry)) (now (cells .exit)) f ⌝ }
+    ensures { λ f. ⌜
+        WordsRead (slots n) (now (words .entry)) n (now (cells .entry)) (now (cells .exit)) f
+        ⌝ }
 {
     let f = read_rows(words, cells, n);
     if f.refusal != 0 {
@@ -163,7 +165,7 @@ pub fn read_cells(words: &[u32], cells: &mut [[u16; 8]]) -> Reading
             place: 0,
         };
     }
-    let all = 5 * (n as usize);
+    let all = image_words(n as usize);
     if len != all {
         return Reading::Refused {
             number: machine::WRONG_LENGTH,

@@ -1,12 +1,17 @@
 // Writing an image: the header, the four words of each row in order, then the turn cells. Every
 // word is set once, in rising order.
+use crate::sizes::image_words;
+use crate::sizes::row_place;
+use crate::sizes::turn_place;
 use machine::Row;
 ghost use mathlib.Core.Path.{_≡_};
-ghost use Prim.Native.Nat.{_+_, _*_, _^_, _<_};
+ghost use Prim.Native.Nat.{_+_, _*_, _^_, _≤_, _<_};
 ghost use lib.ListN.{length};
-ghost use Rattle.machine.specs.Images.{STATE, bodyOf};
+ghost use Rattle.counting.specs.Placing.{placed};
+ghost use Rattle.machine.specs.Images.{STATE, bodyOf, rowPlace, turnPlace, imageOf};
 ghost use Rattle.cells.specs.View.{rowsOf};
-ghost use Rattle.images.specs.Writing.{Packable, Room, rowWritten, RowsWritten, TurnsWritten, imageInto, Writes};
+ghost use Rattle.images.specs.Answers.{Room, Writes};
+ghost use Rattle.images.specs.Inner.{Packable, rowWords, rowsPart, turnsPart};
 
 // A word of an image of a kind and a number, with its lower half.
 fn word(kind: u16, number: u16, body: u16) -> u32
@@ -27,20 +32,21 @@ fn state_body(r: Row) -> u16
 // The four words of process q.
 fn write_row(out: &mut [u32], q: u16, r: Row)
     requires { ⌜ Packable r ⌝ }
-    requires { ⌜ (q < 16) × (4 * q + 4 < length (now out)) ⌝ }
-    ensures { λ _. ⌜ now (out .exit) ≡ rowWritten (now (out .entry)) q r ⌝ }
+    requires { ⌜ (q < 16) × (rowPlace q + 4 ≤ length (now out)) ⌝ }
+    ensures { λ _. ⌜ now (out .exit) ≡ placed (now (out .entry)) (rowPlace q) (rowWords q r) ⌝ }
 {
-    let i = 4 * (q as usize);
-    out[i + 1] = word(crate::STATE, q, state_body(r));
-    out[i + 2] = word(crate::EST, q, r.est);
-    out[i + 3] = word(crate::LIS, q, r.lis);
-    out[i + 4] = word(crate::AHEAD, q, r.ahead);
+    let i = row_place(q as usize);
+    out[i] = word(crate::STATE, q, state_body(r));
+    out[i + 1] = word(crate::EST, q, r.est);
+    out[i + 2] = word(crate::LIS, q, r.lis);
+    out[i + 3] = word(crate::AHEAD, q, r.ahead);
 }
 
 // The words of all processes of a sound table, after the header.
 fn write_rows(cells: &[[u16; 8]], out: &mut [u32])
     requires { ⌜ Room (rowsOf (now cells)) (now out) ⌝ }
-    ensures { λ _. ⌜ RowsWritten (rowsOf (now (cells .entry))) (now (out .entry)) (now (out .exit)) ⌝ }
+    ensures { λ _. ⌜ now (out .exit) ≡ placed (now (out .entry)) 1
+        (rowsPart (rowsOf (now (cells .entry)))) ⌝ }
 {
     let n = cells.len();
     let mut q = 0;
@@ -53,14 +59,15 @@ fn write_rows(cells: &[[u16; 8]], out: &mut [u32])
 // The words of the turn cells of a sound table, after those of the rows.
 fn write_turns(cells: &[[u16; 8]], out: &mut [u32])
     requires { ⌜ Room (rowsOf (now cells)) (now out) ⌝ }
-    ensures { λ _. ⌜ TurnsWritten (rowsOf (now (cells .entry))) (now (out .entry)) (now (out .exit)) ⌝ }
+    ensures { λ _. ⌜ now (out .exit) ≡ placed (now (out .entry))
+        (turnPlace (length (now (cells .entry))) 1) (turnsPart (rowsOf (now (cells .entry)))) ⌝ }
 {
     let n = cells.len();
-    let first = 4 * n;
     let mut k = 1;
     while k < n {
         let r = cells::access::row_at(cells, k);
-        out[first + k] = word(crate::TURN, k as u16, r.turn);
+        let i = turn_place(n, k);
+        out[i] = word(crate::TURN, k as u16, r.turn);
         k += 1;
     }
 }
@@ -69,9 +76,10 @@ fn write_turns(cells: &[[u16; 8]], out: &mut [u32])
 // know the table to be sound and the room to suffice.
 pub fn write_cells(cells: &[[u16; 8]], out: &mut [u32])
     requires { ⌜ Room (rowsOf (now cells)) (now out) ⌝ }
-    ensures { λ _. ⌜ now (out .exit) ≡ imageInto (rowsOf (now (cells .entry))) (now (out .entry)) ⌝ }
+    ensures { λ _. ⌜ now (out .exit) ≡ placed (now (out .entry)) 0
+        (imageOf (rowsOf (now (cells .entry)))) ⌝ }
 {
-    out[0] = crate::HEADER + cells.len() as u32;
+    out[0] = machine::HEADER + cells.len() as u32;
     write_rows(cells, out);
     write_turns(cells, out);
 }
@@ -86,7 +94,7 @@ pub fn write(cells: &[[u16; 8]], out: &mut [u32]) -> u16
         return refusal;
     }
     let len = out.len();
-    let all = 5 * cells.len();
+    let all = image_words(cells.len());
     if len < all {
         return machine::TOO_FEW_LENT;
     }

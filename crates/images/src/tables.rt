@@ -1,8 +1,8 @@
 // A whole new table from an image.
-use crate::Reading;
 use crate::decoding::read_cells;
 use cells::making::no_table;
 use machine::NewTable;
+use machine::Reading;
 use machine::Row;
 ghost use mathlib.Core.Path.{_≡_};
 ghost use Prim.Native.Nat.{_≤_};

@@ -1,10 +1,11 @@
 // Tries images both ways on the benchmarks of document 01 and on each refusal at its place. A line
 // shows what was read with refusal, place and number of processes, or what was written with the
 // refusal, or a count of words.
-use images::Reading;
 use images::decoding::read_cells;
 use images::encoding::write;
+use images::sizes::image_words;
 use images::tables::read;
+use machine::Reading;
 ghost use Prim.Native.Nat.{_≤_, _<_};
 ghost use lib.ListN.{length};
 
@@ -107,7 +108,7 @@ fn say_around(label: &[u8], cells: &[[u16; 8]])
     requires { ⌜ length (now cells) ≤ 16 ⌝ }
 {
     let n = cells.len();
-    let all = 5 * n;
+    let all = image_words(n);
     let mut first = [7u32; 90];
     let mut again = [7u32; 90];
     let mut back = [[0u16; 8]; 16];

@@ -1,2 +1,3 @@
+-- Laws of inputs.
 pub mod SplitLaws
-pub mod ReadingLaws
+pub mod OpeningLaws

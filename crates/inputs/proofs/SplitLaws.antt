@@ -6,7 +6,7 @@ use native.Mathlib.Omega.{arith}
 use lib.ListN.{length, getD, take, drop, length-drop, drop-of-length-le}
 use lib.Seq.{take-all}
 use Rattle.machine.specs.Images.{imageLength, sizeIn}
-use Rattle.machine.specs.Bytes.{eventPart}
+use Rattle.machine.specs.Inputs.{eventPart}
 use Rattle.inputs.specs.Splitting.{Splits}
 
 module _ (ws : List ℕ) where

@@ -37,7 +37,7 @@ use denote.Triple.Clauses.{Ended, Clauses}
 use denote.Triple.Walked.{Stays, stay-slice, stay-none-slice}
 use denote.Exit.{yes}
 use Rattle.lent.specs.Written.{written}
-use Rattle.lent.proofs.lesser.Symbol.{name as #lesser}
+use Rattle.cells.proofs.sizes.lesser.Symbol.{name as #lesser}
 
 -- ---- elements
 

@@ -56,11 +56,11 @@ use Rattle.walks.proofs.Leaving.{gives}
 use Rattle.walks.proofs.PlainCalls.{calls-plain}
 use Rattle.walks.proofs.CountedLoops.{loops-counted}
 use Rattle.lent.specs.Written.{written}
-use Rattle.lent.proofs.WrittenLaws.{length-written, written-suc, written-min}
+use Rattle.lent.proofs.WrittenLaws.{length-written, written-none, written-suc, written-min}
 use Rattle.lent.proofs.Copier.{Elements, converter, converting, copying, copies-over, stayed, slice, slice′}
 use Rattle.lent.proofs.Copier.{turn, last, copier}
-use Rattle.lent.proofs.lesser as lesser
-use Rattle.lent.proofs.lesser.Symbol.{name as #lesser}
+use Rattle.cells.proofs.sizes.lesser as lesser
+use Rattle.cells.proofs.sizes.lesser.Symbol.{name as #lesser}
 
 module _ {M : Type 1} (𝓤 : URA M) (H : Heap 𝓤) (A : Atoms 𝓤) (mem : Memory → SProp 𝓤) (run : Routine → Fun 𝓤) where
   -- the callees' theorems
@@ -257,8 +257,7 @@ module _ {M : Type 1} (𝓤 : URA M) (H : Heap 𝓤) (A : Atoms 𝓤) (W : Given
           loops-counted ! 𝓣 m (λ _. Unit {0}) Ctx more ends tt
 
     at-start : ws ≡ zs 0
-    unfolding written
-    at-start = refl
+    at-start = sym (written-none f ws)
 
     -- the MIR up to the loop
     walk : ent 𝓤

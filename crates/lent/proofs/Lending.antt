@@ -1,6 +1,7 @@
--- The calls that the lent functions have in common: a local array of 16 rows of cells, the rows written into it by
--- `load`, and out of it by `store`. Each is a step of a walk, over whatever else is held.
+-- What the walks over lent rows hold, and their calls: a local array of 16 rows of cells, the rows written into it by
+-- `load`, and out of it by `store`. Each call is a step of a walk, over whatever else is held.
 --
+--   Rows, Words    the lent rows and the lent words; taskVal d is the machine value of a task.
 --   Work l xs      the local array at l, with the cells xs.
 --   work-starts    the zeros are written to the local.
 --   work-lent      it is lent as `&mut` to a call; work-back takes it back.
@@ -32,12 +33,13 @@ use types.Tokens.{lft-new, lft-end, lent-back}
 use sound.WpLaws.{fmOf}
 use denote.Laws.{Is, shows}
 use denote.Plain.{Nothing, nothing-lawful, uint-lawful}
-use denote.Builtin.{u16}
+use denote.Builtin.{u16, u32}
 use denote.Array.{Array, arrayVal, array-lawful}
 use denote.Ref.{RefT}
 use denote.Slice.{sliceVal, ShrSlice, MutSlice, Room, finally}
 use denote.Lend.{Held}
 use denote.Steps.{facts, heard, nothing}
+use denote.Struct.Laws as LL
 use denote.Triple.Statement.{Contract, Triple}
 use denote.Triple.Spec.{tripleOf}
 use denote.Triple.Call.{calls-at}
@@ -48,6 +50,9 @@ use Rattle.machine.proofs.Row as T
 use Rattle.walks.proofs.SharedLoans.{LentShared, lends-shared, shared-back}
 use Rattle.walks.proofs.LocalArrays.{Local, rep-is, local-in, local-out, lend-mut, mut-back, lend-shr}
 use Rattle.lent.specs.Written.{written}
+use Rattle.lent.specs.declared.Task.{Task}
+use Rattle.lent.proofs.Task as K
+use Rattle.lent.proofs.Task.Laws as K′
 use Rattle.lent.proofs.RowsAndCells.{Cells, cellsTy, cellsVals, cells-tell, cellsLaws}
 use Rattle.lent.proofs.load as load
 use Rattle.lent.proofs.load.Symbol.{name as #load}
@@ -151,6 +156,23 @@ module _ (b o : ℕ) (ys : List Row) where
 
   abbrev pub Rows : Lft → GName → Fml
   Rows κ γ = MutSlice (named 0) κ T.the-row .own (rowsRef γ) (rowsVal ∷ [])
+
+-- ---- the words ws, lent at (b, o)
+
+module _ (b o : ℕ) (ws : List ℕ) where
+  abbrev pub wordsRef : GName → RefT (List ℕ)
+  wordsRef δ = record { ptr = (b, o); name = δ; now = ws }
+
+  abbrev pub wordsVal : Val
+  wordsVal = sliceVal (b, o) (length ws)
+
+  abbrev pub Words : Lft → GName → Fml
+  Words κ γ = ShrSlice (named 1) κ u32 .own (wordsRef γ) (wordsVal ∷ [])
+
+-- ---- the machine value of a task
+
+abbrev pub taskVal : Task → Val
+taskVal d = LL.val K.the-type K′.the-laws d
 
 -- ---- the calls
 

@@ -58,7 +58,7 @@ module _ (Makes : Table → Table → Type 0) (t u : Table) (zeros x y : List (L
   in-many h =
       let same : u ≡ t =
       stored ∙ ap (λ (c : List (List ℕ)). written rowOf c t) (made .many h .0 ∙ loaded)
-      ∙ written-back cellsOf rowOf (λ r. refl) t zeros in
+      ∙ written-back cellsOf rowOf (λ r. refl) t zeros (omega (arith, h, sixteen)) in
       subst (Makes t) (sym same) (made .many h .1 t refl)
 
   pub made-of-rows : Makes t u

@@ -1,10 +1,8 @@
 -- What the work on the first n of 16 rows of cells comes to.
 --
---   refusalIn a               ==   the refusal that the answer of a step gives, or 0.
---   StepsTo w r t u           <=>  the word w makes the table u of t, with the answer r.
---   RunsTo ws r h t u         <=>  the words ws make u of t, with the answer r and the tally h.
---   Within Makes n x y        <=>  n rows are more than 16, the cells x are unchanged, and such a table makes itself;
---                                  or the first n of the cells y are what the first n of x make.
+--   refusalIn a          ==   the refusal that the answer of a step gives, or 0.
+--   Within Makes n x y   <=>  n rows are more than 16, the cells x are unchanged, and such a table makes itself;
+--                             or the first n of the cells y are what the first n of x make.
 --
 -- Assumes nothing.
 use Prim.Native.Nat.{ℕ, _≤_, _<_}
@@ -13,23 +11,13 @@ use mathlib.Core.List.{List}
 use lib.ListN.{length, take}
 use Rattle.machine.specs.Refusals.{accepted}
 use Rattle.machine.specs.Tables.{Table}
-use Rattle.machine.specs.Steps.{refusalOf, afterWord}
-use Rattle.machine.specs.Runs.{runOf, ranOf}
 use Rattle.machine.specs.declared.Stepped.{Stepped}
 use Rattle.machine.specs.declared.Stepped.the-variants.{Moved, Refused}
-use Rattle.machine.specs.declared.Ran.{Ran}
-use Rattle.machine.specs.declared.Tally.{Tally}
 use Rattle.cells.specs.View.{rowsOf}
 
 abbrev pub refusalIn : Stepped → ℕ
 refusalIn (Moved e) = accepted
 refusalIn (Refused k) = k
-
-abbrev pub StepsTo : ℕ → ℕ → Table → Table → Type 0
-StepsTo w r t u = (r ≡ refusalOf t w) × (u ≡ afterWord t w)
-
-abbrev pub RunsTo : List ℕ → Ran → Tally → Table → Table → Type 0
-RunsTo ws r h t u = (u ≡ runOf t ws .table) × (r ≡ ranOf (runOf t ws)) × (h ≡ runOf t ws .tally)
 
 pub record Within (Makes : Table → Table → Type 0) (n : ℕ) (x y : List (List ℕ)) : Type 0 where
   pub size-is : length y ≡ length x

@@ -1,11 +1,11 @@
 -- One list written over another, as the lent rows are brought into cells and back.
 --
---   written f ys zs   ==  zs with its first elements replaced by f of those of ys, as many as there are of both.
+--   written f ys zs   ==  zs with f of the elements of ys at its start, as many as there are of both.
 --
 -- Assumes nothing.
-use mathlib.Core.List.{List, [], _∷_}
+use mathlib.Core.List.{List, map}
+use lib.ListN.{length, take}
+use Rattle.counting.specs.Placing.{placed}
 
-unfoldable pub written : {A B : Type 0} → (A → B) → List A → List B → List B
-written f [] zs = zs
-written f (y ∷ ys) [] = []
-written f (y ∷ ys) (z ∷ zs) = f y ∷ written f ys zs
+abbrev pub written : {A B : Type 0} → (A → B) → List A → List B → List B
+written f ys zs = placed zs 0 (map f (take (length zs) ys))

@@ -6,24 +6,30 @@
 --   word-cases, always, afterWords-snoc     so what every step keeps, every list of words keeps
 --
 -- Assumes nothing.
-use Prim.Native.Nat.{ℕ, zero, suc, _≤_, _<_}
+use Prim.Native.Nat.{ℕ, _<_}
 use mathlib.Core.Path.{_≡_, refl, sym, subst}
-use mathlib.Core.Bool.{Bool, true, false, cond, not}
+use mathlib.Core.Bool.{Bool, true, false, cond, not, and-eq-true-iff}
 use mathlib.Core.Logic.{_⊎_, inl, inr, ⊎-elim, by-cases}
 use mathlib.Core.List.{List, [], _∷_, _++_}
 use native.Mathlib.Decide.{ℕ-discrete}
 use native.Mathlib.Omega.{arith}
-use lib.Dec.{eqb, leb}
+use lib.Dec.{eqb}
 use lib.ListN.{length, set}
-use borrow.Author.Tests.{eqb-true, eqb-false, leb-true, ltb-true, eq-eqb, ne-eqb, lt-ltb}
+use borrow.Author.Tests.{eqb-true, eqb-false, ltb-true, eq-eqb, ne-eqb, lt-ltb}
 use Rattle.counting.specs.Sets.{has}
 use Rattle.machine.specs.Tables.{Table, row, oneOf, tableRefusal, competitors}
 use Rattle.machine.specs.Words.{FLICKER, GO, isKind, kindOf, processOf, argumentOf, spareClear, formed}
-use Rattle.machine.specs.Steps.{entered, looked, flickered, gone, moved, allowed, argumentFits, wordRefusal, refusalOf, afterWord, afterWords}
+use Rattle.machine.specs.Steps.{entered, looked, flickered, gone, moved, allowed, argumentFits, wordRefusal}
+use Rattle.machine.specs.Steps.{refusalOf, afterWord, afterWords}
 use Rattle.machine.specs.System.{Step}
-use Rattle.machine.specs.System.Step.{rests, comes, flickers-20, enters, starts-pass, wins, discards, keeps, ends-pass, lowers, to-push, waits, skips, flickers-24, pushes, exits, flickers-40, leaves}
-use Rattle.machine.proofs.TestLaws.{and-left, and-right, or-cases, cond-zero, by-one}
-use Rattle.machine.proofs.Forms.{passed-cases, looked-cases, reconsidered-cases, gone-20, gone-21, gone-22, gone-23, gone-40, flickered-act, flickered-turn, gone-push, gone-exit}
+use Rattle.machine.specs.System.Step.{rests, comes, flickers-20, enters, starts-pass, wins, discards, keeps}
+use Rattle.machine.specs.System.Step.{ends-pass, lowers, to-push, waits, skips, flickers-24, pushes, exits}
+use Rattle.machine.specs.System.Step.{flickers-40, leaves}
+use Rattle.counting.proofs.TestLaws.{or-cases, cond-zero}
+use Rattle.machine.proofs.KindLaws.{by-kind}
+use Rattle.machine.proofs.OneOfLaws.{by-one}
+use Rattle.machine.proofs.Forms.{passed-cases, looked-cases, reconsidered-cases, gone-20, gone-21, gone-22}
+use Rattle.machine.proofs.Forms.{gone-23, gone-40, flickered-act, flickered-turn, gone-push, gone-exit}
 
 -- ---- GO is a step at each location
 
@@ -63,8 +69,8 @@ module _ (t : Table) (p : ℕ) (l : p < length t) where
       ⊎-elim
       (by-one (r .location) (20 ∷ 21 ∷ 23 ∷ 24 ∷ 30 ∷ 40 ∷ []) (go-20, (go-21, (go-23, (go-24, (go-30, (go-40, tt)))))))
       (λ k.
-      go-22 (eqb-true _ _ (and-left (eqb (r .location) 22) (eqb (r .lis) 0) k))
-      (eqb-true _ _ (and-right (eqb (r .location) 22) (eqb (r .lis) 0) k)))
+      go-22 (eqb-true _ _ (and-eq-true-iff (eqb (r .location) 22) (eqb (r .lis) 0) .0 k .0))
+      (eqb-true _ _ (and-eq-true-iff (eqb (r .location) 22) (eqb (r .lis) 0) .0 k .1)))
       (or-cases (oneOf (r .location) (20 ∷ 21 ∷ 23 ∷ 24 ∷ 30 ∷ 40 ∷ [])) _ h)
 
   flicker-step : (a : ℕ)
@@ -89,27 +95,27 @@ module _ (t : Table) (p : ℕ) (l : p < length t) where
   look-step q e h = looked-cases (λ r. Step t p (set t p r)) q (row t q .act) (row t p) (discards q e h) (keeps q e h)
 
   pub moved-step : (k a : ℕ)
-      → 1 ≤ k
-      → k ≤ 5
+      → isKind k ≡ true
       → allowed k (row t p) ≡ true
       → argumentFits (length t) k (row t p) a ≡ true
       → Step t p (moved t k p a)
   unfolding moved allowed argumentFits
-  moved-step zero a x y h g = absurd (omega arith)
-  moved-step (suc zero) a x y h g = rests (eqb-true _ _ h)
-  moved-step (suc (suc zero)) a x y h g = comes (eqb-true _ _ h)
-  moved-step (suc (suc (suc zero))) a x y h g = flicker-step a h g
-  moved-step (suc (suc (suc (suc zero)))) a x y h g = go-step h
-  moved-step (suc (suc (suc (suc (suc zero))))) a x y h g =
-      look-step a (eqb-true _ _ (and-left (eqb (row t p .location) 22) (not (eqb (row t p .lis) 0)) h)) g
-  moved-step (suc (suc (suc (suc (suc (suc k)))))) a x y h g = absurd (omega arith)
+  moved-step k a =
+      by-kind
+      (λ k. allowed k (row t p) ≡ true → argumentFits (length t) k (row t p) a ≡ true → Step t p (moved t k p a))
+      (λ h g. rests (eqb-true _ _ h))
+      (λ h g. comes (eqb-true _ _ h))
+      (flicker-step a)
+      (λ h g. go-step h)
+      (λ h g.
+      look-step a (eqb-true _ _ (and-eq-true-iff (eqb (row t p .location) 22) (not (eqb (row t p .lis) 0)) .0 h .0)) g)
+      k
 
 -- ---- what an accepted word says
 
 pub record Says (t : Table) (w : ℕ) : Type 0 where
   pub formed-so : formed w ≡ true
-  pub kind-first : 1 ≤ kindOf w
-  pub kind-last : kindOf w ≤ 5
+  pub kind-known : isKind (kindOf w) ≡ true
   pub process-in : processOf w < length t
   pub allowed-there : allowed (kindOf w) (row t (processOf w)) ≡ true
   pub argument-fits : argumentFits (length t) (kindOf w) (row t (processOf w)) (argumentOf w) ≡ true
@@ -121,11 +127,9 @@ word-says t w z =
     let b = cond-zero _ 8 _ (a .1) in
     let c = cond-zero _ 9 _ (b .1) in
     let d = cond-zero _ 10 _ (c .1) in
-    let kind = and-left (isKind (kindOf w)) (spareClear w) (a .0) in
     record {
       formed-so = a .0;
-      kind-first = leb-true _ _ (and-left (leb 1 (kindOf w)) (leb (kindOf w) 5) kind);
-      kind-last = leb-true _ _ (and-right (leb 1 (kindOf w)) (leb (kindOf w) 5) kind);
+      kind-known = and-eq-true-iff (isKind (kindOf w)) (spareClear w) .0 (a .0) .0;
       process-in = ltb-true _ _ (b .0);
       allowed-there = c .0;
       argument-fits = d .0;
@@ -177,7 +181,7 @@ module _ (t : Table) (w : ℕ) where
       let s = accepted-says z in
       rw (accepted-moved z)
       (moved-step t (processOf w) (s .process-in) (kindOf w) (argumentOf w)
-      (s .kind-first) (s .kind-last) (s .allowed-there) (s .argument-fits))
+      (s .kind-known) (s .allowed-there) (s .argument-fits))
 
   -- a refused word changes nothing
   pub refused-same : (refusalOf t w ≡ 0 → ⊥) → afterWord t w ≡ t

@@ -8,19 +8,25 @@ use lib.Dec.{eqb}
 use lib.ListN.{take, replicate}
 use Rattle.counting.specs.Sums.{sum, count}
 use Rattle.counting.specs.Sets.{has, setOf, size, without, others}
+use Rattle.counting.specs.Placing.{placed}
 use Rattle.machine.specs.Tables.{Table, freshTable, soundFrom, tableRefusal, competitors}
 use Rattle.machine.specs.Steps
 use Rattle.machine.specs.Census.{below, held, critical, waiting, upTo}
 use Rattle.machine.specs.Runs.{Outcome, runFrom, runOf}
 use Rattle.machine.specs.Images
-use Rattle.machine.specs.Bytes.{wordsIn, bytesOf, Called, callOf}
-use Rattle.machine.specs.Text.{digits, numbers, runLines, printed}
+use Rattle.machine.specs.Bytes.{wordsIn, bytesOf, bytesLimit}
+use Rattle.machine.specs.Inputs.{Input, wordsHold, inputOf}
+use Rattle.machine.specs.Calls.{Called, ranCall, callFor, callOf}
+use Rattle.machine.specs.Text.{digits, spaced, runLines, textOf, printed}
 
 -- ---- evaluation
 
 -- a run, with all that it computes with
 evaluated : Table → List ℕ → Outcome
-unfolding Steps.turned Steps.forgets Steps.flickered Steps.entered Steps.passed Steps.looked Steps.reconsidered Steps.pushed Steps.goRow Steps.gone Steps.moved Steps.allowed Steps.argumentFits Steps.wordRefusal Steps.refusalOf Steps.afterWord Steps.eventOf soundFrom tableRefusal competitors sum count has setOf size without others runFrom runOf
+unfolding Steps.turned Steps.forgets Steps.flickered Steps.entered Steps.passed Steps.looked Steps.reconsidered
+    Steps.pushed Steps.goRow Steps.gone Steps.moved Steps.allowed Steps.argumentFits Steps.wordRefusal Steps.refusalOf
+    Steps.afterWord Steps.eventOf soundFrom tableRefusal competitors sum count has setOf size without others runFrom
+    runOf
 evaluated t ws = runOf t ws
 
 -- the image of a table, likewise
@@ -48,7 +54,8 @@ pub record Benchmark : Type 0 where
   last : List ℕ
 
 passes : Benchmark → Bool
-unfolding evaluated pictured same Images.rowSlots Images.turnSlots Images.slots Images.spareBody Images.inRange Images.slotRefusal Images.firstRefusal Images.rowsIn Images.imageRefusal Images.tableIn
+unfolding evaluated pictured same Images.rowSlots Images.turnSlots Images.slots Images.spareBody Images.inRange
+    Images.slotRefusal Images.firstRefusal Images.rowsIn Images.imageRefusal Images.tableIn
 passes b =
     let f = Images.imageRefusal (b .image) in
     let o = evaluated (Images.tableIn (b .image)) (b .events) in
@@ -92,7 +99,8 @@ starred =
     -- no words
     from-fresh [] 0 0 freshTwo
     -- the seven words
-    ∷ from-fresh (threeWords ++ (0x50000001 ∷ 0x40000000 ∷ 0x40000000 ∷ 0x40000000 ∷ [])) 7 0 (two 0x90006200 0xA0000000 0xB0000000)
+    ∷ from-fresh (threeWords ++ (0x50000001 ∷ 0x40000000 ∷ 0x40000000 ∷ 0x40000000 ∷ [])) 7 0
+    (two 0x90006200 0xA0000000 0xB0000000)
     ∷ from-fresh (0x40000000 ∷ []) 0 10 freshTwo
     ∷ from-fresh (0x00000000 ∷ []) 0 8 freshTwo
     ∷ from-fresh (0x20020000 ∷ []) 0 9 freshTwo
@@ -258,15 +266,24 @@ exampleText =
     100 ∷ 111 ∷ 110 ∷ 101 ∷ 32 ∷ 55 ∷ 10 ∷ []
 
 pub example-printed : printed exampleInput ≡ exampleText
-unfolding exampleInput exampleText evaluated passes printed digits numbers runLines wordsIn
+unfolding exampleInput exampleText evaluated passes printed digits spaced runLines textOf inputOf wordsHold wordsIn
 example-printed = refl
 
 pub exampleCall : Called
-unfolding exampleInput evaluated passes callOf wordsIn
+unfolding exampleInput evaluated passes callOf callFor ranCall placed inputOf wordsHold wordsIn
 exampleCall = callOf exampleInput (replicate 42 255)
 
 pub example-called :
     (exampleCall .number ≡ 1792)
     × (exampleCall .lent ≡ bytesOf (two 0x90006200 0xA0000000 0xB0000000) ++ (255 ∷ 255 ∷ []))
-unfolding exampleCall evaluated pictured passes callOf wordsIn bytesOf two
+unfolding exampleCall evaluated pictured passes callOf callFor ranCall placed inputOf wordsHold wordsIn bytesOf two
 example-called = (refl, refl)
+
+-- the most bytes of an input, as document 01 has the number
+pub longest-input : bytesLimit ≡ 33088
+longest-input = refl
+
+-- an input of no bytes has a bad image, and one byte is no word
+pub short-inputs : (inputOf [] ≡ Input.BadImage 0 1) × (inputOf (128 ∷ []) ≡ Input.BadBytes)
+unfolding inputOf wordsHold wordsIn
+short-inputs = (refl, refl)

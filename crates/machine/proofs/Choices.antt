@@ -4,9 +4,9 @@
 --   argument-shows     and a cell of the kind's own tells the argument
 --
 -- Assumes nothing.
-use Prim.Native.Nat.{ℕ, zero, suc, _≤_, _<_}
+use Prim.Native.Nat.{ℕ, _≤_, _<_}
 use mathlib.Core.Path.{_≡_, refl, sym, ap, ap₂, _∙_}
-use mathlib.Core.Bool.{true, cond, not}
+use mathlib.Core.Bool.{true, cond, not, and-eq-true-iff}
 use mathlib.Core.Logic.{_≢_, ⊎-elim}
 use mathlib.Core.List.{[], _∷_, map}
 use native.Mathlib.Decide.{ℕ-discrete}
@@ -20,14 +20,17 @@ use Rattle.counting.specs.Sets.{without}
 use Rattle.counting.proofs.SetLaws.{without-injective}
 use Rattle.machine.specs.Rows.{withAct, withAhead}
 use Rattle.machine.specs.Tables.{Table, row, oneOf}
-use Rattle.machine.specs.Words.{STAY, COME, FLICKER, GO, LOOK}
+use Rattle.machine.specs.Words.{STAY, COME, FLICKER, GO, LOOK, isKind}
 use Rattle.machine.specs.Steps.{entered, looked, flickered, gone, moved, allowed, argumentFits}
 use Rattle.machine.specs.System.{turnAssigned}
 use Rattle.machine.specs.declared.Row.{Row}
-use Rattle.machine.proofs.TestLaws.{and-left, or-cases, by-one}
+use Rattle.counting.proofs.TestLaws.{or-cases}
+use Rattle.machine.proofs.KindLaws.{by-kind}
+use Rattle.machine.proofs.OneOfLaws.{by-one}
 use Rattle.machine.proofs.TableLaws.{row-same, turn-same, turn-free}
 use Rattle.machine.proofs.SoundRows.{SoundRow}
-use Rattle.machine.proofs.Forms.{passed-cases, reconsidered-cases, gone-20, gone-21, gone-22, gone-23, gone-40, flickered-act, flickered-turn, gone-push, gone-exit}
+use Rattle.machine.proofs.Forms.{passed-cases, reconsidered-cases, gone-20, gone-21, gone-22, gone-23, gone-40}
+use Rattle.machine.proofs.Forms.{flickered-act, flickered-turn, gone-push, gone-exit}
 
 -- ---- the kind
 
@@ -99,7 +102,7 @@ module _ (t : Table) (p : ℕ) (l : p < length t) where
       ⊎-elim
       (by-one (r .location) (20 ∷ 21 ∷ 23 ∷ 24 ∷ 30 ∷ 40 ∷ [])
       (go-20-tells, (go-21-tells, (go-23-tells, (go-24-tells, (go-30-tells, (go-40-tells, tt)))))))
-      (λ k. go-22-tells (eqb-true _ _ (and-left (eqb (r .location) 22) (eqb (r .lis) 0) k)))
+      (λ k. go-22-tells (eqb-true _ _ (and-eq-true-iff (eqb (r .location) 22) (eqb (r .lis) 0) .0 k .0)))
       (or-cases (oneOf (r .location) (20 ∷ 21 ∷ 23 ∷ 24 ∷ 30 ∷ 40 ∷ [])) _ h)
 
   tells-turn : (a : ℕ) → row t p .location ≡ 24 → Tells FLICKER (turnAssigned t (row t p .level) a)
@@ -122,17 +125,18 @@ module _ (t : Table) (p : ℕ) (l : p < length t) where
       )
       h
 
-  pub kind-shows : (k a : ℕ) → 1 ≤ k → k ≤ 5 → allowed k (row t p) ≡ true → Tells k (moved t k p a)
+  pub kind-shows : (k a : ℕ) → isKind k ≡ true → allowed k (row t p) ≡ true → Tells k (moved t k p a)
   unfolding moved allowed looked
-  kind-shows zero a x y h = absurd (omega arith)
-  kind-shows (suc zero) a x y h = tells t 10 10 (eqb-true _ _ h) (eqb-true _ _ h)
-  kind-shows (suc (suc zero)) a x y h = tells-set _ 10 20 (eqb-true _ _ h) refl
-  kind-shows (suc (suc (suc zero))) a x y h = flicker-tells a h
-  kind-shows (suc (suc (suc (suc zero)))) a x y h = go-tells h
-  kind-shows (suc (suc (suc (suc (suc zero))))) a x y h =
-      let e = eqb-true (row t p .location) 22 (and-left (eqb (row t p .location) 22) (not (eqb (row t p .lis) 0)) h) in
-      tells-set _ 22 22 e e
-  kind-shows (suc (suc (suc (suc (suc (suc k)))))) a x y h = absurd (omega arith)
+  kind-shows k a =
+      by-kind (λ k. allowed k (row t p) ≡ true → Tells k (moved t k p a))
+      (λ h. tells t 10 10 (eqb-true _ _ h) (eqb-true _ _ h))
+      (λ h. tells-set _ 10 20 (eqb-true _ _ h) refl)
+      (flicker-tells a) go-tells
+      (λ h.
+      let f = and-eq-true-iff (eqb (row t p .location) 22) (not (eqb (row t p .lis) 0)) .0 h .0 in
+      let e = eqb-true (row t p .location) 22 f in
+      tells-set _ 22 22 e e)
+      k
 
   -- ---- the argument
 
@@ -156,8 +160,7 @@ module _ (t : Table) (p : ℕ) (l : p < length t) where
   lis-shows a = ap (λ (r : Row). r .lis) (row-same t p _ l)
 
   pub argument-shows : (k a b : ℕ)
-      → 1 ≤ k
-      → k ≤ 5
+      → isKind k ≡ true
       → SoundRow (length t) p (row t p)
       → length t ≤ 16
       → allowed k (row t p) ≡ true
@@ -166,19 +169,29 @@ module _ (t : Table) (p : ℕ) (l : p < length t) where
       → moved t k p a ≡ moved t k p b
       → a ≡ b
   unfolding moved argumentFits
-  argument-shows zero a b x y s few h f g e = absurd (omega arith)
-  argument-shows (suc zero) a b x y s few h f g e = eqb-true a 0 f ∙ sym (eqb-true b 0 g)
-  argument-shows (suc (suc zero)) a b x y s few h f g e = eqb-true a 0 f ∙ sym (eqb-true b 0 g)
-  argument-shows (suc (suc (suc zero))) a b x y s few h f g e = go (ℕ-discrete (row t p .location) 24)
+  argument-shows k a b kind s few =
+      by-kind
+      (λ k.
+      allowed k (row t p) ≡ true
+      → argumentFits (length t) k (row t p) a ≡ true
+      → argumentFits (length t) k (row t p) b ≡ true
+      → moved t k p a ≡ moved t k p b
+      → a ≡ b)
+      none none
+      (λ h f g e. flicker-shows e (ℕ-discrete (row t p .location) 24))
+      none
+      (λ h f g e.
+      without-injective (row t p .lis) a b (lt-of-lt-of-le (s .lis-low) (pow-mono few)) f g
+      (sym (lis-shows a) ∙ ap (λ (u : Table). row u p .lis) e ∙ lis-shows b))
+      k kind
     where
-      go : Dec (row t p .location ≡ 24) → a ≡ b
-      go (yes i) =
+      -- a kind whose argument is 0
+      none : {A B : Type 0} → A → eqb a 0 ≡ true → eqb b 0 ≡ true → B → a ≡ b
+      none h f g e = eqb-true a 0 f ∙ sym (eqb-true b 0 g)
+
+      flicker-shows : flickered t p a ≡ flickered t p b → Dec (row t p .location ≡ 24) → a ≡ b
+      flicker-shows e (yes i) =
           sym (turn-shows a (s .level-low) i)
           ∙ ap (λ (u : Table). row u (row t p .level) .turn) e
           ∙ turn-shows b (s .level-low) i
-      go (no ne) = sym (act-shows a ne) ∙ ap (λ (u : Table). row u p .act) e ∙ act-shows b ne
-  argument-shows (suc (suc (suc (suc zero)))) a b x y s few h f g e = eqb-true a 0 f ∙ sym (eqb-true b 0 g)
-  argument-shows (suc (suc (suc (suc (suc zero))))) a b x y s few h f g e =
-      without-injective (row t p .lis) a b (lt-of-lt-of-le (s .lis-low) (pow-mono few)) f g
-      (sym (lis-shows a) ∙ ap (λ (u : Table). row u p .lis) e ∙ lis-shows b)
-  argument-shows (suc (suc (suc (suc (suc (suc k)))))) a b x y s few h f g e = absurd (omega arith)
+      flicker-shows e (no ne) = sym (act-shows a ne) ∙ ap (λ (u : Table). row u p .act) e ∙ act-shows b ne

@@ -24,10 +24,11 @@ use borrow.Author.Tests.{eqb-true, eqb-false, ltb-true, ltb-false, ne-eqb}
 use Rattle.counting.specs.Sets.{size, without, others}
 use Rattle.machine.specs.Rows.{withLocation, withAct, withBb, withLevel, withEst, withLis, withAhead, withTurn}
 use Rattle.machine.specs.Tables.{Table, row, competitors}
-use Rattle.machine.specs.Steps.{entered, passed, looked, reconsidered, pushed, goRow, turned, forgets, flickered, gone}
+use Rattle.machine.specs.Steps.{entered, passed, looked, reconsidered, pushed, goRow, turned, forgets, flickered}
+use Rattle.machine.specs.Steps.{gone}
 use Rattle.machine.specs.System.{assigned, turnAssigned}
 use Rattle.machine.specs.declared.Row.{Row}
-use Rattle.machine.proofs.TestLaws.{split}
+use Rattle.counting.proofs.TestLaws.{split}
 use Rattle.machine.proofs.TableLaws.{row-same, row-other, row-map, turn-same, turn-other, map-set}
 
 -- ---- rows that branch: what holds of each alternative holds of the row

@@ -13,7 +13,9 @@ use Rattle.counting.specs.Sets.{without}
 use Rattle.machine.specs.Rows.{withAhead, withTurn}
 use Rattle.machine.specs.Tables.{Table, row}
 use Rattle.machine.specs.System.{turnAssigned, Step}
-use Rattle.machine.specs.System.Step.{rests, comes, flickers-20, enters, starts-pass, wins, discards, keeps, ends-pass, lowers, to-push, waits, skips, flickers-24, pushes, exits, flickers-40, leaves}
+use Rattle.machine.specs.System.Step.{rests, comes, flickers-20, enters, starts-pass, wins, discards, keeps}
+use Rattle.machine.specs.System.Step.{ends-pass, lowers, to-push, waits, skips, flickers-24, pushes, exits}
+use Rattle.machine.specs.System.Step.{flickers-40, leaves}
 use Rattle.machine.specs.declared.Row.{Row}
 use Rattle.machine.proofs.TableLaws.{row-other, turn-free, map-free}
 

@@ -1,6 +1,8 @@
--- Laws of the machine's definitions; the statements of demand 2 that a reader opens are in Demand2.
-pub mod TestLaws
+-- Laws of the machine's definitions; the statements of demand 2 that a reader opens are in WordsAreSteps.
+pub mod OneOfLaws
+pub mod KindLaws
 pub mod TableLaws
+pub mod LevelLaws
 pub mod SoundRows
 pub mod Forms
 pub mod Accepted
@@ -12,5 +14,8 @@ pub mod Choices
 pub mod OneWord
 pub mod SameOutcome
 pub mod Progress
-pub mod Demand2
+pub mod AnswerLaws
+pub mod RunLaws
+pub mod InputLaws
+pub mod WordsAreSteps
 pub mod Benchmarks

@@ -4,27 +4,32 @@
 --   one-word     a step of a sound table is what exactly one word of its process does
 --
 -- Assumes nothing.
-use Prim.Native.Nat.{ℕ, _≤_, _<_}
+use Prim.Native.Nat.{ℕ, _<_}
 use mathlib.Core.Path.{_≡_, refl, sym, ap, ap₂, _∙_, subst}
-use mathlib.Core.Logic.{_≢_}
-use mathlib.Core.Bool.{Bool, true, cond, not, false≢true}
+use mathlib.Core.Logic.{_≢_, Or·inl, Or·inr}
+use mathlib.Core.Bool.{Bool, true, cond, not, false≢true, and-eq-true-iff, or-eq-true-iff}
 use mathlib.Core.List.{List, [], _∷_}
 use native.Mathlib.Decide.{decLt}
 use native.Mathlib.Omega.{arith}
-use lib.Dec.{eqb, leb, ltb}
+use lib.Dec.{eqb, ltb}
 use lib.ListN.{length, set}
-use borrow.Author.Tests.{leb-true, eq-eqb, ne-eqb, lt-ltb, le-ltb}
+use borrow.Author.Tests.{eq-eqb, ne-eqb, lt-ltb, le-ltb}
 use Rattle.counting.specs.Sets.{has}
 use Rattle.counting.proofs.SetLaws.{has-over, has-zero}
 use Rattle.machine.specs.Rows.{withAct}
 use Rattle.machine.specs.Tables.{Table, row, oneOf, sound, tableRefusal, competitors}
-use Rattle.machine.specs.Words.{STAY, COME, FLICKER, GO, LOOK, isKind, kindOf, processOf, argumentOf, spareClear, formed, wordOf}
-use Rattle.machine.specs.Steps.{entered, passed, looked, reconsidered, gone, moved, allowed, argumentFits, refusalOf, afterWord}
+use Rattle.machine.specs.Words.{STAY, COME, FLICKER, GO, LOOK, isKind, kindOf, processOf, argumentOf, spareClear}
+use Rattle.machine.specs.Words.{formed, wordOf}
+use Rattle.machine.specs.Steps.{entered, passed, looked, reconsidered, gone, moved, allowed, argumentFits}
+use Rattle.machine.specs.Steps.{refusalOf, afterWord}
 use Rattle.machine.specs.System.{assigned, Step}
-use Rattle.machine.specs.System.Step.{rests, comes, flickers-20, enters, starts-pass, wins, discards, keeps, ends-pass, lowers, to-push, waits, skips, flickers-24, pushes, exits, flickers-40, leaves}
-use Rattle.machine.proofs.TestLaws.{and-left, and-right, and-intro, or-left, or-right, oneOf-at}
+use Rattle.machine.specs.System.Step.{rests, comes, flickers-20, enters, starts-pass, wins, discards, keeps}
+use Rattle.machine.specs.System.Step.{ends-pass, lowers, to-push, waits, skips, flickers-24, pushes, exits}
+use Rattle.machine.specs.System.Step.{flickers-40, leaves}
+use Rattle.machine.proofs.OneOfLaws.{oneOf-at}
 use Rattle.machine.proofs.SoundRows.{sound-row, sound-few, sound-accepted}
-use Rattle.machine.proofs.Forms.{gone-20, gone-21, gone-22, gone-23, gone-40, flickered-act, flickered-turn, gone-push, gone-exit}
+use Rattle.machine.proofs.Forms.{gone-20, gone-21, gone-22, gone-23, gone-40, flickered-act, flickered-turn}
+use Rattle.machine.proofs.Forms.{gone-push, gone-exit}
 use Rattle.machine.proofs.Accepted.{Says, accepted-table, accepted-says, accepted-moved, says-accepted}
 use Rattle.machine.proofs.WordLaws.{kind-wordOf, process-wordOf, argument-wordOf, formed-wordOf, parts-injective}
 use Rattle.machine.proofs.Choices.{kindBy, kind-shows, argument-shows}
@@ -36,23 +41,21 @@ same-choice : (t : Table) (p : ℕ)
     → tableRefusal t ≡ 0
     → p < length t
     → (j k a b : ℕ)
-    → 1 ≤ j
-    → j ≤ 5
-    → 1 ≤ k
-    → k ≤ 5
+    → isKind j ≡ true
+    → isKind k ≡ true
     → allowed j (row t p) ≡ true
     → allowed k (row t p) ≡ true
     → argumentFits (length t) j (row t p) a ≡ true
     → argumentFits (length t) k (row t p) b ≡ true
     → moved t j p a ≡ moved t k p b
     → (j ≡ k) × (a ≡ b)
-same-choice t p z l j k a b j1 j5 k1 k5 hj hk fa fb e =
+same-choice t p z l j k a b kj kk hj hk fa fb e =
     let i : j ≡ k =
-    sym (kind-shows t p l j a j1 j5 hj)
+    sym (kind-shows t p l j a kj hj)
     ∙ ap (λ (u : Table). kindBy (row t p .location) (row u p .location)) e
-    ∙ kind-shows t p l k b k1 k5 hk in (
+    ∙ kind-shows t p l k b kk hk in (
       i,
-      argument-shows t p l k a b k1 k5 (sound-row t z p l) (sound-few t z) hk
+      argument-shows t p l k a b kk (sound-row t z p l) (sound-few t z) hk
           (subst (λ (x : ℕ). argumentFits (length t) x (row t p) a ≡ true) i fa) fb
           (subst (λ (x : ℕ). moved t x p a ≡ moved t k p b) i e),
     )
@@ -74,7 +77,7 @@ same-word t v w x y i e =
     ∙ accepted-moved t w y in
     let c =
     same-choice t p (accepted-table t w y) (sw .process-in) (kindOf v) (kindOf w) (argumentOf v) (argumentOf w)
-    (sv .kind-first) (sv .kind-last) (sw .kind-first) (sw .kind-last)
+    (sv .kind-known) (sw .kind-known)
     (subst (λ (q : ℕ). allowed (kindOf v) (row t q) ≡ true) i (sv .allowed-there)) (sw .allowed-there)
     (subst (λ (q : ℕ). argumentFits (length t) (kindOf v) (row t q) (argumentOf v) ≡ true) i (sv .argument-fits))
     (sw .argument-fits)
@@ -103,11 +106,9 @@ says-choice : (t : Table) (w k p a : ℕ)
     → argumentFits (length t) k (row t p) a ≡ true
     → Says t w
 says-choice t w k p a f ik ip ia l h g =
-    let kind = and-left (isKind (kindOf w)) (spareClear w) f in
     record {
       formed-so = f;
-      kind-first = leb-true _ _ (and-left (leb 1 (kindOf w)) (leb (kindOf w) 5) kind);
-      kind-last = leb-true _ _ (and-right (leb 1 (kindOf w)) (leb (kindOf w) 5) kind);
+      kind-known = and-eq-true-iff (isKind (kindOf w)) (spareClear w) .0 f .0;
       process-in = subst (λ (x : ℕ). x < length t) (sym ip) l;
       allowed-there = ap₂ (λ (x y : ℕ). allowed x (row t y)) ik ip ∙ h;
       argument-fits =
@@ -152,7 +153,7 @@ module _ (t : Table) (p : ℕ) (z : tableRefusal t ≡ 0) (l : p < length t) whe
   unfolding allowed argumentFits moved
   chosen-go v e o m =
       let h = oneOf-at (row t p .location) v goes e o in
-      chosen GO 0 refl (or-left (oneOf (row t p .location) goes) _ h) refl (omega arith) m
+      chosen GO 0 refl (or-eq-true-iff (oneOf (row t p .location) goes) _ .1 (Or·inl h)) refl (omega arith) m
 
   -- FLICKER away from 24
   chosen-act : (v a : ℕ)
@@ -178,7 +179,8 @@ module _ (t : Table) (p : ℕ) (z : tableRefusal t ≡ 0) (l : p < length t) whe
   chosen-look q e h m =
       let some : row t p .lis ≢ 0 = λ i. false≢true (sym (has-zero q) ∙ ap (λ (s : ℕ). has s q) (sym i) ∙ h) in
       chosen LOOK q refl
-      (and-intro (eqb (row t p .location) 22) (not (eqb (row t p .lis) 0)) (eq-eqb _ _ e) (ap not (ne-eqb _ _ some)))
+      (and-eq-true-iff (eqb (row t p .location) 22) (not (eqb (row t p .lis) 0)) .1
+      (eq-eqb _ _ e, ap not (ne-eqb _ _ some)))
       h (member-low (decLt q 256)) m
     where
       member-low : Dec (q < 256) → q < 256
@@ -200,8 +202,8 @@ module _ (t : Table) (p : ℕ) (z : tableRefusal t ≡ 0) (l : p < length t) whe
   one (keeps q e h a) = chosen-look q e h (rw (ne-eqb _ _ a))
   one (ends-pass e h) =
       chosen GO 0 refl
-      (or-right (oneOf (row t p .location) goes) _
-      (and-intro (eqb (row t p .location) 22) (eqb (row t p .lis) 0) (eq-eqb _ _ e) (eq-eqb _ _ h)))
+      (or-eq-true-iff (oneOf (row t p .location) goes) _ .1
+      (Or·inr (and-eq-true-iff (eqb (row t p .location) 22) (eqb (row t p .lis) 0) .1 (eq-eqb _ _ e, eq-eqb _ _ h))))
       refl (omega arith) (gone-22 t p e)
   one (lowers e h) = chosen-go 23 e refl (gone-23 t p e ∙ rw (lt-ltb _ _ h))
   one (to-push e h b) = chosen-go 23 e refl (gone-23 t p e ∙ rw (le-ltb _ _ h, eq-eqb _ _ b))

@@ -15,8 +15,10 @@ use Rattle.counting.proofs.SetLaws.{set-empty}
 use Rattle.counting.proofs.SizeLaws.{size-member, size-pos}
 use Rattle.machine.specs.Tables.{Table, row, locations, tableRefusal}
 use Rattle.machine.specs.System.{Step}
-use Rattle.machine.specs.System.Step.{rests, enters, starts-pass, wins, discards, keeps, ends-pass, lowers, to-push, waits, skips, pushes, exits, leaves}
-use Rattle.machine.proofs.TestLaws.{by-one, split}
+use Rattle.machine.specs.System.Step.{rests, enters, starts-pass, wins, discards, keeps, ends-pass, lowers}
+use Rattle.machine.specs.System.Step.{to-push, waits, skips, pushes, exits, leaves}
+use Rattle.counting.proofs.TestLaws.{split}
+use Rattle.machine.proofs.OneOfLaws.{by-one}
 use Rattle.machine.proofs.SoundRows.{sound-row, sound-few}
 
 -- a set of 16-bit processes has a member, or is empty

@@ -3,10 +3,10 @@
 --   same-outcome    then nothing changed, or both are FLICKERs of one turn cell to one value
 --
 -- Assumes nothing.
-use Prim.Native.Nat.{ℕ, zero, suc, _≤_, _<_}
+use Prim.Native.Nat.{ℕ, _<_}
 use mathlib.Core.Path.{_≡_, refl, sym, ap, _∙_, subst}
 use mathlib.Core.Bool.{true, cond, false≢true}
-use mathlib.Core.Logic.{_≢_, _⊎_, inl, inr, ⊎-elim}
+use mathlib.Core.Logic.{_≢_, _⊎_, inl, inr, ⊎-elim, by-cases}
 use native.Mathlib.Decide.{ℕ-discrete}
 use native.Mathlib.Omega.{arith}
 use lib.Dec.{eqb}
@@ -17,11 +17,12 @@ use Rattle.counting.specs.Sets.{has}
 use Rattle.counting.proofs.SetLaws.{without-same}
 use Rattle.machine.specs.Rows.{blank, withLocation, withAct, withTurn}
 use Rattle.machine.specs.Tables.{Table, row}
-use Rattle.machine.specs.Words.{STAY, COME, FLICKER, GO, LOOK, kindOf, processOf, argumentOf}
-use Rattle.machine.specs.Steps.{flickered, moved, allowed, argumentFits, refusalOf, afterWord}
+use Rattle.machine.specs.Words.{STAY, COME, FLICKER, GO, LOOK, isKind, kindOf, processOf, argumentOf}
+use Rattle.machine.specs.Steps.{moved, allowed, argumentFits, refusalOf, afterWord}
 use Rattle.machine.specs.System.{turnAssigned}
 use Rattle.machine.specs.declared.Row.{Row}
-use Rattle.machine.proofs.TestLaws.{split}
+use Rattle.counting.proofs.TestLaws.{split}
+use Rattle.machine.proofs.KindLaws.{by-kind}
 use Rattle.machine.proofs.TableLaws.{row-same, turn-same, turn-other}
 use Rattle.machine.proofs.SoundRows.{sound-row}
 use Rattle.machine.proofs.Forms.{flickered-act, flickered-turn}
@@ -49,34 +50,37 @@ turn-again t k a e = ap (λ (x : ℕ). set t k (withTurn x (row t k))) (sym e) �
 module _ (t : Table) (p : ℕ) (l : p < length t) where
   -- nothing changed, or it is a FLICKER at 24
   quiet-choice : (k a : ℕ)
-      → 1 ≤ k
-      → k ≤ 5
+      → isKind k ≡ true
       → allowed k (row t p) ≡ true
       → argumentFits (length t) k (row t p) a ≡ true
       → Untouched (row t p) (row (moved t k p a) p)
       → (moved t k p a ≡ t) ⊎ ((k ≡ FLICKER) × (row t p .location ≡ 24))
   unfolding moved allowed argumentFits
-  quiet-choice zero a x y h g s = absurd (omega arith)
-  quiet-choice (suc zero) a x y h g s = inl refl
-  quiet-choice (suc (suc zero)) a x y h g s =
+  quiet-choice k a =
+      by-kind
+      (λ k.
+      allowed k (row t p) ≡ true
+      → argumentFits (length t) k (row t p) a ≡ true
+      → Untouched (row t p) (row (moved t k p a) p)
+      → (moved t k p a ≡ t) ⊎ ((k ≡ FLICKER) × (row t p .location ≡ 24)))
+      (λ h g s. inl refl)
+      (λ h g s.
       let e = eqb-true (row t p .location) 10 h in
       let f = ap (λ (r : Row). r .location) (row-same t p (withLocation 20 (row t p)) l) in
       let i = s .location-same in
-      absurd (omega arith)
-  quiet-choice (suc (suc (suc zero))) a x y h g s = go (ℕ-discrete (row t p .location) 24)
-    where
-      go : Dec (row t p .location ≡ 24) → (flickered t p a ≡ t) ⊎ ((FLICKER ≡ FLICKER) × (row t p .location ≡ 24))
-      go (yes e) = inr (refl, e)
-      go (no ne) = inl (flickered-act t p a ne ∙ act-again t p a (sym (s .act-same) ∙ act-shows t p l a ne))
-  quiet-choice (suc (suc (suc (suc zero)))) a x y h g s =
+      absurd (omega arith))
+      (λ h g s. by-cases (ℕ-discrete (row t p .location) 24)
+      (λ e. inr (refl, e))
+      (λ ne. inl (flickered-act t p a ne ∙ act-again t p a (sym (s .act-same) ∙ act-shows t p l a ne))))
+      (λ h g s.
       absurd
       (stays-put (row t p .location)
-      (ap (λ (v : ℕ). kindBy (row t p .location) v) (sym (s .location-same)) ∙ kind-shows t p l GO a x y h))
-  quiet-choice (suc (suc (suc (suc (suc zero))))) a x y h g s =
+      (ap (λ (v : ℕ). kindBy (row t p .location) v) (sym (s .location-same)) ∙ kind-shows t p l GO a refl h)))
+      (λ h g s.
       absurd
       (false≢true
-      (sym (without-same (row t p .lis) a) ∙ ap (λ (i : ℕ). has i a) (sym (lis-shows t p l a) ∙ s .lis-same) ∙ g))
-  quiet-choice (suc (suc (suc (suc (suc (suc k)))))) a x y h g s = absurd (omega arith)
+      (sym (without-same (row t p .lis) a) ∙ ap (λ (i : ℕ). has i a) (sym (lis-shows t p l a) ∙ s .lis-same) ∙ g)))
+      k
 
 -- ---- words
 
@@ -102,7 +106,7 @@ quiet-word t w y s =
     let i = ap (λ (k : ℕ). moved t k p (argumentOf w)) (f .0) in
     inr (f .0, f .1, m ∙ i ∙ moved-turn t p (argumentOf w) (f .1)))
     (quiet-choice t p (c .process-in) (kindOf w) (argumentOf w)
-    (c .kind-first) (c .kind-last) (c .allowed-there) (c .argument-fits)
+    (c .kind-known) (c .allowed-there) (c .argument-fits)
     (subst (λ (u : Table). Untouched (row t p) (row u p)) m s))
 
 -- FLICKERs of turn cells with the same table after them: one cell and one value, or nothing changed

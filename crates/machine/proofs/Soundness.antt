@@ -21,10 +21,13 @@ use Rattle.machine.specs.Tables.{Table, row, oneOf, locations, tableRefu
 use Rattle.machine.specs.Words.{processOf}
 use Rattle.machine.specs.Steps.{afterWord, afterWords}
 use Rattle.machine.specs.System.{assigned, turnAssigned, Cp, Step}
-use Rattle.machine.specs.System.Step.{rests, comes, flickers-20, enters, starts-pass, wins, discards, keeps, ends-pass, lowers, to-push, waits, skips, flickers-24, pushes, exits, flickers-40, leaves}
+use Rattle.machine.specs.System.Step.{rests, comes, flickers-20, enters, starts-pass, wins, discards, keeps}
+use Rattle.machine.specs.System.Step.{ends-pass, lowers, to-push, waits, skips, flickers-24, pushes, exits}
+use Rattle.machine.specs.System.Step.{flickers-40, leaves}
 use Rattle.machine.specs.declared.Row.{Row}
 use Rattle.machine.proofs.SoundRows.{SoundRow, sound-rows, rows-sound}
-use Rattle.machine.proofs.SoundCells.{without-fits, sound-moved, sound-act, sound-bb, sound-est, sound-lis, sound-ahead, SoundTable, sound-set, sound-turned, sound-mapped}
+use Rattle.machine.proofs.SoundCells.{without-fits, sound-moved, sound-act, sound-bb, sound-est, sound-lis}
+use Rattle.machine.proofs.SoundCells.{sound-ahead, SoundTable, sound-set, sound-turned, sound-mapped}
 use Rattle.machine.proofs.Accepted.{word-cases, always}
 
 -- ---- a step

@@ -8,17 +8,17 @@
 -- Assumes nothing.
 use Prim.Native.Nat.{ℕ, _+_, _*_, _/_, _%_, _^_, _≤_, _<_}
 use mathlib.Core.Path.{_≡_, refl, sym, ap, _∙_}
-use mathlib.Core.Bool.{Bool, true, false, cond, not}
+use mathlib.Core.Bool.{Bool, true, false, cond, not, and-eq-true-iff}
 use native.Mathlib.Omega.{arith}
 use lib.Dec.{eqb, leb}
 use lib.Pow.{split as splits, mod-pow-add}
 use borrow.Author.Tests.{eqb-true, leb-true, eq-eqb, le-leb}
 use Rattle.machine.specs.Refusals.{badKind, noProcess, badArgument}
-use Rattle.machine.specs.Words.{isKind, kindOf, processOf, argumentOf, spareClear, formed, wordOf, apart, together}
+use Rattle.machine.specs.Words.{isKind, kindOf, processOf, argumentOf, spareClear, formed, wordOf, apart}
+use Rattle.machine.specs.Words.{together}
 use Rattle.machine.specs.declared.Parts.{Parts}
 use Rattle.machine.specs.declared.Apart.{Apart}
 use Rattle.machine.specs.declared.Together.{Together}
-use Rattle.machine.proofs.TestLaws.{and-left, and-right, and-intro}
 
 -- ---- the parts of a made word
 
@@ -39,10 +39,10 @@ module _ (k p a : ℕ) (hp : p < 256) (ha : a < 256) where
   low-clear = omega arith
 
   pub spare-wordOf : spareClear (wordOf k p a) ≡ true
-  spare-wordOf = and-intro _ _ (eq-eqb _ _ high-clear) (eq-eqb _ _ low-clear)
+  spare-wordOf = and-eq-true-iff _ _ .1 (eq-eqb _ _ high-clear, eq-eqb _ _ low-clear)
 
   pub formed-wordOf : isKind k ≡ true → formed (wordOf k p a) ≡ true
-  formed-wordOf h = and-intro _ _ (ap isKind kind-wordOf ∙ h) spare-wordOf
+  formed-wordOf h = and-eq-true-iff _ _ .1 (ap isKind kind-wordOf ∙ h, spare-wordOf)
 
 -- ---- the word of its parts
 
@@ -59,11 +59,11 @@ join w k x h y p z s a e f g i j l = omega arith
 
 pub formed-is : (w : ℕ) → formed w ≡ true → wordOf (kindOf w) (processOf w) (argumentOf w) ≡ w
 formed-is w h =
-    let s = and-right (isKind (kindOf w)) (spareClear w) h in
+    let s = and-eq-true-iff (isKind (kindOf w)) (spareClear w) .0 h .1 in
     let x : w / 2 ^ 24 % 2 ^ 4 ≡ 0 =
-    eqb-true _ _ (and-left (eqb (w / 2 ^ 24 % 2 ^ 4) 0) (eqb (w / 2 ^ 8 % 2 ^ 8) 0) s) in
+    eqb-true _ _ (and-eq-true-iff (eqb (w / 2 ^ 24 % 2 ^ 4) 0) (eqb (w / 2 ^ 8 % 2 ^ 8) 0) .0 s .0) in
     let y : w / 2 ^ 8 % 2 ^ 8 ≡ 0 =
-    eqb-true _ _ (and-right (eqb (w / 2 ^ 24 % 2 ^ 4) 0) (eqb (w / 2 ^ 8 % 2 ^ 8) 0) s) in
+    eqb-true _ _ (and-eq-true-iff (eqb (w / 2 ^ 24 % 2 ^ 4) 0) (eqb (w / 2 ^ 8 % 2 ^ 8) 0) .0 s .1) in
     join w _ _ _ _ _ _ _ _ (splits w 28) (mod-pow-add w 4 24) (mod-pow-add w 8 16) (mod-pow-add w 8 8) x y
 
 -- words with the same parts are the same
@@ -99,7 +99,7 @@ module _ (w : ℕ) where
       → together (x .kind) (x .process) (x .argument) ≡ Together.Word w
   together-apart x h =
       let c = apart-is x h in
-      let kind : isKind (kindOf w) ≡ true = and-left (isKind (kindOf w)) (spareClear w) (c .0) in
+      let kind : isKind (kindOf w) ≡ true = and-eq-true-iff (isKind (kindOf w)) (spareClear w) .0 (c .0) .0 in
       let low : leb (argumentOf w) 255 ≡ true = le-leb (argumentOf w) 255 (omega arith) in
       ap (λ (y : Parts). together (y .kind) (y .process) (y .argument)) (sym (c .2))
       ∙ made (isKind (kindOf w)) (leb (processOf w) 15) (leb (argumentOf w) 255) kind (c .1) low
@@ -117,7 +117,7 @@ module _ (w : ℕ) where
       made a b c x y z = rw (x, y, z)
 
 module _ (k p a w : ℕ) where
-  -- what was put together has one of the five kinds, a process up to 15 and an argument up to 255
+  -- what was put together has one of the kinds, a process up to 15 and an argument up to 255
   together-is : together k p a ≡ Together.Word w
       → (isKind k ≡ true) × (leb p 15 ≡ true) × (leb a 255 ≡ true) × (wordOf k p a ≡ w)
   together-is = go (isKind k) (leb p 15) (leb a 255)

@@ -1,9 +1,10 @@
 -- Images: a table as 32-bit words, its serialized state (document 01, "Images").
 --
 --   slots n       ==   what each word of an image of n processes after the first stands for, in order.
---   imageOf t     ==   the image of a table: 5N words.
+--   imageOf t     ==   the image of a table.
 --   readImage ws  ==   the table that an image is of, or the refusal 1 to 5 with its place.
---   writtenOf t l ==   lent words l after the image of t was written into them: 6, 7, then 13, or the first 5N set.
+--   imageLength n ==   how many words an image of n processes has; rowPlace, turnPlace say where they stand.
+--   writtenOf t l ==   lent words l after the image of t was written into them: 6, 7, then 13, or the first words set.
 --
 -- A kind of word is stated once: where its fields stand (bodyOf, spareBody), its ranges (inRange). Assumes nothing.
 use Prim.Native.Nat.{ℕ, zero, suc, _+_, _-_, _*_, _/_, _%_, _^_, min}
@@ -11,9 +12,12 @@ use mathlib.Core.Bool.{Bool, true, false, cond, _&&_, not}
 use mathlib.Core.List.{List, [], _∷_, _++_, map}
 use lib.Dec.{eqb, leb, ltb}
 use lib.ListN.{length, getD, drop}
-use Rattle.machine.specs.Refusals.{accepted, noHeader, wrongLength, malformed, outOfRange, levelMisfit, tooFewLent}
+use Rattle.counting.specs.Placing.{placed}
+use Rattle.machine.specs.Refusals.{accepted, noHeader, wrongLength, malformed, outOfRange}
+use Rattle.machine.specs.Refusals.{levelMisfit, tooFewLent}
 use Rattle.machine.specs.Tables.{Table, row, locations, levelFits, tableRefusal, handed}
 use Rattle.machine.specs.declared.Row.{Row}
+use Rattle.machine.specs.declared.Found.{Found}
 use Rattle.machine.specs.declared.NewTable.{NewTable}
 
 -- ---- the layout
@@ -60,13 +64,21 @@ slots n = rowSlots 0 n ++ turnSlots 1 (n - 1)
 abbrev pub imageLength : ℕ → ℕ
 imageLength n = 5 * n
 
+-- where the first of the four words of process q stands
+abbrev pub rowPlace : ℕ → ℕ
+rowPlace q = 4 * q + 1
+
+-- where the word of turn[k] stands in an image of n processes
+abbrev pub turnPlace : ℕ → ℕ → ℕ
+turnPlace n k = 4 * n + k
+
 -- the first word: bit 31 and the number of processes
 abbrev pub headerOf : ℕ → ℕ
 headerOf n = 2 ^ 31 + n
 
 -- how many processes a first word names, and whether it is a header
 abbrev pub sizeIn : ℕ → ℕ
-sizeIn w = w - 2 ^ 31
+sizeIn w = w - headerOf 0
 
 abbrev pub isHeader : ℕ → Bool
 isHeader w = leb (headerOf 2) w && leb w (headerOf 16)
@@ -144,10 +156,9 @@ pub record Written : Type 0 where
 unfoldable pub writtenOf : Table → List ℕ → Written
 unfolding tableRefusal imageOf
 writtenOf t l =
-    let n = imageLength (length t) in
     cond (not (eqb (tableRefusal t) accepted)) (record { refusal = tableRefusal t; words = l })
-    (cond (not (leb n (length l))) (record { refusal = tooFewLent; words = l })
-    (record { refusal = accepted; words = imageOf t ++ drop n l }))
+    (cond (not (leb (imageLength (length t)) (length l))) (record { refusal = tooFewLent; words = l })
+    (record { refusal = accepted; words = placed l 0 (imageOf t) }))
 
 -- ---- reading
 
@@ -167,11 +178,6 @@ slotRefusal n s w =
     (cond (not (inRange n (s .kind) w)) outOfRange
     (cond (eqb (s .kind) STATE && not (levelFits (locationIn w) (levelIn w))) levelMisfit accepted))
 
--- a refusal and its place
-pub record Found : Type 0 where
-  pub refusal : ℕ
-  pub place : ℕ
-
 -- the first refusal of the words at their slots, the first of which stands at place i; place 0 where there is none
 unfoldable pub firstRefusal : ℕ → ℕ → List Slot → List ℕ → Found
 unfolding slotRefusal
@@ -186,16 +192,16 @@ firstRefusal n i (s ∷ ss) (w ∷ ws) =
 -- process q's row of an image of n processes; row 0 holds turn 0
 abbrev pub rowIn : ℕ → List ℕ → ℕ → Row
 rowIn n ws q =
-    let b = getD ws (4 * q + 1) 0 in
+    let b = getD ws (rowPlace q) 0 in
     record {
       location = locationIn b;
       act = actIn b;
       bb = bbIn b;
       level = levelIn b;
-      est = setIn (getD ws (4 * q + 2) 0);
-      lis = setIn (getD ws (4 * q + 3) 0);
-      ahead = setIn (getD ws (4 * q + 4) 0);
-      turn = cond (eqb q 0) 0 (turnIn (getD ws (4 * n + q) 0));
+      est = setIn (getD ws (rowPlace q + 1) 0);
+      lis = setIn (getD ws (rowPlace q + 2) 0);
+      ahead = setIn (getD ws (rowPlace q + 3) 0);
+      turn = cond (eqb q 0) 0 (turnIn (getD ws (turnPlace n q) 0));
     }
 
 -- the rows of m processes from q on

@@ -9,4 +9,6 @@ pub mod Census
 pub mod Runs
 pub mod Images
 pub mod Bytes
+pub mod Inputs
+pub mod Calls
 pub mod Text

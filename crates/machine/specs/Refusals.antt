@@ -9,7 +9,7 @@ accepted = 0
 abbrev pub noHeader : ℕ
 noHeader = 1
 
--- an image: not 5N words
+-- an image: not as many words as an image of its size has
 abbrev pub wrongLength : ℕ
 wrongLength = 2
 
@@ -53,7 +53,7 @@ badArgument = 11
 abbrev pub tooManyWords : ℕ
 tooManyWords = 12
 
--- an image out: fewer than 5N lent words
+-- an image out: fewer lent words than it has
 abbrev pub tooFewLent : ℕ
 tooFewLent = 13
 

@@ -37,22 +37,30 @@ pub record Outcome : Type 0 where
   pub tally : Tally
   pub refusal : ℕ
 
+-- a run that has ended
+abbrev pub ended : Table → Tally → ℕ → Outcome
+ended t h n = record { table = t; tally = h; refusal = n }
+
+-- a run that is refused before any word is taken
+abbrev pub untaken : Table → ℕ → Outcome
+untaken t n = ended t zeroTally n
+
 -- what a run answers: how many words were taken, and the refusal or 0
 abbrev pub ranOf : Outcome → Ran
 ranOf o = record { taken = o .tally .words; refusal = o .refusal }
 
 unfoldable pub runFrom : Table → Tally → List ℕ → Outcome
 unfolding refusalOf afterWord eventOf
-runFrom t h [] = record { table = t; tally = h; refusal = accepted }
+runFrom t h [] = ended t h accepted
 runFrom t h (w ∷ ws) =
     elim (eqb (refusalOf t w) accepted) [
       | true ↦ runFrom (afterWord t w) (counted (eventOf t w) h) ws
-      | false ↦ record { table = t; tally = h; refusal = refusalOf t w }
+      | false ↦ ended t h (refusalOf t w)
     ]
 
 unfoldable pub runOf : Table → List ℕ → Outcome
 unfolding tableRefusal runFrom
 runOf t ws =
     let taken = runFrom t zeroTally ws in
-    cond (not (eqb (tableRefusal t) accepted)) (record { table = t; tally = zeroTally; refusal = tableRefusal t })
-    (cond (not (leb (length ws) limit)) (record { table = t; tally = zeroTally; refusal = tooManyWords }) taken)
+    cond (not (eqb (tableRefusal t) accepted)) (untaken t (tableRefusal t))
+    (cond (not (leb (length ws) limit)) (untaken t tooManyWords) taken)

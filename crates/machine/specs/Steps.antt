@@ -7,7 +7,9 @@
 --   refusalOf t w    ==  the step's refusal: 6, 7, then the word's, or 0.
 --   afterWord t w    ==  the table after the step; the one given where the step refuses.
 --   afterWords t ws  ==  the table after a list of words, given one by one; a refused word is passed over.
---   answerOf t w     ==  the step's answer: the event of an accepted word, or the number of the refusal.
+--   toldOf t w       ==  what the step tells of an accepted word; `quiet` is nothing, `withEvent` sets a field.
+--   answerOf t w     ==  the step's answer: what it tells of an accepted word, or the number of the refusal.
+--   stepAnswerOf t w ==  the step's answer to C.
 --
 -- Assumes nothing.
 use Prim.Native.Nat.{ℕ, _-_}
@@ -22,7 +24,9 @@ use Rattle.machine.specs.Tables.{Table, row, oneOf, tableRefusal, compet
 use Rattle.machine.specs.Words.{STAY, COME, FLICKER, GO, LOOK, kindOf, processOf, argumentOf, formed}
 use Rattle.machine.specs.declared.Row.{Row}
 use Rattle.machine.specs.declared.Event.{Event}
+use Rattle.machine.specs.declared.Told.{Told}
 use Rattle.machine.specs.declared.Stepped.{Stepped}
+use Rattle.machine.specs.declared.StepAnswer.{StepAnswer}
 
 -- ---- the row of the process that moves
 
@@ -50,7 +54,7 @@ reconsidered p v r =
 unfoldable pub pushed : ℕ → ℕ → ℕ → Row → Row
 pushed n p c r = withLocation 21 (withBb 1 (withEst (others n p) (withAhead (without c p) r)))
 
--- GO, the row of p
+-- GO, the row of p; elsewhere than at the seven locations GO is not allowed
 unfoldable pub goRow : ℕ → ℕ → ℕ → ℕ → Row → Row
 goRow n p c v r =
     cond (eqb (r .location) 20) (entered n p c r)
@@ -59,7 +63,7 @@ goRow n p c v r =
     (cond (eqb (r .location) 23) (reconsidered p v r)
     (cond (eqb (r .location) 24) (pushed n p c r)
     (cond (eqb (r .location) 30) (withLocation 40 r)
-    (withLocation 10 (withAct 0 r)))))))
+    (cond (eqb (r .location) 40) (withLocation 10 (withAct 0 r)) r))))))
 
 -- ---- the table
 
@@ -83,7 +87,7 @@ gone t p =
     let u = set t p (goRow (length t) p (competitors t) (row t (r .level) .turn) r) in
     cond (eqb (r .location) 24) (turned (r .level) p u) (cond (eqb (r .location) 30) (map (forgets p) u) u)
 
--- every kind
+-- every kind; a number that is none moves nothing
 unfoldable pub moved : Table → ℕ → ℕ → ℕ → Table
 moved t k p a =
     let came = set t p (withLocation 20 (row t p)) in
@@ -91,7 +95,8 @@ moved t k p a =
     cond (eqb k STAY) t
     (cond (eqb k COME) came
     (cond (eqb k FLICKER) (flickered t p a)
-    (cond (eqb k GO) (gone t p) seen)))
+    (cond (eqb k GO) (gone t p)
+    (cond (eqb k LOOK) seen t))))
 
 -- ---- what refuses a word
 
@@ -142,6 +147,16 @@ unfolding afterWord
 afterWords t [] = t
 afterWords t (w ∷ ws) = afterWords (afterWord t w) ws
 
+-- ---- the answer
+
+-- there is nothing to tell
+abbrev pub quiet : Told
+quiet = record { event = Event.Quiet }
+
+-- the same but for the event
+abbrev pub withEvent : Event → Told → Told
+withEvent e s = record { event = e }
+
 -- the event of an accepted word: a COME; a process that was elsewhere is at 30 now; neither
 unfoldable pub eventOf : Table → ℕ → Event
 unfolding afterWord
@@ -151,7 +166,13 @@ eventOf t w =
     cond (eqb (kindOf w) COME) Event.Come
     (cond (not (eqb before 30) && eqb after 30) Event.Arrival Event.Quiet)
 
+abbrev pub toldOf : Table → ℕ → Told
+toldOf t w = record { event = eventOf t w }
+
 unfoldable pub answerOf : Table → ℕ → Stepped
 unfolding refusalOf eventOf
 answerOf t w =
-    cond (eqb (refusalOf t w) accepted) (Stepped.Moved (eventOf t w)) (Stepped.Refused (refusalOf t w))
+    cond (eqb (refusalOf t w) accepted) (Stepped.Moved (toldOf t w)) (Stepped.Refused (refusalOf t w))
+
+abbrev pub stepAnswerOf : Table → ℕ → StepAnswer
+stepAnswerOf t w = record { refusal = refusalOf t w }

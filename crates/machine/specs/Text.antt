@@ -1,23 +1,24 @@
 -- The printed run, byte for byte (document 01, "The printed run and the call from C").
 --
---   decimal n      ==  the decimal digits of n, as ASCII codes.
+--   decimal n       ==  the decimal digits of n, as ASCII codes.
+--   line s ns       ==  a line: the text s and the numbers ns, with a space between two.
 --   runLines t i ws ==  a line for each taken word, the first of which is word i, and the last line.
---   printed bs     ==  the text of the run that the input bytes hold.
+--   textOf i        ==  the text for what an input holds.
+--   printed bs      ==  the same for the input bytes bs.
 --
 -- Assumes nothing.
 use Prim.Native.Nat.{ℕ, zero, suc, _+_, _/_, _%_}
 use mathlib.Core.Bool.{true, false}
 use mathlib.Core.List.{List, [], _∷_, _++_}
-use lib.Dec.{eqb, leb, ltb}
+use lib.Dec.{eqb, ltb}
 use lib.ListN.{length}
 use Rattle.machine.specs.Refusals.{accepted, tooManyWords, badBytes}
 use Rattle.machine.specs.Tables.{Table, row}
 use Rattle.machine.specs.Words.{processOf}
 use Rattle.machine.specs.Steps.{refusalOf, afterWord}
 use Rattle.machine.specs.Census.{critical}
-use Rattle.machine.specs.Runs.{limit}
-use Rattle.machine.specs.Images.{imageRefusal, tableIn}
-use Rattle.machine.specs.Bytes.{wordsIn, bytesFit, imagePart, eventPart}
+use Rattle.machine.specs.Inputs.{Input, inputOf}
+use Rattle.machine.specs.Inputs.Input.{BadBytes, BadImage, TooMany, Ready}
 
 -- ---- the fixed byte strings
 
@@ -52,47 +53,55 @@ digits (suc k) n = elim (ltb n 10) [ true ↦ (48 + n) ∷ [] | false ↦ digits
 abbrev pub decimal : ℕ → List ℕ
 decimal n = digits 20 n
 
--- numbers with a space between two, and a line feed at the end
-unfoldable pub numbers : List ℕ → List ℕ
-numbers [] = 10 ∷ []
-numbers (n ∷ []) = decimal n ++ (10 ∷ [])
-numbers (n ∷ m ∷ ns) = decimal n ++ (32 ∷ numbers (m ∷ ns))
+-- numbers with a space between two
+unfoldable pub spaced : List ℕ → List ℕ
+spaced [] = []
+spaced (n ∷ []) = decimal n
+spaced (n ∷ m ∷ ns) = decimal n ++ (32 ∷ spaced (m ∷ ns))
+
+-- a line: a text, numbers with a space between two, a line feed
+abbrev pub line : List ℕ → List ℕ → List ℕ
+line s ns = s ++ (spaced ns ++ (10 ∷ []))
 
 -- ---- the text of a run
 
--- a taken word: its place, its process, its location before and after, the number at 30 after
-abbrev pub wordLine : Table → ℕ → ℕ → List ℕ
-wordLine t i w =
+-- the fields of a taken word: its place, its process, its location before and after, the number at 30 after
+abbrev pub wordFields : Table → ℕ → ℕ → List ℕ
+wordFields t i w =
     let p = processOf w in
     let u = afterWord t w in
-    numbers (i ∷ p ∷ row t p .location ∷ row u p .location ∷ critical u ∷ [])
+    i ∷ p ∷ row t p .location ∷ row u p .location ∷ critical u ∷ []
+
+abbrev pub wordLine : Table → ℕ → ℕ → List ℕ
+wordLine t i w = line [] (wordFields t i w)
+
+-- the first line, and the last one of a run that took i words: all of them, or up to one that is refused
+abbrev pub postsLine : Table → List ℕ
+postsLine t = line postsText (length t ∷ [])
+
+abbrev pub doneLine : ℕ → List ℕ
+doneLine i = line doneText (i ∷ [])
+
+abbrev pub stopLine : ℕ → ℕ → List ℕ
+stopLine i why = line stopText (i ∷ why ∷ [])
 
 unfoldable pub runLines : Table → ℕ → List ℕ → List ℕ
-unfolding numbers refusalOf afterWord
-runLines t i [] = doneText ++ numbers (i ∷ [])
+unfolding spaced refusalOf afterWord
+runLines t i [] = doneLine i
 runLines t i (w ∷ ws) =
     elim (eqb (refusalOf t w) accepted) [
       | true ↦ wordLine t i w ++ runLines (afterWord t w) (suc i) ws
-      | false ↦ stopText ++ numbers (i ∷ refusalOf t w ∷ [])
+      | false ↦ stopLine i (refusalOf t w)
     ]
 
+-- what an input holds, printed
+unfoldable pub textOf : Input → List ℕ
+unfolding spaced runLines
+textOf BadBytes = line inputText (badBytes ∷ [])
+textOf (BadImage place why) = line imageText (place ∷ why ∷ [])
+textOf (TooMany t) = postsLine t ++ stopLine 0 tooManyWords
+textOf (Ready t ws) = postsLine t ++ runLines t 0 ws
+
 unfoldable pub printed : List ℕ → List ℕ
-unfolding wordsIn imageRefusal tableIn numbers runLines
-printed bs =
-    let ws = wordsIn bs in
-    let f = imageRefusal (imagePart ws) in
-    let t = tableIn (imagePart ws) in
-    let run = runLines t 0 (eventPart ws) in
-    let first = postsText ++ numbers (length t ∷ []) in
-    elim (bytesFit bs) [
-      | false ↦ inputText ++ numbers (badBytes ∷ [])
-      | true ↦
-          elim (eqb (f .refusal) accepted) [
-            | false ↦ imageText ++ numbers (f .place ∷ f .refusal ∷ [])
-            | true ↦
-                elim (leb (length (eventPart ws)) limit) [
-                  | false ↦ first ++ (stopText ++ numbers (0 ∷ tooManyWords ∷ []))
-                  | true ↦ first ++ run
-                ]
-          ]
-    ]
+unfolding inputOf textOf
+printed bs = textOf (inputOf bs)

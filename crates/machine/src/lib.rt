@@ -1,4 +1,7 @@
-// The declared types and constants of the engine. What they mean is said in specs/.
+// The declared types and constants of the engine, and setters of what a step tells. What they mean
+// is said in specs/.
+ghost use mathlib.Core.Path.{_≡_};
+ghost use Rattle.machine.specs.Steps.{withEvent};
 
 // One process: its location (program counter), its shared flag act, its private variables, its
 // history set ahead, and the shared cell turn[k] in the row of process k.
@@ -57,14 +60,27 @@ pub const GO: u16 = 4;
 
 pub const LOOK: u16 = 5;
 
+// The most processes of a table.
+pub const MOST_PROCESSES: usize = 16;
+
 // The most words of a run.
 pub const RUN_LIMIT: usize = 8192;
 
-// The most bytes of an input.
-pub const BYTES_LIMIT: usize = 33088;
+// The first word of an image, less the number of processes.
+pub const HEADER: u32 = 0x8000_0000;
 
-// The words that they hold.
-pub const INPUT_LIMIT: usize = 8272;
+// The most words and bytes of an image.
+pub const IMAGE_WORDS: usize = 5 * MOST_PROCESSES;
+
+pub const IMAGE_BYTES: usize = 4 * IMAGE_WORDS;
+
+// The most words and bytes of an input: an image and the words of a run.
+pub const INPUT_WORDS: usize = IMAGE_WORDS + RUN_LIMIT;
+
+pub const INPUT_BYTES: usize = 4 * INPUT_WORDS;
+
+// Room for the bytes of every text.
+pub const TEXT_BYTES: usize = 139300;
 
 // The refusals by number; specs/Refusals.antt says what each means.
 pub const NO_HEADER: u16 = 1;
@@ -114,6 +130,18 @@ pub enum Together {
     Refused(u16),
 }
 
+// A refusal and the place of the word of an image that it is about; refusal 0 is none.
+pub struct Found {
+    pub refusal: u16,
+    pub place: u16,
+}
+
+// The answer to an image: how many processes its table has, or the refusal.
+pub enum Reading {
+    Table(u16),
+    Refused { number: u16, place: u16 },
+}
+
 // What a tally counts of an accepted word.
 pub enum Event {
     Quiet,
@@ -121,9 +149,28 @@ pub enum Event {
     Arrival,
 }
 
-// The answer of a step: the event of an accepted word, or the number of the refusal.
+// What a step tells of an accepted word.
+pub struct Told {
+    pub event: Event,
+}
+
+impl Told {
+    // There is nothing to tell.
+    pub const QUIET: Told = Told {
+        event: Event::Quiet,
+    };
+
+    // The same but for the event.
+    pub fn with_event(self, event: Event) -> Told
+        ensures { λ s. ⌜ s ≡ withEvent event self ⌝ }
+    {
+        Told { event: event }
+    }
+}
+
+// The answer of a step: what it tells of an accepted word, or the number of the refusal.
 pub enum Stepped {
-    Moved(Event),
+    Moved(Told),
     Refused(u16),
 }
 
@@ -148,6 +195,12 @@ impl Tally {
 pub struct Ran {
     pub taken: u32,
     pub refusal: u32,
+}
+
+// The answer of a step to C: the refusal, or 0.
+#[repr(C)]
+pub struct StepAnswer {
+    pub refusal: u16,
 }
 
 // The census, the counts of a table, for each k from 0 to N; what stands past N is 0. Where the table is

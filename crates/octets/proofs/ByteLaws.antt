@@ -1,18 +1,17 @@
 -- Words and bytes undo each other; lengths; one word of a list. Assumes nothing.
-use mathlib.Core.Bool.{true}
+use mathlib.Core.Bool.{true, and-eq-true-iff}
 use mathlib.Core.Path.{_≡_, refl, sym, ap, _∙_}
 use mathlib.Core.List.{List, [], _∷_, _++_}
 use Prim.Native.Nat.{ℕ, zero, suc, _+_, _*_, _/_, _%_, _^_, _<_, _≤_}
 use native.Mathlib.Omega.{arith}
 use lib.Dec.{eqb, leb}
-use lib.ListN.{length, getD, take, drop}
-use lib.Seq.{take-at}
+use lib.ListN.{length, getD, take}
 use borrow.Author.Tests.{eqb-true, leb-true}
 use lib.Pow.{recompose, mod-pow-add}
 use Rattle.machine.specs.Bytes.{wordsIn, bytesOf, bytesFit, bytesLimit}
-use Rattle.machine.proofs.TestLaws.{and-left, and-right}
-use Rattle.octets.specs.Placing.{placed, wordOf, Whole}
-use Rattle.octets.proofs.PlacingLaws.{placed-first}
+use Rattle.counting.specs.Placing.{placed}
+use Rattle.octets.specs.Words.{wordOf, Whole}
+use Rattle.counting.proofs.PlacingLaws.{take-first}
 
 -- four times i, as the bytes are counted
 unfoldable pub fours : ℕ → ℕ
@@ -100,18 +99,15 @@ bytesOf-wordsIn (a ∷ b ∷ c ∷ d ∷ bs) h z =
 -- bytes that fit can be unpacked where there is room for their words
 pub whole-in : (bs ws : List ℕ) → bytesFit bs ≡ true → length bs ≤ 4 * length ws → Whole bs ws
 whole-in bs ws fit room =
-    let four = and-left (eqb (length bs % 4) 0) (leb (length bs) bytesLimit) fit in
+    let four = and-eq-true-iff (eqb (length bs % 4) 0) (leb (length bs) bytesLimit) .0 fit .0 in
     record { whole = eqb-true (length bs % 4) 0 four; room = room }
 
--- and 8,272 words are room for any
-pub fits-whole : (bs ws : List ℕ) → bytesFit bs ≡ true → length ws ≡ 8272 → Whole bs ws
-fits-whole bs ws fit room =
-    let few = leb-true (length bs) bytesLimit (and-right (eqb (length bs % 4) 0) (leb (length bs) bytesLimit) fit) in
-    whole-in bs ws fit (omega arith)
+-- and they are no more than the longest input has
+pub fits-few : (bs : List ℕ) → bytesFit bs ≡ true → length bs ≤ bytesLimit
+fits-few bs fit =
+    leb-true (length bs) bytesLimit (and-eq-true-iff (eqb (length bs % 4) 0) (leb (length bs) bytesLimit) .0 fit .1)
 
 module _ (bs ws y : List ℕ) (m : ℕ) (count : m ≡ length bs / 4) (placed-so : y ≡ placed ws 0 (wordsIn bs)) where
   -- as many words as were unpacked are the words of the bytes
   pub take-unpacked : take m y ≡ wordsIn bs
-  take-unpacked =
-      ap (take m) (placed-so ∙ placed-first ws (wordsIn bs))
-      ∙ take-at (wordsIn bs) (drop (length (wordsIn bs)) ws) m (length-wordsIn bs ∙ sym count)
+  take-unpacked = ap (take m) placed-so ∙ take-first ws (wordsIn bs) m (length-wordsIn bs ∙ sym count)

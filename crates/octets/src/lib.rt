@@ -4,14 +4,15 @@ ghost use mathlib.Core.List.{_∷_, []};
 ghost use Prim.Native.Nat.{_≤_, _+_, _*_, _/_};
 ghost use lib.ListN.{length};
 ghost use Rattle.machine.specs.Bytes.{wordsIn, bytesOf, bytesFit};
-ghost use Rattle.octets.specs.Placing.{placed, wordOf, Whole};
+ghost use Rattle.counting.specs.Placing.{placed};
+ghost use Rattle.octets.specs.Words.{wordOf, Whole};
 
 // Whether the bytes of an input are whole words and not too many.
 pub fn bytes_fit(input: &[u8]) -> bool
     ensures { λ r. ⌜ r ≡ bytesFit (now (input .entry)) ⌝ }
 {
     let n = input.len();
-    (n % 4 == 0) & (n <= machine::BYTES_LIMIT)
+    (n % 4 == 0) & (n <= machine::INPUT_BYTES)
 }
 
 // A byte as a word.

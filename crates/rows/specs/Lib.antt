@@ -1,3 +1,3 @@
 -- What the functions on rows require, beside the definitions of `machine`.
 pub mod Bounds
-pub mod Places
+pub mod Masks

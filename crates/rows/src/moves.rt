@@ -3,7 +3,7 @@
 use machine::Row;
 ghost use mathlib.Core.Path.{_≡_};
 ghost use Prim.Native.Nat.{_-_, _<_};
-ghost use Rattle.sets.specs.Answers.{Among};
+ghost use Rattle.sets.specs.Bounds.{Among};
 ghost use Rattle.machine.specs.Rows.{withLocation, withAct};
 ghost use Rattle.machine.specs.Steps.{entered, passed, looked, reconsidered, pushed, forgets};
 

@@ -1,17 +1,12 @@
 // Whether a row is within its ranges, and whether its process competes (machine/specs/Tables.antt).
+use crate::masks::fitting;
+use crate::masks::marked;
 use machine::Row;
 ghost use mathlib.Core.Path.{_≡_};
 ghost use mathlib.Core.Bool.{_&&_};
-ghost use lib.Dec.{eqb, ltb};
-ghost use Prim.Native.Nat.{_/_, _%_, _^_, _≤_};
+ghost use Prim.Native.Nat.{_≤_};
 ghost use Rattle.machine.specs.Tables.{oneOf, locations, levelFits, soundRow, competes};
 ghost use Rattle.rows.specs.Bounds.{Full};
-
-// Bit l is set where location l goes with level 0: 10, 20, 21, 30, 40.
-const LOCATIONS_AT_ZERO: u64 = 0x100_4030_0400;
-
-// Bit l is set where location l goes with a level above 0: 10, 20 to 24, 40.
-const LOCATIONS_ABOVE_ZERO: u64 = 0x100_01f0_0400;
 
 // The set of all n processes.
 pub fn full_set(n: u16) -> u16
@@ -22,21 +17,14 @@ pub fn full_set(n: u16) -> u16
     ((one << n) - 1) as u16
 }
 
-// Whether bit l of a mask is set; a mask has bits below 64 only.
-pub(crate) fn marked(mask: u64, l: u16) -> bool
-    ensures { λ b. ⌜ b ≡ (ltb l 64 && eqb (mask / 2 ^ (l % 64) % 2) 1) ⌝ }
-{
-    (l < 64) & ((mask >> (l % 64)) % 2 == 1)
-}
-
 // Whether location l is one of the eight and level v goes with it.
 pub fn location_fits(l: u16, v: u16) -> bool
     ensures { λ b. ⌜ b ≡ (oneOf l locations && levelFits l v) ⌝ }
 {
     if v == 0 {
-        return marked(LOCATIONS_AT_ZERO, l);
+        return marked(fitting(0), l);
     }
-    marked(LOCATIONS_ABOVE_ZERO, l)
+    marked(fitting(1), l)
 }
 
 // Whether row q of a table of n processes is within its ranges; `full` is the set of all n.

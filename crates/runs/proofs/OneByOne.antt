@@ -9,12 +9,13 @@ use mathlib.Core.List.{List, [], _∷_}
 use native.Mathlib.Decide.{ℕ-discrete, decLt}
 use native.Mathlib.Omega.{arith}
 use lib.ListN.{length, getD, take}
+use Rattle.machine.specs.Refusals.{tooManyWords}
 use Rattle.machine.specs.Tables.{Table, tableRefusal}
 use Rattle.machine.specs.Steps.{refusalOf, afterWord, afterWords, eventOf}
-use Rattle.machine.specs.Runs.{Outcome, counted, zeroTally, limit, runFrom, runOf}
+use Rattle.machine.specs.Runs.{Outcome, ended, untaken, counted, zeroTally, limit, runFrom, runOf}
 use Rattle.machine.specs.declared.Tally.{Tally}
 use Rattle.runs.proofs.RunLaws.{run-more, run-stop, run-end, counted-words}
-use Rattle.runs.proofs.RunLaws.{runOf-table, runOf-words, runOf-taken}
+use Rattle.machine.proofs.RunLaws.{runOf-table, runOf-words, runOf-taken}
 
 -- k words were taken of ws, from table t, with outcome o
 pub record Taken (t : Table) (ws : List ℕ) (k : ℕ) (o : Outcome) : Type 0 where
@@ -34,7 +35,7 @@ pub record Stepwise (t : Table) (ws : List ℕ) (k : ℕ) (o : Outcome) : Type 0
 abbrev Steps : Table → Tally → List ℕ → Outcome → Type 0
 Steps t h ws o = (k : ℕ) × (o .tally .words ≡ h .words + k) × Stepwise t ws k o
 
-none : (t : Table) (h : Tally) → Steps t h [] (record { table = t; tally = h; refusal = 0 })
+none : (t : Table) (h : Tally) → Steps t h [] (ended t h 0)
 unfolding afterWords
 none t h = (
   0,
@@ -48,7 +49,7 @@ none t h = (
 )
 
 module _ (t : Table) (h : Tally) (w : ℕ) (ws : List ℕ) where
-  stop : (refusalOf t w ≡ 0 → ⊥) → Steps t h (w ∷ ws) (record { table = t; tally = h; refusal = refusalOf t w })
+  stop : (refusalOf t w ≡ 0 → ⊥) → Steps t h (w ∷ ws) (ended t h (refusalOf t w))
   unfolding afterWords
   stop n = (
     0,
@@ -102,11 +103,11 @@ run-stepwise t ws z l =
     (subst (λ (k : ℕ). Stepwise t ws k (runFrom t zeroTally ws)) (sym e) (s .2))
 
 -- a run that does not begin takes no word and leaves the table as it is
-untaken : (t : Table) (ws : List ℕ) (v : ℕ)
-    → runOf t ws ≡ record { table = t; tally = zeroTally; refusal = v }
+none-taken : (t : Table) (ws : List ℕ) (v : ℕ)
+    → runOf t ws ≡ untaken t v
     → Taken t ws (runOf t ws .tally .words) (runOf t ws)
 unfolding afterWords
-untaken t ws v e =
+none-taken t ws v e =
     subst (λ (o : Outcome). Taken t ws (o .tally .words) o) (sym e)
     (record { few = omega arith; table-is = refl })
 
@@ -115,6 +116,6 @@ pub run-table : (t : Table) (ws : List ℕ) → Taken t ws (runOf t ws .tally .w
 run-table t ws = go (ℕ-discrete (tableRefusal t) 0) (decLt limit (length ws))
   where
     go : Dec (tableRefusal t ≡ 0) → Dec (limit < length ws) → Taken t ws (runOf t ws .tally .words) (runOf t ws)
-    go (no n) d = untaken t ws (tableRefusal t) (runOf-table t ws (tableRefusal t) refl n)
-    go (yes z) (yes m) = untaken t ws 12 (runOf-words t ws z m)
+    go (no n) d = none-taken t ws (tableRefusal t) (runOf-table t ws (tableRefusal t) refl n)
+    go (yes z) (yes m) = none-taken t ws tooManyWords (runOf-words t ws z m)
     go (yes z) (no m) = run-stepwise t ws z (omega (arith, m)) .taken

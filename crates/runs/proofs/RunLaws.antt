@@ -2,32 +2,30 @@
 --
 --   run-more, run-stop, run-end      a word that is accepted, one that is refused, and no word left
 --   run-turn, run-halt, run-past     the same at word i of a list
---   answer-moved, answer-refused     what the answer of a step tells
 --   counted-words, -comes, -arrivals how a word counts
---   ended, runs-as                   what the answer of a run says of its outcome
+--   runs-ended, runs-as              what the answer of a run says of its outcome
 --   runOf-table, runOf-words, runOf-taken    a run with a refused table, with too many words, and the others
 --
 -- Assumes nothing.
 use Prim.Native.Nat.{ℕ, suc, _+_, _≤_, _<_}
 use mathlib.Core.Path.{_≡_, refl, ap, sym, subst, _∙_}
-use mathlib.Core.Bool.{Bool, true, false, cond}
+use mathlib.Core.Bool.{Bool, true, false}
 use mathlib.Core.List.{List, [], _∷_}
 use native.Mathlib.Omega.{arith}
 use native.Mathlib.Numerals.{add-one}
 use lib.Dec.{eqb}
 use lib.ListN.{length, getD, drop}
 use lib.Seq.{drop-cons, drop-length}
-use borrow.Author.Tests.{eqb-true, eq-eqb, ne-eqb, eqb-false, le-leb, lt-leb}
-use Rattle.machine.specs.Tables.{Table, tableRefusal}
-use Rattle.machine.specs.Steps.{refusalOf, afterWord, eventOf, answerOf}
-use Rattle.machine.specs.Runs.{Outcome, counted, zeroTally, limit, ranOf, runFrom, runOf}
+use borrow.Author.Tests.{eq-eqb, ne-eqb}
+use Rattle.machine.specs.Tables.{Table}
+use Rattle.machine.specs.Steps.{refusalOf, afterWord, eventOf}
+use Rattle.machine.specs.Runs.{Outcome, ended, counted, ranOf, runFrom}
 use Rattle.machine.specs.declared.Event.{Event}
 use Rattle.machine.specs.declared.Event.the-variants.{Quiet, Come, Arrival}
-use Rattle.machine.specs.declared.Stepped.{Stepped}
 use Rattle.machine.specs.declared.Tally.{Tally}
 use Rattle.machine.proofs.Accepted.{refused-same}
 use Rattle.cells.specs.View.{rowsOf}
-use Rattle.runs.specs.Outcomes.{Runs}
+use Rattle.runs.specs.Outcomes.{answered, Runs}
 use Rattle.runs.specs.declared.RunAnswer.{RunAnswer}
 
 -- ---- word by word
@@ -38,7 +36,7 @@ module _ (t : Table) (h : Tally) (w : ℕ) (ws : List ℕ) where
   from b =
       elim b [
         | true ↦ runFrom (afterWord t w) (counted (eventOf t w) h) ws
-        | false ↦ record { table = t; tally = h; refusal = refusalOf t w }
+        | false ↦ ended t h (refusalOf t w)
       ]
 
   from-is : runFrom t h (w ∷ ws) ≡ from (eqb (refusalOf t w) 0)
@@ -50,11 +48,11 @@ module _ (t : Table) (h : Tally) (w : ℕ) (ws : List ℕ) where
   run-more e = from-is ∙ ap from (eq-eqb _ _ e)
 
   pub run-stop : (refusalOf t w ≡ 0 → ⊥)
-      → runFrom t h (w ∷ ws) ≡ record { table = t; tally = h; refusal = refusalOf t w }
+      → runFrom t h (w ∷ ws) ≡ ended t h (refusalOf t w)
   unfolding from
   run-stop e = from-is ∙ ap from (ne-eqb _ _ e)
 
-pub run-end : (t : Table) (h : Tally) → runFrom t h [] ≡ record { table = t; tally = h; refusal = 0 }
+pub run-end : (t : Table) (h : Tally) → runFrom t h [] ≡ ended t h 0
 unfolding runFrom
 run-end t h = refl
 
@@ -74,7 +72,7 @@ pub run-halt : (t u : Table) (h : Tally) (ws : List ℕ) (i v : ℕ)
     → (refusalOf t (getD ws i 0) ≡ 0 → ⊥)
     → u ≡ afterWord t (getD ws i 0)
     → v ≡ refusalOf t (getD ws i 0)
-    → runFrom t h (drop i ws) ≡ record { table = u; tally = h; refusal = v }
+    → runFrom t h (drop i ws) ≡ ended u h v
 run-halt t u h ws i v l n a b =
     ap (runFrom t h) (drop-cons ws i 0 l)
     ∙ run-stop t h (getD ws i 0) (drop (suc i) ws) n
@@ -83,35 +81,8 @@ run-halt t u h ws i v l n a b =
 -- past the last word
 pub run-past : (t : Table) (h : Tally) (ws : List ℕ) (i : ℕ)
     → i ≡ length ws
-    → runFrom t h (drop i ws) ≡ record { table = t; tally = h; refusal = 0 }
+    → runFrom t h (drop i ws) ≡ ended t h 0
 run-past t h ws i e = ap (λ (k : ℕ). runFrom t h (drop k ws)) e ∙ ap (runFrom t h) (drop-length ws) ∙ run-end t h
-
--- ---- the answer of a step
-
-moved-case : (b : Bool) (d e : Event) (v : ℕ)
-    → cond b (Stepped.Moved d) (Stepped.Refused v) ≡ Stepped.Moved e
-    → (b ≡ true) × (e ≡ d)
-moved-case true d e v h = (refl, cc)
-moved-case false d e v h = absurd (let z : _≡_ {A = ℕ} 0 1 = cc in omega arith)
-
-refused-case : (b : Bool) (d : Event) (u v : ℕ)
-    → cond b (Stepped.Moved d) (Stepped.Refused v) ≡ Stepped.Refused u
-    → (b ≡ false) × (u ≡ v)
-refused-case true d u v h = absurd (let z : _≡_ {A = ℕ} 0 1 = cc in omega arith)
-refused-case false d u v h = (refl, cc)
-
-module _ (t : Table) (w : ℕ) where
-  pub answer-moved : (e : Event) → answerOf t w ≡ Stepped.Moved e → (refusalOf t w ≡ 0) × (e ≡ eventOf t w)
-  unfolding answerOf
-  answer-moved e h =
-      let m = moved-case (eqb (refusalOf t w) 0) (eventOf t w) e (refusalOf t w) h in
-      (eqb-true _ _ (m .0), m .1)
-
-  pub answer-refused : (u : ℕ) → answerOf t w ≡ Stepped.Refused u → (refusalOf t w ≡ 0 → ⊥) × (u ≡ refusalOf t w)
-  unfolding answerOf
-  answer-refused u h =
-      let m = refused-case (eqb (refusalOf t w) 0) (eventOf t w) u (refusalOf t w) h in
-      (eqb-false _ _ (m .0), m .1)
 
 -- ---- the tally
 
@@ -133,12 +104,12 @@ counted-arrivals Arrival h = omega arith
 -- ---- the answer of a run
 
 -- a run that ended with table y, tally h and refusal v, and answers so
-pub ended : (x y : List (List ℕ)) (o : Outcome) (h : Tally) (v : ℕ) (r : RunAnswer)
+pub runs-ended : (x y : List (List ℕ)) (o : Outcome) (h : Tally) (v : ℕ) (r : RunAnswer)
     → length y ≡ length x
-    → o ≡ record { table = rowsOf y; tally = h; refusal = v }
-    → r ≡ record { ran = record { taken = h .words; refusal = v }; tally = h }
+    → o ≡ ended (rowsOf y) h v
+    → r ≡ answered h v
     → Runs x o y r
-ended x y o h v r l e a =
+runs-ended x y o h v r l e a =
     record {
       becomes = record { rows-are = sym (ap (λ (k : Outcome). k .table) e); size-is = l };
       ran-is = ap (λ (k : RunAnswer). k .ran) a ∙ sym (ap ranOf e);
@@ -148,20 +119,3 @@ ended x y o h v r l e a =
 -- an outcome by another name
 pub runs-as : {x y : List (List ℕ)} {o u : Outcome} {r : RunAnswer} → o ≡ u → Runs x o y r → Runs x u y r
 runs-as {x} {y} {o} {u} {r} e h = subst (λ (k : Outcome). Runs x k y r) e h
-
--- ---- the checks before a run
-
-module _ (t : Table) (ws : List ℕ) where
-  pub runOf-table : (v : ℕ) → v ≡ tableRefusal t → (v ≡ 0 → ⊥)
-      → runOf t ws ≡ record { table = t; tally = zeroTally; refusal = v }
-  unfolding runOf
-  runOf-table v e n = rw (e, ne-eqb (tableRefusal t) 0 (λ z. n (e ∙ z))) refl
-
-  pub runOf-words : tableRefusal t ≡ 0 → limit < length ws
-      → runOf t ws ≡ record { table = t; tally = zeroTally; refusal = 12 }
-  unfolding runOf
-  runOf-words e l = rw (eq-eqb (tableRefusal t) 0 e, lt-leb (length ws) limit l) refl
-
-  pub runOf-taken : tableRefusal t ≡ 0 → length ws ≤ limit → runOf t ws ≡ runFrom t zeroTally ws
-  unfolding runOf
-  runOf-taken e l = rw (eq-eqb (tableRefusal t) 0 e, le-leb (length ws) limit l) refl

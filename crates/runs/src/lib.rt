@@ -1,5 +1,5 @@
 // Runs of a table in place: a list of words in order, up to the first that is refused, with a tally
-// (machine/specs/Runs.antt). specs/Outcomes.antt says what the functions here ensure.
+// (machine/specs/Runs.antt). specs/Outcomes.antt says what a run ensures.
 use cells::checks::check;
 use machine::Event;
 use machine::Ran;
@@ -9,9 +9,11 @@ use steps::stepping::advance;
 ghost use mathlib.Core.Path.{_≡_};
 ghost use Rattle.machine.specs.Runs.{counted, zeroTally, runFrom, runOf};
 ghost use Rattle.cells.specs.View.{rowsOf};
-ghost use Rattle.runs.specs.Outcomes.{Room, Runnable, Runs, RunsSound};
+ghost use Rattle.runs.specs.Outcomes.{answered, Runs, RunsSound};
+ghost use Rattle.runs.specs.Bounds.{Room, Runnable};
 
-// What a run hands back: how many words it took, the refusal or 0, and the tally of the words taken.
+// What a run hands back: how many words it took, the refusal or 0, and the tally of the words
+// taken.
 pub struct RunAnswer {
     pub ran: Ran,
     pub tally: Tally,
@@ -43,7 +45,7 @@ fn counted(event: Event, tally: Tally) -> Tally
 
 // The answer of a run that ends with a refusal, or with 0.
 fn answer(refusal: u16, tally: Tally) -> RunAnswer
-    ensures { λ r. ⌜ r ≡ record { ran = record { taken = tally .words; refusal = refusal }; tally = tally } ⌝ }
+    ensures { λ r. ⌜ r ≡ answered tally refusal ⌝ }
 {
     RunAnswer {
         ran: Ran {
@@ -52,6 +54,13 @@ fn answer(refusal: u16, tally: Tally) -> RunAnswer
         },
         tally: tally,
     }
+}
+
+// The answer of a run that is refused before any word is taken.
+pub fn untaken(refusal: u16) -> RunAnswer
+    ensures { λ r. ⌜ r ≡ answered zeroTally refusal ⌝ }
+{
+    answer(refusal, Tally::ZERO)
 }
 
 // At most 8,192 words at a table that is known to be sound, which is not checked again.
@@ -68,7 +77,8 @@ pub fn run_words(cells: &mut [[u16; 8]], words: &[u32]) -> RunAnswer
     let mut i = 0;
     while i < n {
         match advance(cells, words[i]) {
-            Stepped::Moved(event) => {
+            Stepped::Moved(told) => {
+                let event = told.event;
                 tally = counted(event, tally);
             }
             Stepped::Refused(refusal) => {
@@ -80,19 +90,21 @@ pub fn run_words(cells: &mut [[u16; 8]], words: &[u32]) -> RunAnswer
     answer(0, tally)
 }
 
-// A run at a table of any size and content: 6 or 7 for the table, then 12 for more than 8,192 words,
-// and no row is changed; else the words in order up to the first that is refused.
+// A run at a table of any size and content: 6 or 7 for the table, then 12 for more than 8,192
+// words, and no row is changed; else the words in order up to the first that is refused.
 pub fn run(cells: &mut [[u16; 8]], words: &[u32]) -> RunAnswer
     ensures { λ r. ⌜
-        Runs (now (cells .entry)) (runOf (rowsOf (now (cells .entry))) (now (words .entry))) (now (cells .exit)) r
+        Runs (now (cells .entry))
+        (runOf (rowsOf (now (cells .entry))) (now (words .entry)))
+        (now (cells .exit)) r
         ⌝ }
 {
     let refusal = check(cells);
     if refusal != 0 {
-        return answer(refusal, Tally::ZERO);
+        return untaken(refusal);
     }
     if machine::RUN_LIMIT < words.len() {
-        return answer(machine::TOO_MANY_WORDS, Tally::ZERO);
+        return untaken(machine::TOO_MANY_WORDS);
     }
     run_words(cells, words)
 }

@@ -1,11 +1,10 @@
--- The lowest member of a set as an answer, and what `others` requires.
+-- The lowest member of a set as an answer.
 --
 --   lowestBelow s n  ==   the lowest member of s below n, if there is one.
 --   lowestOf s       ==   the lowest member of s, if it has one.
---   Among n p        <=>  p is one of n processes, at most 16.
 --
 -- Assumes nothing.
-use Prim.Native.Nat.{ℕ, zero, suc, _≤_, _<_}
+use Prim.Native.Nat.{ℕ, zero, suc}
 use mathlib.Core.Bool.{cond}
 use Rattle.counting.specs.Sets.{has}
 use Rattle.sets.specs.declared.Lowest.{Lowest}
@@ -26,8 +25,3 @@ lowestBelow s (suc n) = firstOf (lowestBelow s n) (cond (has s n) (Member n) Emp
 unfoldable pub lowestOf : ℕ → Lowest
 unfolding lowestBelow
 lowestOf s = lowestBelow s 16
-
--- p is one of n processes, at most 16
-pub record Among (n p : ℕ) : Type 0 where
-  pub one : p < n
-  pub few : n ≤ 16

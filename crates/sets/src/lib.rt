@@ -4,7 +4,8 @@
 ghost use mathlib.Core.Path.{_≡_};
 ghost use Prim.Native.Nat.{_<_};
 ghost use Rattle.counting.specs.Sets.{has, size, without, others};
-ghost use Rattle.sets.specs.Answers.{lowestOf, Among};
+ghost use Rattle.sets.specs.Answers.{lowestOf};
+ghost use Rattle.sets.specs.Bounds.{Among};
 
 // The lowest member of a set, if it has one.
 pub enum Lowest {

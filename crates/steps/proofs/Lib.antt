@@ -1,5 +1,6 @@
--- Laws of the moves, of their events, of a kind taken, and of the step.
+-- Laws of the moves, of their events and of what is told of them, of a kind taken, and of the step.
 pub mod MoveLaws
 pub mod EventLaws
+pub mod ToldLaws
 pub mod TakeLaws
 pub mod StepLaws

@@ -1,7 +1,7 @@
 -- The moves of a table in the forms that the code has. Assumes nothing.
 use Prim.Native.Nat.{ℕ}
 use mathlib.Core.Path.{_≡_, refl, sym, ap, _∙_}
-use mathlib.Core.Bool.{true}
+use mathlib.Core.Bool.{true, and-eq-true-iff}
 use mathlib.Core.Logic.{⊎-elim}
 use mathlib.Core.List.{List, [], _∷_}
 use lib.Dec.{eqb}
@@ -12,21 +12,17 @@ use Rattle.machine.specs.Tables.{Table, row, oneOf, competitors}
 use Rattle.machine.specs.Words.{STAY, COME, FLICKER, GO, LOOK}
 use Rattle.machine.specs.Steps.{entered, passed, reconsidered, pushed, turned, looked, flickered, gone, moved, allowed}
 use Rattle.machine.specs.declared.Row.{Row}
-use Rattle.machine.proofs.TestLaws.{and-left, or-cases, by-one}
+use Rattle.counting.proofs.TestLaws.{or-cases}
+use Rattle.machine.proofs.OneOfLaws.{Cases, by-one}
 use Rattle.machine.proofs.Forms.{gone-20, gone-21, gone-23, gone-24, gone-40}
 use Rattle.cells.specs.View.{rowsOf, Becomes}
 use Rattle.cells.proofs.ViewLaws.{rows-length}
-use Rattle.steps.specs.Moves.{Gone}
+
+-- the same table by another name
+pub becomes-as : {x y : List (List ℕ)} {u v : Table} → Becomes x u y → u ≡ v → Becomes x v y
+becomes-as b e = record { rows-are = b .rows-are ∙ e; size-is = b .size-is }
 
 -- ---- GO, from what the code has: r the row of p, c who competes, v the turn cell, s the row that is put
-
-module _ (x : List (List ℕ)) (p : ℕ) (r : Row) (own : r ≡ row (rowsOf x) p) where
-  -- where p is, and where it is not
-  pub seen-at : (l : ℕ) → r .location ≡ l → row (rowsOf x) p .location ≡ l
-  seen-at l e = ap (λ (q : Row). q .location) (sym own) ∙ e
-
-  pub seen-off : (l : ℕ) → (r .location ≡ l → ⊥) → row (rowsOf x) p .location ≡ l → ⊥
-  seen-off l ne e = ne (ap (λ (q : Row). q .location) own ∙ e)
 
 module _ (x : List (List ℕ)) (p : ℕ) (r s : Row) (own : r ≡ row (rowsOf x) p) where
   pub put-entered : (c : ℕ) → row (rowsOf x) p .location ≡ 20 → c ≡ competitors (rowsOf x)
@@ -65,29 +61,36 @@ module _ (x : List (List ℕ)) (p : ℕ) (r s : Row) (own : r ≡ row (rowsOf x)
       let t = rowsOf x in
       ap (set t p) (h ∙ ap (λ (q : Row). withLocation 10 (withAct 0 q)) own) ∙ sym (gone-40 t p e)
 
--- the same table by another name
-pub gone-as : (x : List (List ℕ)) (p : ℕ) (u : Table) (y : List (List ℕ)) → gone (rowsOf x) p ≡ u → Becomes x u y
-    → Gone x p y
-gone-as x p u y e b = record { rows-are = b .rows-are ∙ sym e; size-is = b .size-is }
+-- ---- where GO is allowed
 
--- where GO is allowed and none of the others holds, the location is 40
-pub last-place : (r : Row) → allowed GO r ≡ true
-    → (r .location ≡ 20 → ⊥)
-    → (r .location ≡ 21 → ⊥)
-    → (r .location ≡ 22 → ⊥)
-    → (r .location ≡ 23 → ⊥)
-    → (r .location ≡ 24 → ⊥)
-    → (r .location ≡ 30 → ⊥)
-    → r .location ≡ 40
+pub by-place : (r : Row) {M : Type 0} → Cases (r .location) (20 ∷ 21 ∷ 22 ∷ 23 ∷ 24 ∷ 30 ∷ 40 ∷ []) M
+    → allowed GO r ≡ true
+    → M
 unfolding allowed
-last-place r h a b c d e f =
+by-place r (at-20, (at-21, (at-22, others))) h =
     ⊎-elim
-    (by-one (r .location) (20 ∷ 21 ∷ 23 ∷ 24 ∷ 30 ∷ 40 ∷ []) (
-      (λ i. absurd (a i)),
-      ((λ i. absurd (b i)), ((λ i. absurd (d i)), ((λ i. absurd (e i)), ((λ i. absurd (f i)), ((λ i. i), tt))))),
-    ))
-    (λ k. absurd (c (eqb-true _ _ (and-left (eqb (r .location) 22) (eqb (r .lis) 0) k))))
+    (by-one (r .location) (20 ∷ 21 ∷ 23 ∷ 24 ∷ 30 ∷ 40 ∷ []) (at-20, (at-21, others)))
+    (λ k. at-22 (eqb-true _ _ (and-eq-true-iff (eqb (r .location) 22) (eqb (r .lis) 0) .0 k .0)))
     (or-cases (oneOf (r .location) (20 ∷ 21 ∷ 23 ∷ 24 ∷ 30 ∷ 40 ∷ [])) _ h)
+
+-- l is none of vs, as a `match` has it: N is what it knows before
+abbrev Off : Type 0 → ℕ → List ℕ → Type 0
+Off N l [] = N
+Off N l (v ∷ vs) = Off (N × (l ≡ v → ⊥)) l vs
+
+-- what is left of the locations of GO
+abbrev pub Last : ℕ → Type 0
+Last l = Off (Unit {0}) l (20 ∷ 21 ∷ 22 ∷ 23 ∷ 24 ∷ 30 ∷ [])
+
+pub last-place : (r : Row) → allowed GO r ≡ true → Last (r .location) → r .location ≡ 40
+last-place r h (((((((_, a), b), c), d), e), f)) =
+    by-place r (
+      (λ i. absurd (a i)),
+      (
+        (λ i. absurd (b i)),
+        ((λ i. absurd (c i)), ((λ i. absurd (d i)), ((λ i. absurd (e i)), ((λ i. absurd (f i)), ((λ i. i), tt))))),
+      ),
+    ) h
 
 -- ---- the kinds
 

@@ -6,21 +6,23 @@ use mathlib.Core.Path.{_≡_, refl, sym, ap, subst, _∙_}
 use mathlib.Core.Bool.{true, false, cond}
 use mathlib.Core.List.{List}
 use native.Mathlib.Omega.{arith}
-use lib.Dec.{eqb, leb}
+use lib.Dec.{eqb}
 use lib.ListN.{length}
-use borrow.Author.Tests.{eq-eqb, ne-eqb, eqb-true, leb-true, lt-ltb, le-ltb}
+use borrow.Author.Tests.{eq-eqb, ne-eqb, eqb-true, lt-ltb, le-ltb}
 use Rattle.machine.specs.Tables.{Table, row, tableRefusal}
-use Rattle.machine.specs.Words.{kindOf, processOf, argumentOf, isKind, spareClear, formed}
-use Rattle.machine.specs.Steps.{moved, wordRefusal, refusalOf, afterWord, eventOf, answerOf, refusalAt}
-use Rattle.machine.specs.declared.Event.{Event}
+use Rattle.machine.specs.Words.{kindOf, processOf, argumentOf, formed}
+use Rattle.machine.specs.Steps.{moved, wordRefusal, refusalOf, afterWord, toldOf, answerOf, refusalAt}
+use Rattle.machine.specs.declared.Told.{Told}
 use Rattle.machine.specs.declared.Stepped.{Stepped}
-use Rattle.machine.proofs.TestLaws.{and-left, and-right, split}
+use Rattle.counting.proofs.TestLaws.{split}
 use Rattle.machine.proofs.SoundRows.{sound-row, sound-few}
 use Rattle.machine.proofs.Accepted.{refused-same}
 use Rattle.cells.specs.View.{rowsOf}
 use Rattle.cells.proofs.ViewLaws.{rows-length}
-use Rattle.steps.specs.Moves.{kindEvent, Ready, Takes, Steps}
-use Rattle.steps.proofs.EventLaws.{event-told}
+use Rattle.steps.specs.Moves.{kindTold, Ready, Takes}
+use Rattle.steps.specs.Stepping.{Steps}
+use Rattle.steps.proofs.MoveLaws.{becomes-as}
+use Rattle.steps.proofs.ToldLaws.{word-told}
 
 -- ---- the refusal and the answer
 
@@ -51,14 +53,6 @@ module _ (t : Table) (w : ℕ) where
   answer-refused : (refusalOf t w ≡ 0 → ⊥) → answerOf t w ≡ Stepped.Refused (refusalOf t w)
   unfolding answerOf
   answer-refused ne = rw (ne-eqb (refusalOf t w) 0 ne) refl
-
--- a formed word is of one of the five kinds
-pub formed-kind : (w : ℕ) → formed w ≡ true → (1 ≤ kindOf w) × (kindOf w ≤ 5)
-formed-kind w f =
-    let k = and-left (isKind (kindOf w)) (spareClear w) f in
-    let first = and-left (leb 1 (kindOf w)) (leb (kindOf w) 5) k in
-    let last = and-right (leb 1 (kindOf w)) (leb (kindOf w) 5) k in
-    (leb-true _ _ first, leb-true _ _ last)
 
 -- ---- the step of cells
 
@@ -108,21 +102,21 @@ module _ (x : List (List ℕ)) (w : ℕ) where
       word-refusal : wordRefusal (rowsOf x) w ≡ refusal
       word-refusal = refused-at (rowsOf x) w f (subst (λ (m : ℕ). processOf w < m) (sym (rows-length x)) k)
 
-      told : refusal ≡ 0 → eventOf (rowsOf x) w ≡ kindEvent (kindOf w) (row (rowsOf x) (processOf w))
-      told e = event-told (rowsOf x) w z (word-refusal ∙ e)
+      told : refusal ≡ 0 → toldOf (rowsOf x) w ≡ kindTold (kindOf w) (row (rowsOf x) (processOf w))
+      told e = word-told (rowsOf x) w z (word-refusal ∙ e)
 
       answer-taken : answerOf (rowsOf x) w
-          ≡ cond (eqb refusal 0) (Stepped.Moved (kindEvent (kindOf w) (row (rowsOf x) (processOf w))))
+          ≡ cond (eqb refusal 0) (Stepped.Moved (kindTold (kindOf w) (row (rowsOf x) (processOf w))))
           (Stepped.Refused refusal)
       unfolding answerOf
       answer-taken =
-          ap (λ (m : ℕ). cond (eqb m 0) (Stepped.Moved (eventOf (rowsOf x) w)) (Stepped.Refused m))
+          ap (λ (m : ℕ). cond (eqb m 0) (Stepped.Moved (toldOf (rowsOf x) w)) (Stepped.Refused m))
           (refusal-word (rowsOf x) w z ∙ word-refusal)
           ∙ split (λ b. (eqb refusal 0 ≡ b)
-          → cond b (Stepped.Moved (eventOf (rowsOf x) w)) (Stepped.Refused refusal)
-          ≡ cond b (Stepped.Moved (kindEvent (kindOf w) (row (rowsOf x) (processOf w)))) (Stepped.Refused refusal))
+          → cond b (Stepped.Moved (toldOf (rowsOf x) w)) (Stepped.Refused refusal)
+          ≡ cond b (Stepped.Moved (kindTold (kindOf w) (row (rowsOf x) (processOf w)))) (Stepped.Refused refusal))
           (eqb refusal 0)
-          (λ _ h. ap (λ (g : Event). Stepped.Moved g) (told (eqb-true refusal 0 h)))
+          (λ _ h. ap (λ (g : Told). Stepped.Moved g) (told (eqb-true refusal 0 h)))
           (λ _ h. refl)
           refl
 
@@ -139,9 +133,5 @@ module _ (x : List (List ℕ)) (w : ℕ) where
       taken-steps y s m =
           record {
             answer-is = m .answer-is ∙ sym answer-taken;
-            becomes =
-                record {
-                  rows-are = m .becomes .rows-are ∙ sym table-taken;
-                  size-is = m .becomes .size-is;
-                };
+            becomes = becomes-as (m .becomes) (sym table-taken);
           }

@@ -1,7 +1,8 @@
 -- A kind with an argument at cells: refused and nothing moved, or taken. Assumes nothing.
 use Prim.Native.Nat.{ℕ, _<_}
 use mathlib.Core.Path.{_≡_, refl, sym, ap, _∙_}
-use mathlib.Core.Bool.{Bool, true, false, false≢true, cond, not}
+use mathlib.Core.Bool.{Bool, true, false, false≢true, cond, not, and-eq-true-iff}
+use mathlib.Core.Logic.{_⊎_, inl, inr, ⊎-elim}
 use mathlib.Core.List.{List}
 use native.Mathlib.Decide.{decLt}
 use native.Mathlib.Omega.{arith}
@@ -11,13 +12,41 @@ use Rattle.counting.specs.Sets.{has}
 use Rattle.counting.proofs.SetLaws.{has-over}
 use Rattle.machine.specs.Refusals.{accepted, badArgument}
 use Rattle.machine.specs.Tables.{Table, row}
-use Rattle.machine.specs.Words.{LOOK}
+use Rattle.machine.specs.Words.{STAY, COME, FLICKER, GO, LOOK, isKind, kindOf, spareClear, formed}
 use Rattle.machine.specs.Steps.{moved, allowed, argumentFits, refusalAt}
-use Rattle.machine.specs.declared.Event.{Event}
+use Rattle.machine.specs.declared.Told.{Told}
 use Rattle.machine.specs.declared.Stepped.{Stepped}
-use Rattle.machine.proofs.TestLaws.{cond-zero}
+use Rattle.counting.proofs.TestLaws.{cond-zero}
+use Rattle.machine.proofs.KindLaws.{by-kind}
 use Rattle.cells.specs.View.{rowsOf}
-use Rattle.steps.specs.Moves.{kindEvent, Ready, Moves, Takes}
+use Rattle.steps.specs.Moves.{kindTold, Ready, Free, Sees, Moves, Takes}
+use Rattle.steps.proofs.MoveLaws.{becomes-as}
+
+-- ---- the kinds
+
+pub formed-kind : (w : ℕ) → formed w ≡ true → isKind (kindOf w) ≡ true
+formed-kind w f = and-eq-true-iff (isKind (kindOf w)) (spareClear w) .0 f .0
+
+pub kind-small : (k : ℕ) → isKind k ≡ true → k < 16
+kind-small = by-kind (λ k. k < 16) (omega arith) (omega arith) (omega arith) (omega arith) (omega arith)
+
+pub resting-kind : (k : ℕ) → (k ≡ STAY) ⊎ (k ≡ COME) → isKind k ≡ true
+resting-kind k = ⊎-elim (λ e. rw e refl) (λ e. rw e refl)
+
+-- a kind that is none of the others
+pub last-kinds : (k : ℕ)
+    → isKind k ≡ true
+    → (k ≡ LOOK → ⊥)
+    → (k ≡ GO → ⊥)
+    → (k ≡ FLICKER → ⊥)
+    → (k ≡ STAY) ⊎ (k ≡ COME)
+last-kinds =
+    by-kind (λ k. (k ≡ LOOK → ⊥) → (k ≡ GO → ⊥) → (k ≡ FLICKER → ⊥) → (k ≡ STAY) ⊎ (k ≡ COME))
+    (λ _ _ _. inl refl)
+    (λ _ _ _. inr refl)
+    (λ _ _ f. absurd (f refl))
+    (λ _ g _. absurd (g refl))
+    (λ l _ _. absurd (l refl))
 
 -- ---- what refuses, in the code's order
 
@@ -35,20 +64,25 @@ module _ (t : Table) (k p a : ℕ) where
   abbrev second : ℕ
   second = cond (not (argumentFits (length t) k (row t p) a)) badArgument accepted
 
-  pub allowed-there : refusalAt t k p a ≡ 0 → allowed k (row t p) ≡ true
+  allowed-there : refusalAt t k p a ≡ 0 → allowed k (row t p) ≡ true
   allowed-there z = cond-zero (allowed k (row t p)) 9 second z .0
 
   argument-fits : refusalAt t k p a ≡ 0 → argumentFits (length t) k (row t p) a ≡ true
   argument-fits z =
       cond-zero (argumentFits (length t) k (row t p) a) 10 0 (cond-zero (allowed k (row t p)) 9 second z .1) .0
 
+-- ---- what is not refused, from the number v that the check found, may be done
+
+pub may-go : {x : List (List ℕ)} {p v : ℕ} (a : ℕ) → Ready x p → v ≡ refusalAt (rowsOf x) GO p a → v ≡ 0 → Free x p
+may-go {x} {p} a ready why z = record { ready = ready; may-go = allowed-there (rowsOf x) GO p a (sym why ∙ z) }
+
 -- LOOK is at a member of lis, which is a process
-pub look-in : (x : List (List ℕ)) (p a : ℕ) → Ready x p → refusalAt (rowsOf x) LOOK p a ≡ 0 → a < length x
+pub may-look : {x : List (List ℕ)} {p a v : ℕ} → Ready x p → v ≡ refusalAt (rowsOf x) LOOK p a → v ≡ 0 → Sees x p a
 unfolding argumentFits
-look-in x p a ready z = go (decLt a (length x))
+may-look {x} {p} {a} ready why z = record { ready = ready; seen = go (decLt a (length x)) }
   where
     member : has (row (rowsOf x) p .lis) a ≡ true
-    member = argument-fits (rowsOf x) LOOK p a z
+    member = argument-fits (rowsOf x) LOOK p a (sym why ∙ z)
 
     go : Dec (a < length x) → a < length x
     go (yes k) = k
@@ -56,32 +90,28 @@ look-in x p a ready z = go (decLt a (length x))
         let over = has-over (row (rowsOf x) p .lis) (length x) a (ready .listed) (omega (arith, k)) in
         absurd (false≢true (sym over ∙ member))
 
--- ---- taken or not
+-- ---- refused, or moved
 
 module _ (x : List (List ℕ)) (k p a : ℕ) where
-  abbrev refusal : ℕ
-  refusal = refusalAt (rowsOf x) k p a
-
   abbrev answers : Bool → Stepped
-  answers b = cond b (Stepped.Moved (kindEvent k (row (rowsOf x) p))) (Stepped.Refused refusal)
+  answers b = cond b (Stepped.Moved (kindTold k (row (rowsOf x) p))) (Stepped.Refused (refusalAt (rowsOf x) k p a))
 
   abbrev tables : Bool → Table
   tables b = cond b (moved (rowsOf x) k p a) (rowsOf x)
 
-  pub takes-refused : (v : ℕ) → v ≡ refusal → (v ≡ 0 → ⊥) → Takes x k p a x (Stepped.Refused v)
-  takes-refused v e n =
-      let ne = ne-eqb refusal 0 (λ z. n (e ∙ z)) in
+module _ {x : List (List ℕ)} {k p a v : ℕ} (why : v ≡ refusalAt (rowsOf x) k p a) where
+  pub takes-refused : (v ≡ 0 → ⊥) → Takes x k p a x (Stepped.Refused v)
+  takes-refused n =
+      let ne = ne-eqb (refusalAt (rowsOf x) k p a) 0 (λ z. n (why ∙ z)) in
       record {
-        answer-is = ap (λ (m : ℕ). Stepped.Refused m) e ∙ sym (ap answers ne);
-        becomes = record { rows-are = sym (ap tables ne); size-is = refl };
+        answer-is = ap (λ (m : ℕ). Stepped.Refused m) why ∙ sym (ap (answers x k p a) ne);
+        becomes = record { rows-are = sym (ap (tables x k p a) ne); size-is = refl };
       }
 
-  pub takes-moved : (y : List (List ℕ)) (e : Event) → refusal ≡ 0 → Moves x k p a y e
-      → Takes x k p a y (Stepped.Moved e)
-  takes-moved y e z m =
-      let eq = eq-eqb refusal 0 z in
+  pub takes-moved : {y : List (List ℕ)} {s : Told} → v ≡ 0 → Moves x k p a y s → Takes x k p a y (Stepped.Moved s)
+  takes-moved z m =
+      let eq = eq-eqb (refusalAt (rowsOf x) k p a) 0 (sym why ∙ z) in
       record {
-        answer-is = ap (λ (g : Event). Stepped.Moved g) (m .event-is) ∙ sym (ap answers eq);
-        becomes =
-            record { rows-are = m .becomes .rows-are ∙ sym (ap tables eq); size-is = m .becomes .size-is };
+        answer-is = ap (λ (g : Told). Stepped.Moved g) (m .told-is) ∙ sym (ap (answers x k p a) eq);
+        becomes = becomes-as (m .becomes) (sym (ap (tables x k p a) eq));
       }

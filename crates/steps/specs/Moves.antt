@@ -1,37 +1,36 @@
--- What a step does to cells and what it answers.
+-- What the functions inside the step require and ensure.
 --
---   lookedAt t p q    ==   the table after LOOK of process p at q.
---   goEvent r         ==   the event of GO at a row, read before the step.
---   kindEvent k r     ==   the event of an allowed kind at a row, read before the step.
+--   kindEvent k r     ==   the event of an allowed kind at a row, read before the step; goEvent r is that of GO.
+--   kindTold k r      ==   what the step tells of it.
 --   Ready x p         <=>  process p of the cells x can move: what a sound table gives.
 --   At x p l          <=>  it can, and is at location l.
 --   Free x p          <=>  it can, and GO is allowed where it is.
---   Asked x k p       <=>  it can, and kind k is at most LOOK.
---   Resting x k p     <=>  it can, and kind k is STAY or COME.
---   Gone, Goes, Moves <=>  the cells x have become y by GO, by GO with event e, by kind k with event e.
+--   Sees x p q        <=>  it can, and q is a process.
+--   Asked x k p       <=>  it can, and k is a kind.
+--   Resting x k p     <=>  it can, and k is STAY or COME.
+--   Moves x k p a y s <=>  kind k with argument a made y of the cells x and tells s, where it is allowed.
+--   Goes x p y s      <=>  so did GO.
 --   Takes x k p a y s <=>  kind k with argument a made y of the cells x and answered s.
---   Steps x w y s     <=>  the step of word w made y of the cells x and answered s.
 --
 -- Assumes nothing.
 use Prim.Native.Nat.{ℕ, _^_, _≤_, _<_}
 use mathlib.Core.Path.{_≡_}
 use mathlib.Core.Bool.{true, cond, _&&_}
+use mathlib.Core.Logic.{_⊎_}
 use mathlib.Core.List.{List}
 use lib.Dec.{eqb}
-use lib.ListN.{length, set}
+use lib.ListN.{length}
 use Rattle.machine.specs.Refusals.{accepted}
-use Rattle.machine.specs.Tables.{Table, row}
-use Rattle.machine.specs.Words.{COME, GO}
-use Rattle.machine.specs.Steps.{looked, gone, moved, allowed, refusalAt, afterWord, answerOf}
+use Rattle.machine.specs.Tables.{row}
+use Rattle.machine.specs.Words.{STAY, COME, GO, isKind}
+use Rattle.machine.specs.Steps.{moved, allowed, refusalAt}
 use Rattle.machine.specs.declared.Row.{Row}
 use Rattle.machine.specs.declared.Event.{Event}
+use Rattle.machine.specs.declared.Told.{Told}
 use Rattle.machine.specs.declared.Stepped.{Stepped}
 use Rattle.cells.specs.View.{rowsOf, Becomes}
 
-abbrev pub lookedAt : Table → ℕ → ℕ → Table
-lookedAt t p q = set t p (looked q (row t q .act) (row t p))
-
--- ---- events, told before the step
+-- ---- what is told, read before the step
 
 -- GO at 21 with level 0 goes to 30, and no other step does
 abbrev pub goEvent : Row → Event
@@ -40,7 +39,10 @@ goEvent r = cond (eqb (r .location) 21 && eqb (r .level) 0) Event.Arrival Event.
 abbrev pub kindEvent : ℕ → Row → Event
 kindEvent k r = cond (eqb k COME) Event.Come (cond (eqb k GO) (goEvent r) Event.Quiet)
 
--- ---- what the inner functions require
+abbrev pub kindTold : ℕ → Row → Told
+kindTold k r = record { event = kindEvent k r }
+
+-- ---- what the functions require
 
 pub record Ready (x : List (List ℕ)) (p : ℕ) : Type 0 where
   pub one : p < length x
@@ -56,34 +58,30 @@ pub record Free (x : List (List ℕ)) (p : ℕ) : Type 0 where
   pub ready : Ready x p
   pub may-go : allowed GO (row (rowsOf x) p) ≡ true
 
+pub record Sees (x : List (List ℕ)) (p q : ℕ) : Type 0 where
+  pub ready : Ready x p
+  pub seen : q < length x
+
 pub record Asked (x : List (List ℕ)) (k p : ℕ) : Type 0 where
   pub ready : Ready x p
-  pub last : k ≤ 5
+  pub kind : isKind k ≡ true
 
 pub record Resting (x : List (List ℕ)) (k p : ℕ) : Type 0 where
   pub ready : Ready x p
-  pub first : 1 ≤ k
-  pub last : k ≤ 2
+  pub kind : (k ≡ STAY) ⊎ (k ≡ COME)
 
 -- ---- what the functions ensure
 
-abbrev pub Gone : List (List ℕ) → ℕ → List (List ℕ) → Type 0
-Gone x p y = Becomes x (gone (rowsOf x) p) y
-
-pub record Goes (x : List (List ℕ)) (p : ℕ) (y : List (List ℕ)) (e : Event) : Type 0 where
-  pub event-is : e ≡ goEvent (row (rowsOf x) p)
-  pub becomes : Gone x p y
-
-pub record Moves (x : List (List ℕ)) (k p a : ℕ) (y : List (List ℕ)) (e : Event) : Type 0 where
-  pub event-is : e ≡ kindEvent k (row (rowsOf x) p)
+pub record Moves (x : List (List ℕ)) (k p a : ℕ) (y : List (List ℕ)) (s : Told) : Type 0 where
+  pub told-is : s ≡ kindTold k (row (rowsOf x) p)
   pub becomes : Becomes x (moved (rowsOf x) k p a) y
+
+-- GO has no argument
+abbrev pub Goes : List (List ℕ) → ℕ → List (List ℕ) → Told → Type 0
+Goes x p y s = Moves x GO p 0 y s
 
 pub record Takes (x : List (List ℕ)) (k p a : ℕ) (y : List (List ℕ)) (s : Stepped) : Type 0 where
   pub answer-is : s
-      ≡ cond (eqb (refusalAt (rowsOf x) k p a) accepted) (Stepped.Moved (kindEvent k (row (rowsOf x) p)))
+      ≡ cond (eqb (refusalAt (rowsOf x) k p a) accepted) (Stepped.Moved (kindTold k (row (rowsOf x) p)))
       (Stepped.Refused (refusalAt (rowsOf x) k p a))
   pub becomes : Becomes x (cond (eqb (refusalAt (rowsOf x) k p a) accepted) (moved (rowsOf x) k p a) (rowsOf x)) y
-
-pub record Steps (x : List (List ℕ)) (w : ℕ) (y : List (List ℕ)) (s : Stepped) : Type 0 where
-  pub answer-is : s ≡ answerOf (rowsOf x) w
-  pub becomes : Becomes x (afterWord (rowsOf x) w) y

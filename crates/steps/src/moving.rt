@@ -1,34 +1,44 @@
-// FLICKER and LOOK of a process, where they are allowed.
+// COME, FLICKER and LOOK of a process, where they are allowed, and what they tell. STAY does
+// nothing.
+use crate::going::go_to;
 use cells::access::put_row;
 use cells::access::row_at;
 use cells::access::turn_to;
-ghost use Prim.Native.Nat.{_<_, _≤_};
-ghost use lib.ListN.{length};
-ghost use Rattle.machine.specs.Steps.{flickered};
-ghost use Rattle.cells.specs.View.{rowsOf, Becomes};
-ghost use Rattle.steps.specs.Moves.{lookedAt, Ready};
+use machine::Event;
+use machine::Told;
+ghost use Rattle.machine.specs.Words.{COME, FLICKER, LOOK};
+ghost use Rattle.steps.specs.Moves.{Ready, Sees, Moves};
+
+// COME of process p: to 20.
+pub(crate) fn come(cells: &mut [[u16; 8]], p: u16) -> Told
+    requires { ⌜ Ready (now cells) p ⌝ }
+    ensures { λ s. ⌜ Moves (now (cells .entry)) COME p 0 (now (cells .exit)) s ⌝ }
+{
+    go_to(cells, p, 20);
+    Told::QUIET.with_event(Event::Come)
+}
 
 // FLICKER of process p: at 24 the turn cell of its level becomes `a`, elsewhere its act.
-pub(crate) fn flicker(cells: &mut [[u16; 8]], p: u16, a: u16)
+pub(crate) fn flicker(cells: &mut [[u16; 8]], p: u16, a: u16) -> Told
     requires { ⌜ Ready (now cells) p ⌝ }
-    ensures { λ _. ⌜ Becomes (now (cells .entry)) (flickered (rowsOf (now (cells .entry))) p a)
-        (now (cells .exit)) ⌝ }
+    ensures { λ s. ⌜ Moves (now (cells .entry)) FLICKER p a (now (cells .exit)) s ⌝ }
 {
     let r = row_at(cells, p as usize);
     if r.location == 24 {
         turn_to(cells, r.level as usize, a);
-        return;
+        return Told::QUIET;
     }
     put_row(cells, p as usize, rows::moves::flicker_act(a, r));
+    Told::QUIET
 }
 
 // LOOK of process p at q.
-pub(crate) fn look(cells: &mut [[u16; 8]], p: u16, q: u16)
-    requires { ⌜ (p < length (now cells)) × (length (now cells) ≤ 16) × (q < length (now cells)) ⌝ }
-    ensures { λ _. ⌜ Becomes (now (cells .entry)) (lookedAt (rowsOf (now (cells .entry))) p q)
-        (now (cells .exit)) ⌝ }
+pub(crate) fn look(cells: &mut [[u16; 8]], p: u16, q: u16) -> Told
+    requires { ⌜ Sees (now cells) p q ⌝ }
+    ensures { λ s. ⌜ Moves (now (cells .entry)) LOOK p q (now (cells .exit)) s ⌝ }
 {
     let r = row_at(cells, p as usize);
     let act = row_at(cells, q as usize).act;
     put_row(cells, p as usize, rows::moves::looked(q, act, r));
+    Told::QUIET
 }

@@ -1,17 +1,17 @@
 // A word of process p taken, kind by kind: what refuses it at the row of p, and what it does. The
 // kind is given to the check as a constant where it can be, and the compiler drops the check's
-// questions about other kinds. The event is a constant of each branch.
+// questions about other kinds. What is told is a constant of each branch.
 use crate::going::go;
-use crate::going::go_to;
+use crate::moving::come;
 use crate::moving::flicker;
 use crate::moving::look;
 use cells::access::row_at;
-use machine::Event;
 use machine::Stepped;
+use machine::Told;
 ghost use mathlib.Core.Path.{_≡_};
 ghost use Rattle.machine.specs.Words.{FLICKER, GO, LOOK};
-ghost use Rattle.cells.specs.View.{rowsOf};
 ghost use Rattle.machine.specs.Steps.{refusalAt};
+ghost use Rattle.cells.specs.View.{rowsOf};
 ghost use Rattle.steps.specs.Moves.{Ready, Asked, Resting, Takes};
 
 // 0, or the refusal of a kind and an argument at the row of p: 10, then 11.
@@ -40,8 +40,7 @@ pub(crate) fn take_look(cells: &mut [[u16; 8]], p: u16, a: u16) -> Stepped
     if refusal != 0 {
         return Stepped::Refused(refusal);
     }
-    look(cells, p, a);
-    Stepped::Moved(Event::Quiet)
+    Stepped::Moved(look(cells, p, a))
 }
 
 // GO of process p.
@@ -53,8 +52,7 @@ pub(crate) fn take_go(cells: &mut [[u16; 8]], p: u16, a: u16) -> Stepped
     if refusal != 0 {
         return Stepped::Refused(refusal);
     }
-    let event = go(cells, p);
-    Stepped::Moved(event)
+    Stepped::Moved(go(cells, p))
 }
 
 // FLICKER of process p to `a`.
@@ -66,8 +64,7 @@ pub(crate) fn take_flicker(cells: &mut [[u16; 8]], p: u16, a: u16) -> Stepped
     if refusal != 0 {
         return Stepped::Refused(refusal);
     }
-    flicker(cells, p, a);
-    Stepped::Moved(Event::Quiet)
+    Stepped::Moved(flicker(cells, p, a))
 }
 
 // STAY or COME of process p, the kinds of a process at rest. One function for both: with five cases
@@ -81,8 +78,7 @@ pub(crate) fn take_resting(cells: &mut [[u16; 8]], kind: u16, p: u16, a: u16) ->
         return Stepped::Refused(refusal);
     }
     if kind == machine::COME {
-        go_to(cells, p, 20);
-        return Stepped::Moved(Event::Come);
+        return Stepped::Moved(come(cells, p));
     }
-    Stepped::Moved(Event::Quiet)
+    Stepped::Moved(Told::QUIET)
 }

@@ -2,7 +2,7 @@
 // Words are given in hexadecimal; sets are printed as numbers, bit q for process q.
 use cells::access::row_at;
 use cells::making::make_fresh;
-use lists::step_all;
+use exclusion_code::step_all;
 use machine::Row;
 use machine::Stepped;
 use steps::stepping::step;
@@ -85,7 +85,7 @@ fn row_of(cells: &[[u16; 8]], q: usize) -> Row {
 // The refusal of a step, or 0.
 fn refusal_of(answer: Stepped) -> usize {
     match answer {
-        Stepped::Moved(_event) => 0,
+        Stepped::Moved(_) => 0,
         Stepped::Refused(why) => why as usize,
     }
 }

@@ -1,12 +1,17 @@
 -- One text put after another is the two put as one. Assumes nothing.
-use mathlib.Core.Path.{_≡_, refl, ap, _∙_}
+use mathlib.Core.Path.{_≡_, refl, sym, ap, _∙_}
 use mathlib.Core.List.{List, [], _∷_, _++_}
 use Prim.Native.Nat.{ℕ, _+_, _≤_, _<_}
+use native.Mathlib.Nat.{add-zero}
 use native.Mathlib.Omega.{arith}
 use lib.ListN.{length, set, length-append}
-use Rattle.octets.specs.Placing.{placed}
-use Rattle.octets.proofs.PlacingLaws.{placed-one, placed-then}
+use Rattle.counting.specs.Placing.{placed}
+use Rattle.counting.proofs.PlacingLaws.{placed-none, placed-one, placed-then}
 use Rattle.text.specs.Appending.{Appended}
+
+-- nothing
+pub appended-none : (d : List ℕ) (at : ℕ) → Appended d at [] d at
+appended-none d at = record { bytes-are = sym (placed-none d at); end-is = sym (add-zero at) }
 
 -- one byte
 pub appended-one : (d : List ℕ) (at b : ℕ) → at < length d → Appended d at (b ∷ []) (set d at b) (at + 1)

@@ -4,3 +4,4 @@ pub mod LineLaws
 pub mod RunLaws
 pub mod ProgressLaws
 pub mod PrintLaws
+pub mod LastLine

@@ -1,63 +1,83 @@
--- A line is its numbers one after another, how long it is, and the room for it. Assumes nothing.
-use mathlib.Core.Path.{_≡_, refl, sym, ap, _∙_}
-use mathlib.Core.List.{List, [], _∷_, _++_}
-use Prim.Native.Nat.{ℕ, _+_, _≤_}
+-- A line number by number, and how long it is. Assumes nothing.
+use mathlib.Core.Path.{_≡_, refl, ap, _∙_, sym}
+use mathlib.Core.List.{List, [], _∷_, _++_, append-assoc}
+use Prim.Native.Nat.{ℕ, zero, suc, _+_, _^_, _≤_, _<_}
 use native.Mathlib.Omega.{arith}
-use lib.ListN.{length, length-append}
-use lib.Seq.{append-snoc}
-use Rattle.machine.specs.Text.{decimal, numbers}
-use Rattle.text.specs.Appending.{Appended, field}
+use lib.ListN.{length, getD, take, length-append}
+use Rattle.machine.specs.Text.{decimal, spaced, line}
+use Rattle.text.specs.Appending.{gap, lineWith}
+use Rattle.text.proofs.DigitLaws.{length-digits}
 
-pub length-field : (n b : ℕ) → length (field n b) ≡ length (decimal n) + 1
-length-field n b = length-append (decimal n) (b ∷ [])
+-- ---- one number more
 
--- the last number of a line
-pub numbers-last : (n : ℕ) → numbers (n ∷ []) ≡ field n 10
-unfolding numbers
-numbers-last n = refl
+pub gap-first : {i : ℕ} → i ≡ 0 → gap i ≡ []
+unfolding gap
+gap-first e = ap gap e
 
--- any other
-pub numbers-next : (n m : ℕ) (ns : List ℕ) → numbers (n ∷ m ∷ ns) ≡ field n 32 ++ numbers (m ∷ ns)
-unfolding numbers
-numbers-next n m ns = sym (append-snoc (decimal n) 32 (numbers (m ∷ ns)))
+pub gap-other : (i : ℕ) → (i ≡ 0 → ⊥) → gap i ≡ 32 ∷ []
+unfolding gap
+gap-other zero some = absurd (some refl)
+gap-other (suc i) some = refl
 
-pub length-last : (n : ℕ) → length (numbers (n ∷ [])) ≡ length (decimal n) + 1
-length-last n = ap length (numbers-last n) ∙ length-field n 10
+pub spaced-next : (ns : List ℕ) (i : ℕ) → i < length ns
+    → spaced (take (suc i) ns) ≡ spaced (take i ns) ++ (gap i ++ decimal (getD ns i 0))
+unfolding spaced gap
+spaced-next [] i h = absurd (omega arith)
+spaced-next (n ∷ ns) zero h = refl
+spaced-next (n ∷ []) (suc i) h = absurd (omega arith)
+spaced-next (n ∷ m ∷ ns) (suc zero) h = refl
+spaced-next (n ∷ m ∷ ns) (suc (suc i)) h =
+    ap (λ (l : List ℕ). decimal n ++ (32 ∷ l)) (spaced-next (m ∷ ns) (suc i) (omega arith))
+    ∙ sym (append-assoc (decimal n) (32 ∷ spaced (m ∷ take i ns)) (32 ∷ decimal (getD ns i 0)))
 
-pub length-next : (n m : ℕ) (ns : List ℕ)
-    → length (numbers (n ∷ m ∷ ns)) ≡ length (decimal n) + 1 + length (numbers (m ∷ ns))
-length-next n m ns =
-    ap length (numbers-next n m ns) ∙ length-append (field n 32) (numbers (m ∷ ns))
-    ∙ ap (λ (k : ℕ). k + length (numbers (m ∷ ns))) (length-field n 32)
-
--- ---- lines of two and of five numbers
-
-pub numbers-two : (a b : ℕ) → numbers (a ∷ b ∷ []) ≡ field a 32 ++ field b 10
-numbers-two a b = numbers-next a b [] ∙ ap (λ (l : List ℕ). field a 32 ++ l) (numbers-last b)
-
-pub length-two : (a b : ℕ) → length (numbers (a ∷ b ∷ [])) ≡ length (decimal a) + length (decimal b) + 2
-length-two a b = omega (arith, length-next a b [], length-last b)
-
-pub numbers-five : (a b c d e : ℕ)
-    → numbers (a ∷ b ∷ c ∷ d ∷ e ∷ []) ≡ field a 32 ++ (field b 32 ++ (field c 32 ++ (field d 32 ++ field e 10)))
-numbers-five a b c d e =
-    simp (numbers-next, numbers-last)
-
-pub length-five : (a b c d e : ℕ)
-    → length (numbers (a ∷ b ∷ c ∷ d ∷ e ∷ []))
-    ≡ length (decimal a) + length (decimal b) + length (decimal c) + length (decimal d) + length (decimal e) + 5
-length-five a b c d e =
+-- the first numbers are no longer than all
+spaced-start : (ns : List ℕ) (i : ℕ) → length (spaced (take i ns)) ≤ length (spaced ns)
+unfolding spaced
+spaced-start ns zero = omega arith
+spaced-start [] (suc i) = omega arith
+spaced-start (n ∷ []) (suc zero) = omega arith
+spaced-start (n ∷ []) (suc (suc i)) = omega arith
+spaced-start (n ∷ m ∷ ns) (suc zero) = omega (arith, length-append (decimal n) (32 ∷ spaced (m ∷ ns)))
+spaced-start (n ∷ m ∷ ns) (suc (suc i)) =
     omega (
       arith,
-      length-next a b (c ∷ d ∷ e ∷ []),
-      length-next b c (d ∷ e ∷ []),
-      length-next c d (e ∷ []),
-      length-two d e,
+      spaced-start (m ∷ ns) (suc i),
+      length-append (decimal n) (32 ∷ spaced (m ∷ take i ns)),
+      length-append (decimal n) (32 ∷ spaced (m ∷ ns)),
     )
 
--- ---- room
+-- room for the next number where there is room for all
+pub room-next : (ns : List ℕ) (i : ℕ) → i < length ns
+    → length (spaced (take i ns)) + (length (gap i) + length (decimal (getD ns i 0))) ≤ length (spaced ns)
+room-next ns i h =
+    omega (
+      arith,
+      ap length (spaced-next ns i h),
+      length-append (spaced (take i ns)) (gap i ++ decimal (getD ns i 0)),
+      length-append (gap i) (decimal (getD ns i 0)),
+      spaced-start ns (suc i),
+    )
 
--- what is left of a line after its first number has room in the buffer that has room for the line
-pub room-on : {d y : List ℕ} {at e : ℕ} (n m : ℕ) (ns : List ℕ) → at + length (numbers (n ∷ m ∷ ns)) ≤ length d
-    → Appended d at (field n 32) y e → length y ≡ length d → e + length (numbers (m ∷ ns)) ≤ length y
-room-on n m ns room a kept = omega (arith, a .end-is, length-next n m ns, length-field n 32)
+-- ---- how long a line is
+
+-- numbers that take at most m bytes, with a byte after each
+pub data Within : List ℕ → ℕ → Type 0 where
+  last : {n : ℕ} (k : ℕ) → n < 10 ^ suc k → Within (n ∷ []) (suc (suc k))
+  then : {n o m : ℕ} {ns : List ℕ} (k : ℕ) → n < 10 ^ suc k → Within (o ∷ ns) m → Within (n ∷ o ∷ ns) (suc (suc k) + m)
+
+length-spaced : {ns : List ℕ} {m : ℕ} → Within ns m → length (spaced ns) < m
+unfolding spaced
+length-spaced (last {n} k h) = omega (arith, length-digits 20 k n h)
+length-spaced (then {n} {o} {ns = ns} k h more) =
+    omega (
+      arith,
+      length-digits 20 k n h,
+      length-append (decimal n) (32 ∷ spaced (o ∷ ns)),
+      length-spaced more,
+    )
+
+pub length-lineWith : (s ns e : List ℕ) → length (lineWith s ns e) ≡ length s + (length (spaced ns) + length e)
+length-lineWith s ns e = omega (arith, length-append s (spaced ns ++ e), length-append (spaced ns) e)
+
+pub length-line : (s : List ℕ) {ns : List ℕ} {m : ℕ} → Within ns m → length (line s ns) ≤ length s + m
+length-line s {ns} fits = omega (arith, length-lineWith s ns (10 ∷ []), length-spaced fits)

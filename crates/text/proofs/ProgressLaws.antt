@@ -1,22 +1,20 @@
 -- How far the printing of a run has come: what is printed, and what is still to be. Assumes nothing.
 use mathlib.Core.Path.{_≡_, refl, sym, ap, _∙_}
 use mathlib.Core.Bool.{true, false}
-use mathlib.Core.List.{List, [], _∷_, _++_, append-assoc}
+use mathlib.Core.List.{List, [], _++_, append-assoc}
 use Prim.Native.Nat.{ℕ, suc, _+_, _*_, _≤_, _<_}
 use native.Mathlib.Omega.{arith}
-use native.Mathlib.Nat.{add-zero}
 use native.Mathlib.Numerals.{add-one}
 use lib.ListN.{length, getD, drop, length-append}
 use lib.Seq.{drop-cons, drop-length}
 use Rattle.machine.specs.Tables.{Table, tableRefusal}
 use Rattle.machine.specs.Steps.{afterWord}
 use Rattle.machine.specs.Runs.{limit}
-use Rattle.machine.specs.Text.{numbers, doneText, runLines}
+use Rattle.machine.specs.Text.{doneLine, runLines}
 use Rattle.machine.proofs.Soundness.{word-keeps-sound}
-use Rattle.octets.proofs.PlacingLaws.{placed-none}
 use Rattle.text.specs.Appending.{Appended}
 use Rattle.text.specs.Running.{takes, lineOf, lineRoom}
-use Rattle.text.proofs.AppendingLaws.{appended-as, appended-then}
+use Rattle.text.proofs.AppendingLaws.{appended-none, appended-as, appended-then}
 use Rattle.text.proofs.RunLaws.{lineOf-taken, runLines-taken, runLines-stopped, runLines-done, length-wordLine}
 
 -- i words of ws have been taken from table t, which is u now, and `text` is what they printed
@@ -33,7 +31,7 @@ pub progress-none : (d : List ℕ) (at : ℕ) (t : Table) (ws : List ℕ) → ta
 progress-none d at t ws sound =
     record {
       text = [];
-      appended = record { bytes-are = sym (placed-none d at); end-is = sym (add-zero at) };
+      appended = appended-none d at;
       goes-on = refl;
       room = omega arith;
       sound = sound;
@@ -84,7 +82,7 @@ module _ (d : List ℕ) (at : ℕ) (t : Table) (ws y : List ℕ) (u : Table) (e 
 
   -- no word is left
   pub progress-done : (z : List ℕ) (f : ℕ) → i ≡ length ws
-      → Appended y e (doneText ++ numbers (i ∷ [])) z f → Appended d at (runLines t 0 ws) z f
+      → Appended y e (doneLine i) z f → Appended d at (runLines t 0 ws) z f
   progress-done z f all line =
       appended-as
       (ap (λ (l : List ℕ). p .text ++ l) (sym (runLines-done u i))

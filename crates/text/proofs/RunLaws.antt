@@ -1,58 +1,58 @@
 -- The text of a run, word by word: which line a word gives, and how long it is. Assumes nothing.
 use mathlib.Core.Path.{_≡_, refl, sym, ap, _∙_}
-use mathlib.Core.Bool.{Bool, true, false, cond}
+use mathlib.Core.Bool.{Bool, true, false}
 use mathlib.Core.List.{List, [], _∷_, _++_}
 use Prim.Native.Nat.{ℕ, suc, _≤_, _<_}
 use native.Mathlib.Omega.{arith}
-use borrow.Author.Tests.{eqb-true, leb-true}
+use borrow.Author.Tests.{eqb-true, eq-eqb, ne-eqb, leb-true}
 use lib.Dec.{leb}
 use lib.ListN.{length}
 use Rattle.counting.proofs.CountLaws.{count-le}
+use Rattle.machine.specs.Refusals.{accepted}
 use Rattle.machine.specs.Tables.{Table, row, tableRefusal, locations}
 use Rattle.machine.specs.Words.{processOf}
-use Rattle.machine.specs.Steps.{refusalOf, afterWord, eventOf, answerOf}
+use Rattle.machine.specs.Steps.{refusalOf, afterWord, answerOf}
 use Rattle.machine.specs.Census.{critical, isCritical}
 use Rattle.machine.specs.Runs.{limit}
-use Rattle.machine.specs.Text.{numbers, doneText, stopText, wordLine, runLines}
-use Rattle.machine.specs.declared.Event.{Event}
+use Rattle.machine.specs.Text.{stopText, line, wordLine, doneLine, stopLine, runLines}
+use Rattle.machine.specs.declared.Told.{Told}
 use Rattle.machine.specs.declared.Stepped.{Stepped}
-use Rattle.machine.proofs.TestLaws.{by-one}
+use Rattle.machine.proofs.OneOfLaws.{by-one}
 use Rattle.machine.proofs.SoundRows.{sound-row, sound-few}
+use Rattle.machine.proofs.AnswerLaws.{answer-moved, answer-refused}
 use Rattle.machine.proofs.Accepted.{accepted-says}
 use Rattle.machine.proofs.Soundness.{word-keeps-sound, word-keeps-length}
 use Rattle.text.specs.Running.{takes, lineOf, lineRoom}
-use Rattle.text.proofs.DigitLaws.{length-digits}
-use Rattle.text.proofs.LineLaws.{length-two, length-five}
+use Rattle.text.proofs.LineLaws.{length-line}
+use Rattle.text.proofs.LineLaws.Within.{last, then}
 
 -- ---- the line of a word
 
 module _ (t : Table) (i w : ℕ) where
-  abbrev stopLine : List ℕ
-  stopLine = stopText ++ numbers (i ∷ refusalOf t w ∷ [])
+  abbrev pick : List ℕ → Bool → List ℕ
+  pick l b = elim b [ true ↦ l | false ↦ stopLine i (refusalOf t w) ]
 
   pub lineOf-taken : takes t w ≡ true → lineOf t i w ≡ wordLine t i w
   unfolding lineOf
-  lineOf-taken e = ap (λ (b : Bool). elim b [ true ↦ wordLine t i w | false ↦ stopLine ]) e
+  lineOf-taken e = ap (pick (wordLine t i w)) e
 
-  pub lineOf-stopped : takes t w ≡ false → lineOf t i w ≡ stopLine
+  pub lineOf-stopped : takes t w ≡ false → lineOf t i w ≡ stopLine i (refusalOf t w)
   unfolding lineOf
-  lineOf-stopped e = ap (λ (b : Bool). elim b [ true ↦ wordLine t i w | false ↦ stopLine ]) e
+  lineOf-stopped e = ap (pick (wordLine t i w)) e
 
-  pub runLines-taken : (ws : List ℕ) → takes t w ≡ true
-      → runLines t i (w ∷ ws) ≡ lineOf t i w ++ runLines (afterWord t w) (suc i) ws
-  unfolding runLines
-  runLines-taken ws e =
-      let rest = runLines (afterWord t w) (suc i) ws in
-      ap (λ (b : Bool). elim b [ true ↦ wordLine t i w ++ rest | false ↦ stopLine ]) e
-      ∙ ap (λ (l : List ℕ). l ++ rest) (sym (lineOf-taken e))
+  module _ (ws : List ℕ) where
+    abbrev rest : List ℕ
+    rest = runLines (afterWord t w) (suc i) ws
 
-  pub runLines-stopped : (ws : List ℕ) → takes t w ≡ false → runLines t i (w ∷ ws) ≡ lineOf t i w
-  unfolding runLines
-  runLines-stopped ws e =
-      ap (λ (b : Bool). elim b [ true ↦ wordLine t i w ++ runLines (afterWord t w) (suc i) ws | false ↦ stopLine ]) e
-      ∙ sym (lineOf-stopped e)
+    pub runLines-taken : takes t w ≡ true → runLines t i (w ∷ ws) ≡ lineOf t i w ++ rest
+    unfolding runLines
+    runLines-taken e = ap (pick (wordLine t i w ++ rest)) e ∙ ap (λ (l : List ℕ). l ++ rest) (sym (lineOf-taken e))
 
-pub runLines-done : (t : Table) (i : ℕ) → runLines t i [] ≡ doneText ++ numbers (i ∷ [])
+    pub runLines-stopped : takes t w ≡ false → runLines t i (w ∷ ws) ≡ lineOf t i w
+    unfolding runLines
+    runLines-stopped e = ap (pick (wordLine t i w ++ rest)) e ∙ sym (lineOf-stopped e)
+
+pub runLines-done : (t : Table) (i : ℕ) → runLines t i [] ≡ doneLine i
 unfolding runLines
 runLines-done t i = refl
 
@@ -63,42 +63,20 @@ pub line-is : (t u : Table) (i w p before after inside : ℕ)
     → u ≡ afterWord t w
     → after ≡ row u p .location
     → inside ≡ critical u
-    → numbers (i ∷ p ∷ before ∷ after ∷ inside ∷ []) ≡ wordLine t i w
-line-is t u i w p before after inside pe be ue ae ie =
-    let q = processOf w in
-    let v = afterWord t w in
-    let l = row t q .location in
-    let m = row v q .location in
-    ap (λ (a : ℕ). numbers (i ∷ a ∷ before ∷ after ∷ inside ∷ [])) pe
-    ∙ ap (λ (a : ℕ). numbers (i ∷ q ∷ a ∷ after ∷ inside ∷ [])) (be ∙ ap (λ (a : ℕ). row t a .location) pe)
-    ∙ ap (λ (a : ℕ). numbers (i ∷ q ∷ l ∷ a ∷ inside ∷ []))
-    (ae ∙ ap (λ (a : ℕ). row u a .location) pe ∙ ap (λ (a : Table). row a q .location) ue)
-    ∙ ap (λ (a : ℕ). numbers (i ∷ q ∷ l ∷ m ∷ a ∷ [])) (ie ∙ ap critical ue)
+    → line [] (i ∷ p ∷ before ∷ after ∷ inside ∷ []) ≡ wordLine t i w
+line-is t u i w p before after inside pe be ue ae ie = cc
 
 -- ---- the step's answer
 
 module _ (t : Table) (w : ℕ) where
-  abbrev answered : Bool → Stepped
-  answered b = cond b (Stepped.Moved (eventOf t w)) (Stepped.Refused (refusalOf t w))
-
-  answer-by : (b : Bool) → takes t w ≡ b → answerOf t w ≡ answered b
-  unfolding answerOf
-  answer-by b e = ap answered e
-
-  pub moved-takes : (e : Event) → answerOf t w ≡ Stepped.Moved e → takes t w ≡ true
-  moved-takes e h = go (takes t w) refl where
-    go : (b : Bool) → takes t w ≡ b → takes t w ≡ true
-    go true k = k
-    go false k = let r = answer-by false k in let z : _≡_ {A = ℕ} 0 1 = cc in absurd (omega arith)
+  pub moved-takes : (s : Told) → answerOf t w ≡ Stepped.Moved s → takes t w ≡ true
+  moved-takes s h = eq-eqb (refusalOf t w) accepted (answer-moved t w s h .0)
 
   pub refused-takes : (n : ℕ) → answerOf t w ≡ Stepped.Refused n → takes t w ≡ false
-  refused-takes n h = go (takes t w) refl where
-    go : (b : Bool) → takes t w ≡ b → takes t w ≡ false
-    go true k = let r = answer-by true k in let z : _≡_ {A = ℕ} 0 1 = cc in absurd (omega arith)
-    go false k = k
+  refused-takes n h = ne-eqb (refusalOf t w) accepted (answer-refused t w n h .0)
 
   pub refused-number : (n : ℕ) → answerOf t w ≡ Stepped.Refused n → refusalOf t w ≡ n
-  refused-number n h = let r = answer-by false (refused-takes n h) in cc
+  refused-number n h = sym (answer-refused t w n h .1)
 
 -- ---- room
 
@@ -123,17 +101,14 @@ length-wordLine t i w sound few e =
     let after = location-low u p (word-keeps-sound t w sound) (omega (arith, says .process-in)) in
     let inside = count-le (λ q. isCritical (row u q)) (length u) in
     let most = sound-few t sound in
-    omega (
-      arith,
-      length-five i p (row t p .location) (row u p .location) (critical u),
-      length-digits 20 3 i (omega arith),
-      length-digits 20 1 p (omega (arith, says .process-in)),
-      length-digits 20 1 (row t p .location) (omega arith),
-      length-digits 20 1 (row u p .location) (omega arith),
-      length-digits 20 1 (critical u) (omega arith),
-    )
+    length-line []
+    (then 3 (omega arith)
+    (then 1 (omega (arith, says .process-in))
+    (then 1 (omega arith)
+    (then 1 (omega arith)
+    (last 1 (omega arith))))))
 
 -- the last line, with a number of 16 bits
-pub length-stopLine : (i n : ℕ) → i < limit → n < 65536 → length (stopText ++ numbers (i ∷ n ∷ [])) ≤ lineRoom
+pub length-stopLine : (i n : ℕ) → i < limit → n < 65536 → length (stopLine i n) ≤ lineRoom
 length-stopLine i n few small =
-    omega (arith, length-two i n, length-digits 20 3 i (omega arith), length-digits 20 4 n (omega arith))
+    let long = length-line stopText {ns = i ∷ n ∷ []} (then 3 (omega arith) (last 4 (omega arith))) in omega arith

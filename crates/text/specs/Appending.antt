@@ -1,20 +1,30 @@
 -- Bytes put into a lent buffer after those that are there: the one contract of every function that prints.
 --
 --   Appended d at s y e  <=>  the buffer d has become y, with s from place `at` on, and s ends at place e.
---   field n b            ==   the digits of a number and the byte b after them.
+--   LongReady d at n     <=>  d has room from `at` on for the digits of n, which are two or more.
+--   gap i                ==   what stands before number i of a line.
+--   lineWith s ns e      ==   the text s, the numbers ns with a space between two, and the text e.
 --
 -- Assumes nothing.
-use Prim.Native.Nat.{ℕ, _+_}
+use Prim.Native.Nat.{ℕ, zero, suc, _+_, _≤_}
 use mathlib.Core.Path.{_≡_}
 use mathlib.Core.List.{List, [], _∷_, _++_}
 use lib.ListN.{length}
-use Rattle.machine.specs.Text.{decimal}
-use Rattle.octets.specs.Placing.{placed}
+use Rattle.machine.specs.Text.{decimal, spaced}
+use Rattle.counting.specs.Placing.{placed}
 
 pub record Appended (d : List ℕ) (at : ℕ) (s y : List ℕ) (e : ℕ) : Type 0 where
   pub bytes-are : y ≡ placed d at s
   pub end-is : e ≡ at + length s
 
--- a number with what parts it from the next, or ends the line
-abbrev pub field : ℕ → ℕ → List ℕ
-field n b = decimal n ++ (b ∷ [])
+pub record LongReady (d : List ℕ) (at n : ℕ) : Type 0 where
+  pub long : 10 ≤ n
+  pub room : at + length (decimal n) ≤ length d
+
+unfoldable pub gap : ℕ → List ℕ
+gap zero = []
+gap (suc i) = 32 ∷ []
+
+-- a line of machine/specs/Text has the line feed for its last text
+abbrev pub lineWith : List ℕ → List ℕ → List ℕ → List ℕ
+lineWith s ns e = s ++ (spaced ns ++ e)

@@ -1,21 +1,22 @@
 -- What the functions that print a run require and promise.
 --
 --   lineOf t i w        ==   what is printed for word w, which is word i, at table t: its line, or the last line.
---   Ready x d at n      <=>  the cells x hold a sound table, and the buffer d has room from `at` on for n words.
+--   WordReady x d at i  <=>  the cells x hold a sound table, and the buffer d has room from `at` on for a line.
 --   WordPrinted ..      <=>  the line of a word is in the buffer, and the cells are as the step leaves them.
+--   RunReady x d at n   <=>  the cells x hold a sound table, and the buffer d has room from `at` on for n words.
 --
 -- Assumes nothing.
 use Prim.Native.Nat.{ℕ, _+_, _*_, _≤_, _<_}
 use mathlib.Core.Path.{_≡_}
 use mathlib.Core.Bool.{Bool, true, false}
-use mathlib.Core.List.{List, [], _∷_, _++_}
+use mathlib.Core.List.{List}
 use lib.Dec.{eqb}
 use lib.ListN.{length}
 use Rattle.machine.specs.Refusals.{accepted}
 use Rattle.machine.specs.Tables.{Table, tableRefusal}
 use Rattle.machine.specs.Steps.{refusalOf, afterWord}
 use Rattle.machine.specs.Runs.{limit}
-use Rattle.machine.specs.Text.{wordLine, stopText, numbers}
+use Rattle.machine.specs.Text.{wordLine, stopLine}
 use Rattle.cells.specs.View.{rowsOf, Becomes}
 use Rattle.text.specs.Appending.{Appended}
 use Rattle.text.specs.declared.running.Line.{Line}
@@ -26,7 +27,7 @@ abbrev pub takes : Table → ℕ → Bool
 takes t w = eqb (refusalOf t w) accepted
 
 unfoldable pub lineOf : Table → ℕ → ℕ → List ℕ
-lineOf t i w = elim (takes t w) [ true ↦ wordLine t i w | false ↦ stopText ++ numbers (i ∷ refusalOf t w ∷ []) ]
+lineOf t i w = elim (takes t w) [ true ↦ wordLine t i w | false ↦ stopLine i (refusalOf t w) ]
 
 -- ---- the answer to a line
 
@@ -47,7 +48,7 @@ lineRoom = 17
 abbrev pub lastRoom : ℕ
 lastRoom = 13
 
-pub record Ready (x : List (List ℕ)) (d : List ℕ) (at i : ℕ) : Type 0 where
+pub record WordReady (x : List (List ℕ)) (d : List ℕ) (at i : ℕ) : Type 0 where
   pub sound : tableRefusal (rowsOf x) ≡ 0
   pub room : at + lineRoom ≤ length d
   pub few : i < limit

@@ -5,7 +5,7 @@ ghost use mathlib.Core.List.{_∷_, []};
 ghost use Prim.Native.Nat.{_+_, _<_, _≤_};
 ghost use lib.ListN.{length};
 ghost use Rattle.machine.specs.Text.{decimal};
-ghost use Rattle.text.specs.Appending.{Appended, field};
+ghost use Rattle.text.specs.Appending.{Appended, LongReady, gap};
 
 // One byte.
 fn put_byte(out: &mut [u8], at: usize, b: u8) -> usize
@@ -29,6 +29,17 @@ pub(crate) fn put_text(out: &mut [u8], at: usize, s: &[u8]) -> usize
     at + i
 }
 
+// What stands before number i of a line: a space before each but the first.
+pub(crate) fn put_gap(out: &mut [u8], at: usize, i: usize) -> usize
+    requires { ⌜ at + length (gap i) ≤ length (now out) ⌝ }
+    ensures { λ r. ⌜ Appended (now (out .entry)) at (gap i) (now (out .exit)) r ⌝ }
+{
+    if i == 0 {
+        return at;
+    }
+    put_byte(out, at, 32)
+}
+
 // The digit of a number below 10.
 fn digit(n: u32) -> u8
     requires { ⌜ n < 10 ⌝ }
@@ -37,23 +48,26 @@ fn digit(n: u32) -> u8
     (48 + n) as u8
 }
 
-// The decimal digits of a number: those of its tenth, where it has one, and the last.
-fn put_number(out: &mut [u8], at: usize, n: u32) -> usize
+// The digits of a number that has two or more: those of its tenth, and the last.
+fn put_long(out: &mut [u8], at: usize, n: u32) -> usize
+    requires { ⌜ LongReady (now out) at n ⌝ }
+    ensures { λ r. ⌜ Appended (now (out .entry)) at (decimal n) (now (out .exit)) r ⌝ }
+{
+    if n < 100 {
+        let second = put_byte(out, at, digit(n / 10));
+        return put_byte(out, second, digit(n % 10));
+    }
+    let end = put_long(out, at, n / 10);
+    put_byte(out, end, digit(n % 10))
+}
+
+// The decimal digits of a number.
+pub(crate) fn put_number(out: &mut [u8], at: usize, n: u32) -> usize
     requires { ⌜ at + length (decimal n) ≤ length (now out) ⌝ }
     ensures { λ r. ⌜ Appended (now (out .entry)) at (decimal n) (now (out .exit)) r ⌝ }
 {
     if n < 10 {
         return put_byte(out, at, digit(n));
     }
-    let end = put_number(out, at, n / 10);
-    put_byte(out, end, digit(n % 10))
-}
-
-// The decimal digits of a number, and the byte b after them.
-pub(crate) fn put_field(out: &mut [u8], at: usize, n: u32, b: u8) -> usize
-    requires { ⌜ at + length (decimal n) < length (now out) ⌝ }
-    ensures { λ r. ⌜ Appended (now (out .entry)) at (field n b) (now (out .exit)) r ⌝ }
-{
-    let end = put_number(out, at, n);
-    put_byte(out, end, b)
+    put_long(out, at, n)
 }

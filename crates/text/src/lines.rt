@@ -1,40 +1,89 @@
-// Lines put into a lent buffer from place `at` on: a fixed text, and numbers with a space between two
-// and a line feed at the end. Each function answers where its line ends.
-use crate::fields::put_field;
+// A line is a list of fields, put into a lent buffer from place `at` on. Each function answers where
+// what it has put ends.
+use crate::fields::put_gap;
+use crate::fields::put_number;
 use crate::fields::put_text;
-ghost use mathlib.Core.List.{_∷_, [], _++_};
+ghost use mathlib.Core.List.{_∷_, []};
 ghost use Prim.Native.Nat.{_+_, _≤_};
 ghost use lib.ListN.{length};
-ghost use Rattle.machine.specs.Text.{numbers};
-ghost use Rattle.text.specs.Appending.{Appended};
+ghost use Rattle.machine.specs.Text.{spaced, line, inputText, imageText, postsText, doneLine, stopLine};
+ghost use Rattle.text.specs.Appending.{Appended, lineWith};
 
-// A line of one number after a text.
-pub(crate) fn put_one(out: &mut [u8], at: usize, s: &[u8], a: u32) -> usize
-    requires { ⌜ at + length (now s ++ numbers (a ∷ [])) ≤ length (now out) ⌝ }
-    ensures { λ r. ⌜ Appended (now (out .entry)) at (now (s .entry) ++ numbers (a ∷ [])) (now (out .exit)) r ⌝ }
+// Numbers with a space between two.
+fn put_numbers(out: &mut [u8], at: usize, numbers: &[u32]) -> usize
+    requires { ⌜ at + length (spaced (now numbers)) ≤ length (now out) ⌝ }
+    ensures { λ r. ⌜ Appended (now (out .entry)) at (spaced (now (numbers .entry))) (now (out .exit)) r ⌝ }
 {
-    let first = put_text(out, at, s);
-    put_field(out, first, a, 10)
+    let mut end = at;
+    let mut i = 0;
+    while i < numbers.len() {
+        end = put_gap(out, end, i);
+        end = put_number(out, end, numbers[i]);
+        i += 1;
+    }
+    end
 }
 
-// A line of two numbers after a text.
-pub(crate) fn put_two(out: &mut [u8], at: usize, s: &[u8], a: u32, b: u32) -> usize
-    requires { ⌜ at + length (now s ++ numbers (a ∷ b ∷ [])) ≤ length (now out) ⌝ }
-    ensures { λ r. ⌜ Appended (now (out .entry)) at (now (s .entry) ++ numbers (a ∷ b ∷ [])) (now (out .exit)) r ⌝ }
+// A text, numbers with a space between two, and a text.
+pub(crate) fn put_line(
+    out: &mut [u8],
+    at: usize,
+    head: &[u8],
+    numbers: &[u32],
+    tail: &[u8],
+) -> usize
+    requires { ⌜ at + length (lineWith (now head) (now numbers) (now tail)) ≤ length (now out) ⌝ }
+    ensures { λ r. ⌜
+        Appended (now (out .entry)) at (lineWith (now (head .entry)) (now (numbers .entry)) (now (tail .entry)))
+        (now (out .exit)) r
+        ⌝ }
 {
-    let first = put_text(out, at, s);
-    let second = put_field(out, first, a, 32);
-    put_field(out, second, b, 10)
+    let first = put_text(out, at, head);
+    let last = put_numbers(out, first, numbers);
+    put_text(out, last, tail)
 }
 
-// A line of five numbers.
-pub(crate) fn put_five(out: &mut [u8], at: usize, a: u32, b: u32, c: u32, d: u32, e: u32) -> usize
-    requires { ⌜ at + length (numbers (a ∷ b ∷ c ∷ d ∷ e ∷ [])) ≤ length (now out) ⌝ }
-    ensures { λ r. ⌜ Appended (now (out .entry)) at (numbers (a ∷ b ∷ c ∷ d ∷ e ∷ [])) (now (out .exit)) r ⌝ }
+// The line of an input whose bytes are refused.
+pub(crate) fn put_input(out: &mut [u8], why: u16) -> usize
+    requires { ⌜ length (line inputText (why ∷ [])) ≤ length (now out) ⌝ }
+    ensures { λ r. ⌜ Appended (now (out .entry)) 0 (line inputText (why ∷ [])) (now (out .exit)) r ⌝ }
 {
-    let second = put_field(out, at, a, 32);
-    let third = put_field(out, second, b, 32);
-    let fourth = put_field(out, third, c, 32);
-    let fifth = put_field(out, fourth, d, 32);
-    put_field(out, fifth, e, 10)
+    let fields = [why as u32];
+    put_line(out, 0, b"input ", &fields, b"\n")
+}
+
+// The line of an image whose word at `place` is refused.
+pub(crate) fn put_image(out: &mut [u8], place: u16, why: u16) -> usize
+    requires { ⌜ length (line imageText (place ∷ why ∷ [])) ≤ length (now out) ⌝ }
+    ensures { λ r. ⌜ Appended (now (out .entry)) 0 (line imageText (place ∷ why ∷ [])) (now (out .exit)) r ⌝ }
+{
+    let fields = [place as u32, why as u32];
+    put_line(out, 0, b"image ", &fields, b"\n")
+}
+
+// The first line, for a table of `size` processes.
+pub(crate) fn put_posts(out: &mut [u8], size: u32) -> usize
+    requires { ⌜ length (line postsText (size ∷ [])) ≤ length (now out) ⌝ }
+    ensures { λ r. ⌜ Appended (now (out .entry)) 0 (line postsText (size ∷ [])) (now (out .exit)) r ⌝ }
+{
+    let fields = [size];
+    put_line(out, 0, b"posts ", &fields, b"\n")
+}
+
+// The last line of a run in which every word was taken.
+pub(crate) fn put_done(out: &mut [u8], at: usize, taken: u32) -> usize
+    requires { ⌜ at + length (doneLine taken) ≤ length (now out) ⌝ }
+    ensures { λ r. ⌜ Appended (now (out .entry)) at (doneLine taken) (now (out .exit)) r ⌝ }
+{
+    let fields = [taken];
+    put_line(out, at, b"done ", &fields, b"\n")
+}
+
+// The last line of a run that a refusal stopped.
+pub(crate) fn put_stop(out: &mut [u8], at: usize, taken: u32, why: u16) -> usize
+    requires { ⌜ at + length (stopLine taken why) ≤ length (now out) ⌝ }
+    ensures { λ r. ⌜ Appended (now (out .entry)) at (stopLine taken why) (now (out .exit)) r ⌝ }
+{
+    let fields = [taken, why as u32];
+    put_line(out, at, b"stop ", &fields, b"\n")
 }

@@ -1,20 +1,19 @@
 // The lines of a run, put into a lent buffer from place `at` on.
-use crate::lines::put_five;
-use crate::lines::put_one;
-use crate::lines::put_two;
+use crate::lines::put_done;
+use crate::lines::put_line;
+use crate::lines::put_stop;
 use cells::access::row_at;
 use machine::Stepped;
 use steps::stepping::advance;
 ghost use mathlib.Core.Path.{_≡_};
-ghost use mathlib.Core.List.{_∷_, [], _++_};
-ghost use Prim.Native.Nat.{_+_, _≤_};
+ghost use Prim.Native.Nat.{_≤_};
 ghost use lib.ListN.{length};
 ghost use Rattle.machine.specs.Tables.{row};
 ghost use Rattle.machine.specs.Census.{critical};
-ghost use Rattle.machine.specs.Text.{numbers, doneText, runLines};
+ghost use Rattle.machine.specs.Text.{runLines};
 ghost use Rattle.cells.specs.View.{rowsOf};
 ghost use Rattle.text.specs.Appending.{Appended};
-ghost use Rattle.text.specs.Running.{Ready, WordPrinted, RunReady};
+ghost use Rattle.text.specs.Running.{WordReady, WordPrinted, RunReady};
 
 // Where the line of a word ends, and whether the run goes on after it.
 pub enum Line {
@@ -43,7 +42,7 @@ fn count_critical(cells: &[[u16; 8]]) -> u32
 // The step of a word, which is the word at `place`, and its line; or the last line where the word
 // is refused.
 fn put_word(out: &mut [u8], at: usize, cells: &mut [[u16; 8]], place: u32, word: u32) -> Line
-    requires { ⌜ Ready (now cells) (now out) at place ⌝ }
+    requires { ⌜ WordReady (now cells) (now out) at place ⌝ }
     ensures { λ r. ⌜
         WordPrinted (now (cells .entry)) (now (out .entry)) at place word (now (cells .exit)) (now (out .exit)) r
         ⌝ }
@@ -54,18 +53,12 @@ fn put_word(out: &mut [u8], at: usize, cells: &mut [[u16; 8]], place: u32, word:
         Stepped::Moved(_) => {
             let after = location_at(cells, p);
             let inside = count_critical(cells);
-            Line::Taken(put_five(out, at, place, p as u32, before, after, inside))
+            let process = p as u32;
+            let fields = [place, process, before, after, inside];
+            Line::Taken(put_line(out, at, b"", &fields, b"\n"))
         }
-        Stepped::Refused(why) => Line::Stopped(put_two(out, at, b"stop ", place, why as u32)),
+        Stepped::Refused(why) => Line::Stopped(put_stop(out, at, place, why)),
     }
-}
-
-// The last line of a run in which every word was taken.
-fn put_done(out: &mut [u8], at: usize, taken: u32) -> usize
-    requires { ⌜ at + length (doneText ++ numbers (taken ∷ [])) ≤ length (now out) ⌝ }
-    ensures { λ r. ⌜ Appended (now (out .entry)) at (doneText ++ numbers (taken ∷ [])) (now (out .exit)) r ⌝ }
-{
-    put_one(out, at, b"done ", taken)
 }
 
 // A line for each word up to the first that is refused, and the last line.

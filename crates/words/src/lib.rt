@@ -3,7 +3,14 @@ use machine::Apart;
 use machine::Parts;
 use machine::Together;
 ghost use mathlib.Core.Path.{_≡_};
-ghost use Rattle.machine.specs.Words.{kindOf, processOf, argumentOf, formed, apart, together};
+ghost use Rattle.machine.specs.Words.{isKind, kindOf, processOf, argumentOf, formed, apart, together};
+
+// Whether a number is one of the kinds of word.
+fn is_kind(kind: u32) -> bool
+    ensures { λ b. ⌜ b ≡ isKind kind ⌝ }
+{
+    (machine::STAY as u32 <= kind) & (kind <= machine::LOOK as u32)
+}
 
 // The kind of a word, bits 31 to 28.
 pub fn kind_of(w: u32) -> u16
@@ -26,12 +33,11 @@ pub fn argument_of(w: u32) -> u16
     (w % 256) as u16
 }
 
-// Whether the kind of a word is one of the five and its spare bits are 0.
+// Whether a word is of one of the kinds and its spare bits are 0.
 pub fn formed(w: u32) -> bool
     ensures { λ b. ⌜ b ≡ formed w ⌝ }
 {
-    let kind = w >> 28;
-    ((1 <= kind) & (kind <= 5)) & (((w >> 24) % 16 == 0) & ((w >> 8) % 256 == 0))
+    is_kind(w >> 28) & (((w >> 24) % 16 == 0) & ((w >> 8) % 256 == 0))
 }
 
 // The parts of a word; or 8 where it is not formed, then 9 for a process over 15.
@@ -56,7 +62,7 @@ pub fn take_apart(word: u32) -> Apart
 pub fn put_together(kind: u32, process: u32, argument: u32) -> Together
     ensures { λ r. ⌜ r ≡ together kind process argument ⌝ }
 {
-    if !((1 <= kind) & (kind <= 5)) {
+    if !is_kind(kind) {
         return Together::Refused(machine::BAD_KIND);
     }
     if 15 < process {

@@ -1,6 +1,6 @@
 //! The reference under the exported names, as a static library: tries the linked build before the other library exists.
 
-use reference::{Census, Ran, Row, Tally};
+use reference::{Census, Ran, Row, StepAnswer, Tally};
 use std::slice::{from_raw_parts, from_raw_parts_mut};
 
 /// # Safety
@@ -13,8 +13,8 @@ pub unsafe extern "C" fn zaguypo_run(input: *const u8, input_len: usize, image: 
 /// # Safety
 /// The pointer goes with its length.
 #[no_mangle]
-pub unsafe extern "C" fn zaguypo_step(rows: *mut Row, n: usize, word: u32) -> u16 {
-    reference::step(from_raw_parts_mut(rows, n), word).err().unwrap_or(0)
+pub unsafe extern "C" fn zaguypo_step(rows: *mut Row, n: usize, word: u32) -> StepAnswer {
+    StepAnswer { refusal: reference::step(from_raw_parts_mut(rows, n), word).err().unwrap_or(0) }
 }
 
 /// # Safety

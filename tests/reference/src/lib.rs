@@ -20,7 +20,7 @@ pub use census::{census, Census};
 pub use image::{read_image, write_image};
 pub use row::{check, fresh, Row, Table};
 pub use run::{run, Ran, Tally};
-pub use step::{step, Event};
+pub use step::{step, Event, StepAnswer};
 pub use text::text;
 pub use word::{put_together, take_apart};
 

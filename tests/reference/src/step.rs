@@ -13,6 +13,13 @@ pub struct Event {
     pub after: u16,
 }
 
+/// The answer of a step as the exported function gives it: the refusal or 0.
+#[repr(C)]
+#[derive(Clone, Copy, Debug, Default, PartialEq, Eq)]
+pub struct StepAnswer {
+    pub refusal: u16,
+}
+
 /// Moves the rows by one word. A refused word, or a refused table, changes no row.
 pub fn step(rows: &mut [Row], word: u32) -> Result<Event, u16> {
     match check(rows) {

@@ -3,9 +3,6 @@ use mathlib.Core.Path.{refl, sym, _∙_}
 use borrow.Author.Needs.{needs}
 use Rattle.census.proofs.below_from.Statement.{statement}
 use Rattle.census.proofs.below_from.Tie as tie
-use Rattle.census.proofs.below_from.Reads as reads
-use Rattle.census.proofs.below_from.Lts as lts
-use Rattle.rows.proofs.sound.competes.Reads as competes-reads
 
 competes-requires : tie.Need-competes-requires
 competes-requires c κs = search needs

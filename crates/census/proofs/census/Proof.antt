@@ -5,10 +5,6 @@ use Rattle.cells.specs.View.{rowsOf}
 use Rattle.census.proofs.CensusLaws.{census-refused}
 use Rattle.census.proofs.census.Statement.{statement}
 use Rattle.census.proofs.census.Tie as tie
-use Rattle.census.proofs.census.Reads as reads
-use Rattle.census.proofs.census.Lts as lts
-use Rattle.cells.proofs.checks.check.Reads as check-reads
-use Rattle.census.proofs.counted.Reads as counted-reads
 
 check-requires : tie.Need-check-requires
 check-requires c κs = search needs

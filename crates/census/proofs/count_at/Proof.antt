@@ -13,9 +13,6 @@ use Rattle.cells.proofs.ViewLaws.{rows-length}
 use Rattle.census.specs.Series.{isAt}
 use Rattle.census.proofs.count_at.Statement.{statement}
 use Rattle.census.proofs.count_at.Tie as tie
-use Rattle.census.proofs.count_at.Reads as reads
-use Rattle.census.proofs.count_at.Lts as lts
-use Rattle.cells.proofs.access.row_at.Reads as row-at-reads
 
 abbrev Inv-loop : tie.InvT-loop
 Inv-loop cells low high n s₀ q₀ s q =

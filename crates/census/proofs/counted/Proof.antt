@@ -13,15 +13,6 @@ use Rattle.census.proofs.SeriesLaws.{below-small, held-small, below-fig
 use Rattle.census.proofs.CensusLaws.{census-counted}
 use Rattle.census.proofs.counted.Statement.{statement}
 use Rattle.census.proofs.counted.Tie as tie
-use Rattle.census.proofs.counted.Reads as reads
-use Rattle.census.proofs.counted.Lts as lts
-use Rattle.cells.proofs.access.row_at.Reads as row-at-reads
-use Rattle.census.proofs.below_from.Reads as below-from-reads
-use Rattle.census.proofs.critical.Reads as critical-reads
-use Rattle.census.proofs.figures_in.Reads as figures-in-reads
-use Rattle.census.proofs.held_from.Reads as held-from-reads
-use Rattle.census.proofs.one_more.Reads as one-more-reads
-use Rattle.census.proofs.waiting.Reads as waiting-reads
 
 abbrev Inv-loop : tie.InvT-loop
 Inv-loop cells n below₀ held₀ q₀ below held q =

@@ -7,12 +7,9 @@ use Rattle.machine.specs.Tables.{row}
 use Rattle.machine.specs.Census.{isCritical}
 use Rattle.cells.specs.View.{rowsOf}
 use Rattle.census.specs.Series.{isAt}
-use Rattle.census.proofs.TestLaws.{at-one}
+use Rattle.counting.proofs.TestLaws.{at-one}
 use Rattle.census.proofs.critical.Statement.{statement}
 use Rattle.census.proofs.critical.Tie as tie
-use Rattle.census.proofs.critical.Reads as reads
-use Rattle.census.proofs.critical.Lts as lts
-use Rattle.census.proofs.count_at.Reads as count-at-reads
 
 count-at-requires : tie.Need-count-at-requires
 count-at-requires c κs = search needs

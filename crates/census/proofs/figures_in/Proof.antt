@@ -1,22 +1,19 @@
 -- `figures_in` meets its contract. Assumes nothing.
 use Prim.Native.Nat.{_+_, _-_, _≤_}
-use mathlib.Core.Path.{refl, _∙_}
+use mathlib.Core.Path.{_≡_, refl, _∙_}
 use native.Mathlib.Omega.{arith}
 use native.Mathlib.Numerals.{add-one}
 use lib.Dec.{leb, leb·zero}
 use lib.ListN.{getD, replicate}
 use borrow.Author.Needs.{needs}
 use Rattle.census.specs.Series.{figureAt}
-use Rattle.census.proofs.ArrayLaws.{Filled, filled-zero, filled-next, filled-all}
-use Rattle.census.proofs.TestLaws.{times-bit, cond-le}
+use Rattle.census.proofs.ArrayLaws.{filled, filled-start, filled-next, filled-end}
+use Rattle.counting.proofs.TestLaws.{times-bit, cond-le}
 use Rattle.census.proofs.figures_in.Statement.{statement}
 use Rattle.census.proofs.figures_in.Tie as tie
-use Rattle.census.proofs.figures_in.Reads as reads
-use Rattle.census.proofs.figures_in.Lts as lts
-use Rattle.census.proofs.reaches.Reads as reaches-reads
 
 abbrev Inv-loop : tie.InvT-loop
-Inv-loop n a b₀ i₀ b i = (i ≤ 16) × Filled (figureAt n a) 17 (i + 1) b
+Inv-loop n a b₀ i₀ b i = (i ≤ 16) × (b ≡ filled (figureAt n a) 17 (i + 1))
 
 abbrev μ-loop : tie.MeasureT-loop
 μ-loop n a b₀ i₀ b i = 16 - i
@@ -25,7 +22,7 @@ loop-holds : tie.Need-loop-holds Inv-loop μ-loop
 loop-holds c =
     let g = figureAt (c .args .n) (c .args .t2) in
     let e = leb·zero (c .args .n) in
-    (search needs, filled-next g 17 0 (replicate 17 0) 0 (omega arith) (rw e refl) (filled-zero g 17))
+    (search needs, filled-next g 17 0 0 (replicate 17 0) (omega arith) (rw e refl) (filled-start g 17))
 
 mul-b : tie.Need-mul-b Inv-loop μ-loop
 mul-b c = search needs
@@ -73,14 +70,14 @@ loop-again c =
     let g = figureAt (x .n) (x .t2) in
     let e = times-bit (leb (at .i + 1) (x .n)) (getD (x .t2) (at .i) 0) _ (c .reaches .ensures) in (
       search needs,
-      filled-next g 17 (at .i + 1) (at .b) _ (omega arith) (e ∙ rw (add-one (at .i)) refl) (at .inv .1),
+      filled-next g 17 (at .i + 1) _ (at .b) (omega arith) (e ∙ rw (add-one (at .i)) refl) (at .inv .1),
     )
 
 returns : tie.Need-returns Inv-loop μ-loop
 returns c =
     let x = c .before .before .args in
     let at = c .before .loop in
-    filled-all (figureAt (x .n) (x .t2)) 17 (at .i + 1) (at .b) (omega arith) (at .inv .1)
+    at .inv .1 ∙ filled-end (figureAt (x .n) (x .t2)) 17 (at .i + 1) (omega arith)
 
 pub figures-in-spec : {M : Type 1} → statement M
 figures-in-spec =

@@ -6,10 +6,6 @@ use borrow.Author.Tests.{not-true, not-false}
 use Rattle.census.proofs.ThresholdLaws.{held-from-is}
 use Rattle.census.proofs.held_from.Statement.{statement}
 use Rattle.census.proofs.held_from.Tie as tie
-use Rattle.census.proofs.held_from.Reads as reads
-use Rattle.census.proofs.held_from.Lts as lts
-use Rattle.rows.proofs.sound.competes.Reads as competes-reads
-use Rattle.sets.proofs.size.Reads as size-reads
 
 competes-requires : tie.Need-competes-requires
 competes-requires c κs = search needs

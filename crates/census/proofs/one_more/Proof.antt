@@ -1,27 +1,24 @@
 -- `one_more` meets its contract. Assumes nothing.
 use Prim.Native.Nat.{ℕ, _+_, _-_, _≤_}
-use mathlib.Core.Path.{ap}
+use mathlib.Core.Path.{_≡_, ap, _∙_}
 use native.Mathlib.Omega.{arith}
 use lib.Dec.{leb}
 use lib.ListN.{getD}
 use borrow.Author.Needs.{needs}
 use Rattle.counting.proofs.CountLaws.{bit-le-one}
 use Rattle.census.specs.Series.{moreAt}
-use Rattle.census.proofs.ArrayLaws.{Filled, filled-zero, filled-next, filled-all}
+use Rattle.census.proofs.ArrayLaws.{filled, filled-start, filled-next, filled-end}
 use Rattle.census.proofs.one_more.Statement.{statement}
 use Rattle.census.proofs.one_more.Tie as tie
-use Rattle.census.proofs.one_more.Reads as reads
-use Rattle.census.proofs.one_more.Lts as lts
-use Rattle.census.proofs.reaches.Reads as reaches-reads
 
 abbrev Inv-loop : tie.InvT-loop
-Inv-loop from a b₀ i₀ b i = (i ≤ 16) × Filled (moreAt a from) 16 i b
+Inv-loop from a b₀ i₀ b i = (i ≤ 16) × (b ≡ filled (moreAt a from) 16 i)
 
 abbrev μ-loop : tie.MeasureT-loop
 μ-loop from a b₀ i₀ b i = 16 - i
 
 loop-holds : tie.Need-loop-holds Inv-loop μ-loop
-loop-holds c = (search needs, filled-zero (moreAt (c .args .t1) (c .args .from)) 16)
+loop-holds c = (search needs, filled-start (moreAt (c .args .t1) (c .args .from)) 16)
 
 mul-b : tie.Need-mul-b Inv-loop μ-loop
 mul-b c = search needs
@@ -60,13 +57,13 @@ loop-again c =
     let at = c .before .before .loop in
     let l = c .before .loop-test .taken in
     let e = ap (λ (v : ℕ). getD (x .t1) (at .i) 0 + v) (c .reaches .ensures) in
-    (search needs, filled-next (moreAt (x .t1) (x .from)) 16 (at .i) (at .b) _ l e (at .inv .1))
+    (search needs, filled-next (moreAt (x .t1) (x .from)) 16 (at .i) _ (at .b) l e (at .inv .1))
 
 returns : tie.Need-returns Inv-loop μ-loop
 returns c =
     let x = c .before .before .args in
     let at = c .before .loop in
-    filled-all (moreAt (x .t1) (x .from)) 16 (at .i) (at .b) (omega arith) (at .inv .1)
+    at .inv .1 ∙ filled-end (moreAt (x .t1) (x .from)) 16 (at .i) (omega arith)
 
 pub one-more-spec : {M : Type 1} → statement M
 one-more-spec =

@@ -3,8 +3,6 @@ use borrow.Author.Needs.{needs}
 use Rattle.census.proofs.TestLaws.{near-reaches}
 use Rattle.census.proofs.reaches.Statement.{statement}
 use Rattle.census.proofs.reaches.Tie as tie
-use Rattle.census.proofs.reaches.Reads as reads
-use Rattle.census.proofs.reaches.Lts as lts
 
 add-result : tie.Need-add-result
 add-result c = search needs

@@ -4,9 +4,6 @@ use lib.ListN.{length}
 use borrow.Author.Needs.{needs}
 use Rattle.images_try.proofs.alike.Statement.{statement}
 use Rattle.images_try.proofs.alike.Tie as tie
-use Rattle.images_try.proofs.alike.Reads as reads
-use Rattle.images_try.proofs.alike.Lts as lts
-use Rattle.images_try.proofs.one_if.Reads as one-if-reads
 
 abbrev Inv-loop : tie.InvT-loop
 Inv-loop a b count₀ i₀ count i = (i ≤ length a) × (count ≤ i)

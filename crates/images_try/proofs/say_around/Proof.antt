@@ -1,21 +1,13 @@
 -- `images_try::say_around` is safe: an image of at most 16 processes fits 90 words. Assumes nothing.
-use Prim.Native.Nat.{_*_}
 use mathlib.Core.Path.{sym}
 use lib.ListN.{length}
 use lib.Seq.{length-take-le}
 use borrow.Author.Needs.{needs}
 use Rattle.images_try.proofs.say_around.Statement.{statement}
 use Rattle.images_try.proofs.say_around.Tie as tie
-use Rattle.images_try.proofs.say_around.Reads as reads
-use Rattle.images_try.proofs.say_around.Lts as lts
-use Rattle.images.proofs.decoding.read_cells.Reads as read-cells-reads
-use Rattle.images.proofs.encoding.write.Reads as write-reads
-use Rattle.images_try.proofs.alike.Reads as alike-reads
-use Rattle.images_try.proofs.answer_of.Reads as answer-of-reads
-use Rattle.images_try.proofs.say.Reads as say-reads
 
-mul-all : tie.Need-mul-all
-mul-all c = search needs
+image-words-requires : tie.Need-image-words-requires
+image-words-requires c κs = search needs
 
 slice-aggregate-write : tie.Need-slice-aggregate-write
 slice-aggregate-write c = search needs
@@ -37,7 +29,7 @@ array-share-prefix-first c = search needs
 
 slice-aggregate-read-cells : tie.Need-slice-aggregate-read-cells
 slice-aggregate-read-cells c =
-    sym (length-take-le (5 * length (c .before .before .before .before .before .before .before .args .cells .now))
+    sym (length-take-le (c .before .before .before .before .before .before .image-words .result)
     (c .before .before .before .before .write .last .1 .0) (search needs))
 
 slice-aggregate-read-cells-2 : tie.Need-slice-aggregate-read-cells-2
@@ -61,7 +53,7 @@ array-share-prefix-back c = search needs
 slice-aggregate-write-2 : tie.Need-slice-aggregate-write-2
 slice-aggregate-write-2 c =
     sym (length-take-le (length (c .before .before .before .before .before .before .before .before .before .before
-    .before .before .before .before .args .cells .now))
+    .before .before .before .before .before .args .cells .now))
     (c .before .before .before .before .before .read-cells .last .1 .0) (search needs))
 
 slice-aggregate-write-3 : tie.Need-slice-aggregate-write-3
@@ -113,7 +105,7 @@ pub say-around-spec : {M : Type 1} → statement M
 say-around-spec =
     tie.close
     (tie.spec
-    mul-all
+    image-words-requires
     slice-aggregate-write
     write-requires
     cast-say

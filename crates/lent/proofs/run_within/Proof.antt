@@ -1,24 +1,27 @@
 -- A run on the first n rows of cells: over 16 rows nothing is done, else `runs::run` works on a slice of its own.
 -- Assumes nothing.
-use mathlib.Core.Path.{sym}
+use mathlib.Core.Path.{sym, subst}
 use native.Mathlib.Omega.{arith}
 use lib.Seq.{length-take-le}
 use borrow.Author.Needs.{needs}
+use Rattle.runs.specs.declared.RunAnswer.{RunAnswer}
+use Rattle.lent.specs.Contracts.{RunsTo}
 use Rattle.lent.proofs.AnswerLaws.{run-over}
 use Rattle.lent.proofs.WithinLaws.{within-over, within-part}
 use Rattle.lent.proofs.run_within.Statement.{statement}
 use Rattle.lent.proofs.run_within.Tie as tie
-use Rattle.lent.proofs.run_within.Reads as reads
-use Rattle.lent.proofs.run_within.Lts as lts
-use Rattle.runs.proofs.run.Reads as run-reads
 
-cast-t5 : tie.Need-cast-t5
-cast-t5 c = search needs
+untaken-requires : tie.Need-untaken-requires
+untaken-requires c κs = search needs
 
 returns : tie.Need-returns
 returns c =
-    let many = c .if1 .taken in
-    within-over _ _ _ many (λ t e. run-over t (omega (arith, e, many)) _)
+    let many = c .before .if1 .taken in
+    let ws = c .before .before .before .args .words .now in
+    within-over _ _ _ many
+    (λ t e.
+    subst (λ (r : RunAnswer). RunsTo ws (r .ran) (r .tally) t t) (sym (c .untaken .ensures))
+    (run-over t (omega (arith, e, many)) ws))
 
 slice-relend-prefix-run : tie.Need-slice-relend-prefix-run
 slice-relend-prefix-run c = search needs
@@ -44,7 +47,7 @@ pub run-within-spec : {M : Type 1} → statement M
 run-within-spec =
     tie.close
     (tie.spec
-    cast-t5
+    untaken-requires
     returns
     slice-relend-prefix-run
     slice-aggregate-run

@@ -1,18 +1,13 @@
 -- A step on the first n rows of cells: over 16 rows nothing is done, else `step` works on a slice of its own.
 -- Assumes nothing.
-use mathlib.Core.Path.{sym, ap, _∙_}
+use mathlib.Core.Path.{sym}
 use native.Mathlib.Omega.{arith}
 use lib.Seq.{length-take-le}
 use borrow.Author.Needs.{needs}
-use Rattle.lent.specs.Within.{refusalIn}
-use Rattle.lent.proofs.AnswerLaws.{step-over, refusal-of-answer}
+use Rattle.lent.proofs.AnswerLaws.{step-over, answer-to-c}
 use Rattle.lent.proofs.WithinLaws.{within-over, within-part}
 use Rattle.lent.proofs.step_within.Statement.{statement}
 use Rattle.lent.proofs.step_within.Tie as tie
-use Rattle.lent.proofs.step_within.Reads as reads
-use Rattle.lent.proofs.step_within.Lts as lts
-use Rattle.steps.proofs.stepping.step.Reads as step-reads
-use Rattle.lent.proofs.refusal_in.Reads as refusal-in-reads
 
 returns : tie.Need-returns
 returns c =
@@ -36,11 +31,11 @@ same-length c = search needs
 
 returns-2 : tie.Need-returns-2
 returns-2 c =
-    let start = c .before .before .before .before .before in
+    let start = c .before .before .before .before .before .before in
     let made = c .before .before .step .ensures in
     within-part _ (start .args .n) (start .args .cells .now) (search needs) (start .pre)
     (c .before .before .step .last .0) (made .becomes .size-is)
-    (c .refusal-in .ensures ∙ ap refusalIn (made .answer-is) ∙ refusal-of-answer _ _, made .becomes .rows-are)
+    (answer-to-c _ _ _ _ (c .refusal-in .ensures) (made .answer-is), made .becomes .rows-are)
 
 pub step-within-spec : {M : Type 1} → statement M
 step-within-spec =

@@ -2,8 +2,6 @@
 use mathlib.Core.Path.{refl}
 use Rattle.octets.proofs.bytes_fit.Statement.{statement}
 use Rattle.octets.proofs.bytes_fit.Tie as tie
-use Rattle.octets.proofs.bytes_fit.Reads as reads
-use Rattle.octets.proofs.bytes_fit.Lts as lts
 
 returns : tie.Need-returns
 returns c = refl

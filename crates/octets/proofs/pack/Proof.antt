@@ -8,13 +8,11 @@ use Prim.Native.Nat.{ℕ, suc, _+_, _-_, _*_, _≤_}
 use lib.ListN.{length, getD, take}
 use lib.Seq.{take-suc, take-length, length-take-le}
 use Rattle.machine.specs.Bytes.{bytesOf}
-use Rattle.octets.specs.Placing.{placed}
-use Rattle.octets.proofs.PlacingLaws.{placed-none, placed-then}
+use Rattle.counting.specs.Placing.{placed}
+use Rattle.counting.proofs.PlacingLaws.{placed-none, placed-then}
 use Rattle.octets.proofs.ByteLaws.{bytesOf-append, length-bytesOf}
 use Rattle.octets.proofs.pack.Statement.{statement}
 use Rattle.octets.proofs.pack.Tie as tie
-use Rattle.octets.proofs.pack.Reads as reads
-use Rattle.octets.proofs.pack.Lts as lts
 
 -- the bytes after i words
 abbrev after : List ℕ → List ℕ → ℕ → List ℕ

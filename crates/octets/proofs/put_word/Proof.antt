@@ -1,13 +1,9 @@
 -- `octets::put_word` meets its contract: four stores in a row. Assumes nothing.
 use borrow.Author.Needs.{needs}
 use native.Mathlib.Omega.{arith}
-use mathlib.Core.Path.{_≡_, _∙_}
-use mathlib.Core.List.{List, [], _∷_, append-assoc}
-use Prim.Native.Nat.{ℕ, suc, _+_, _/_, _%_, _^_}
-use lib.ListN.{take, drop, length-set}
-use lib.Seq.{sets-eq}
+use lib.ListN.{length-set}
+use Rattle.counting.proofs.PlacingLaws.{placed-four}
 use Rattle.machine.specs.Bytes.{bytesOf}
-use Rattle.octets.specs.Placing.{placed}
 use Rattle.octets.proofs.put_word.Statement.{statement}
 use Rattle.octets.proofs.put_word.Tie as tie
 
@@ -48,17 +44,8 @@ same-length : tie.Need-same-length
 same-length c = simp length-set
 
 returns : tie.Need-returns
-unfolding placed bytesOf
-returns c =
-    let at = c .args .at in
-    let w = c .args .word in
-    let bytes : List ℕ = (w % 2 ^ 8) ∷ (w / 2 ^ 8 % 2 ^ 8) ∷ (w / 2 ^ 16 % 2 ^ 8) ∷ (w / 2 ^ 24 % 2 ^ 8) ∷ [] in
-    let second : at + 1 ≡ suc at = omega arith in
-    let third : at + 2 ≡ suc (suc at) = omega arith in
-    let fourth : at + 3 ≡ suc (suc (suc at)) = omega arith in
-    rw (second, third, fourth)
-    (sets-eq bytes (c .args .bytes .now) at (c .pre)
-    ∙ append-assoc (take at (c .args .bytes .now)) bytes (drop (at + 4) (c .args .bytes .now)))
+unfolding bytesOf
+returns c = placed-four (c .args .bytes .now) (c .args .at) _ _ _ _ (c .pre)
 
 pub put-word-spec : {M : Type 1} → statement M
 put-word-spec =

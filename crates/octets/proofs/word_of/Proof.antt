@@ -2,9 +2,6 @@
 use borrow.Author.Needs.{needs}
 use Rattle.octets.proofs.word_of.Statement.{statement}
 use Rattle.octets.proofs.word_of.Tie as tie
-use Rattle.octets.proofs.word_of.Reads as reads
-use Rattle.octets.proofs.word_of.Lts as lts
-use Rattle.octets.proofs.wide.Reads as wide-reads
 
 wide-requires : tie.Need-wide-requires
 wide-requires c κs = search needs

@@ -1,17 +1,13 @@
 -- `replay::main`: what is written is within the buffer. No contract can say what a program reads or writes. Assumes
 -- nothing.
 use mathlib.Core.Path.{sym, _∙_}
+use Prim.Native.Nat.{_≤_}
 use lib.ListN.{length}
 use lib.Seq.{length-take-le}
 use Rattle.text.proofs.PrintLaws.{bytes-within}
 use borrow.Author.Needs.{needs}
 use Rattle.replay.proofs.main.Statement.{statement}
 use Rattle.replay.proofs.main.Tie as tie
-use Rattle.replay.proofs.main.Reads as reads
-use Rattle.replay.proofs.main.Lts as lts
-use Rattle.io.proofs.read_full.Reads as read-full-reads
-use Rattle.io.proofs.write_all.Reads as write-all-reads
-use Rattle.text.proofs.print_run.Reads as print-run-reads
 
 slice-aggregate-read-full : tie.Need-slice-aggregate-read-full
 slice-aggregate-read-full c = search needs
@@ -34,18 +30,20 @@ print-run-requires c κs = search needs
 enum-known-length : tie.Need-enum-known-length
 enum-known-length c = search needs
 
-array-share-prefix-out : tie.Need-array-share-prefix-out
-array-share-prefix-out c =
-    let print = c .before .before .before .before .print-run in
-    let told = c .before .length .given in
+-- the text is within the buffer
+within : (c : tie.After-length) → c .length .given .0 .0 ≤ length (c .before .before .before .print-run .last .1 .0)
+within c =
+    let print = c .before .before .before .print-run in
+    let told = c .length .given in
     bytes-within _ _ (print .last .1 .0) (told .0 .0) (sym (told .1) ∙ print .ensures .0) (print .ensures .1)
+
+array-share-prefix-out : tie.Need-array-share-prefix-out
+array-share-prefix-out c = within (c .before)
 
 slice-aggregate-write-all : tie.Need-slice-aggregate-write-all
 slice-aggregate-write-all c =
-    let print = c .before .before .before .before .before .print-run in
-    let told = c .before .before .length .given in
-    sym (length-take-le (told .0 .0) (print .last .1 .0)
-    (bytes-within _ _ (print .last .1 .0) (told .0 .0) (sym (told .1) ∙ print .ensures .0) (print .ensures .1)))
+    let l = c .before .before in
+    sym (length-take-le (l .length .given .0 .0) (l .before .before .before .print-run .last .1 .0) (within l))
 
 write-all-requires : tie.Need-write-all-requires
 write-all-requires c κs = search needs

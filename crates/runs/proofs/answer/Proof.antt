@@ -2,8 +2,6 @@
 use mathlib.Core.Path.{refl}
 use Rattle.runs.proofs.answer.Statement.{statement}
 use Rattle.runs.proofs.answer.Tie as tie
-use Rattle.runs.proofs.answer.Reads as reads
-use Rattle.runs.proofs.answer.Lts as lts
 
 returns : tie.Need-returns
 returns c = refl

@@ -3,8 +3,6 @@ use mathlib.Core.Path.{refl}
 use borrow.Author.Needs.{needs}
 use Rattle.runs.proofs.counted.Statement.{statement}
 use Rattle.runs.proofs.counted.Tie as tie
-use Rattle.runs.proofs.counted.Reads as reads
-use Rattle.runs.proofs.counted.Lts as lts
 
 enum-told : tie.Need-enum-told
 enum-told c = search needs

@@ -2,23 +2,20 @@
 use mathlib.Core.Path.{_≡_, refl, sym, _∙_}
 use native.Mathlib.Omega.{arith}
 use borrow.Author.Needs.{needs}
+use Rattle.machine.specs.Refusals.{tooManyWords}
 use Rattle.machine.specs.Tables.{tableRefusal}
 use Rattle.machine.specs.Runs.{zeroTally}
 use Rattle.cells.specs.View.{rowsOf}
-use Rattle.runs.proofs.RunLaws.{runOf-table, runOf-words, runOf-taken, ended, runs-as}
+use Rattle.machine.proofs.RunLaws.{runOf-table, runOf-words, runOf-taken}
+use Rattle.runs.proofs.RunLaws.{runs-ended, runs-as}
 use Rattle.runs.proofs.run.Statement.{statement}
 use Rattle.runs.proofs.run.Tie as tie
-use Rattle.runs.proofs.run.Reads as reads
-use Rattle.runs.proofs.run.Lts as lts
-use Rattle.cells.proofs.checks.check.Reads as check-reads
-use Rattle.runs.proofs.answer.Reads as answer-reads
-use Rattle.runs.proofs.run_words.Reads as run-words-reads
 
 check-requires : tie.Need-check-requires
 check-requires c κs = search needs
 
-answer-requires : tie.Need-answer-requires
-answer-requires c κs = search needs
+untaken-requires : tie.Need-untaken-requires
+untaken-requires c κs = search needs
 
 same-length : tie.Need-same-length
 same-length c = search needs
@@ -28,15 +25,15 @@ returns c =
     let a = c .before .before .before .before .before .args in
     let x = a .cells .now in
     let o = runOf-table (rowsOf x) (a .words .now) _ (c .before .before .check .ensures) (c .before .if1 .taken) in
-    ended x x _ zeroTally _ _ refl o (c .answer .ensures)
+    runs-ended x x _ zeroTally _ _ refl o (c .untaken .ensures)
 
 -- ---- where the table is sound
 
 sound : (c : tie.Else1) → tableRefusal (rowsOf (c .before .before .before .before .args .cells .now)) ≡ 0
 sound c = sym (c .before .check .ensures) ∙ c .if1 .left
 
-answer-requires-2 : tie.Need-answer-requires-2
-answer-requires-2 c κs = search needs
+untaken-requires-2 : tie.Need-untaken-requires-2
+untaken-requires-2 c κs = search needs
 
 same-length-2 : tie.Need-same-length-2
 same-length-2 c = search needs
@@ -47,7 +44,7 @@ returns-2 c =
     let a = e .before .before .before .before .args in
     let x = a .cells .now in
     let o = runOf-words (rowsOf x) (a .words .now) (sound e) (omega arith) in
-    ended x x _ zeroTally 12 _ refl o (c .answer2 .ensures)
+    runs-ended x x _ zeroTally tooManyWords _ refl o (c .untaken2 .ensures)
 
 run-words-requires : tie.Need-run-words-requires
 run-words-requires c κs = record { table-sound = sound (c .before .before); words-few = omega arith }
@@ -67,10 +64,10 @@ run-spec =
     tie.close
     (tie.spec
     check-requires
-    answer-requires
+    untaken-requires
     same-length
     returns
-    answer-requires-2
+    untaken-requires-2
     same-length-2
     returns-2
     run-words-requires

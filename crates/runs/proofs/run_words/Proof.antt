@@ -8,18 +8,15 @@ use Rattle.machine.specs.Tables.{tableRefusal}
 use Rattle.machine.specs.Steps.{eventOf}
 use Rattle.machine.specs.Runs.{counted, zeroTally, runFrom}
 use Rattle.machine.specs.declared.Event.{Event}
+use Rattle.machine.specs.declared.Told.{Told}
 use Rattle.machine.specs.declared.Tally.{Tally}
 use Rattle.machine.proofs.Soundness.{word-keeps-sound}
 use Rattle.cells.specs.View.{rowsOf}
-use Rattle.runs.proofs.RunLaws.{answer-moved, answer-refused, run-turn, run-halt, run-past, ended}
+use Rattle.machine.proofs.AnswerLaws.{answer-moved, answer-refused}
+use Rattle.runs.proofs.RunLaws.{run-turn, run-halt, run-past, runs-ended}
 use Rattle.runs.proofs.RunLaws.{counted-words, counted-comes, counted-arrivals}
 use Rattle.runs.proofs.run_words.Statement.{statement}
 use Rattle.runs.proofs.run_words.Tie as tie
-use Rattle.runs.proofs.run_words.Reads as reads
-use Rattle.runs.proofs.run_words.Lts as lts
-use Rattle.steps.proofs.stepping.advance.Reads as advance-reads
-use Rattle.runs.proofs.answer.Reads as answer-reads
-use Rattle.runs.proofs.counted.Reads as counted-reads
 
 -- the tally counts i words
 record Counts (i : ℕ) (h : Tally) : Type 0 where
@@ -69,8 +66,8 @@ shared-slice-read-advance c = search needs
 advance-requires : tie.Need-advance-requires Inv-loop μ-loop
 advance-requires c κs = c .before .before .before .loop .inv .4
 
-enum-known-event : tie.Need-enum-known-event Inv-loop μ-loop
-enum-known-event c = search needs
+enum-known-told : tie.Need-enum-known-told Inv-loop μ-loop
+enum-known-told c = search needs
 
 counted-requires : tie.Need-counted-requires Inv-loop μ-loop
 counted-requires c κs =
@@ -98,8 +95,9 @@ returns c =
     let s = c .before .before .before .before .before .advance .ensures in
     let m = answer-refused t w _ (sym (s .answer-is) ∙ c .before .before .refusal .given .1) in
     let halt = run-halt t _ (at .tally) ws (at .i) _ (omega arith) (m .0) (s .becomes .rows-are) (m .1) in
+    let size = s .becomes .size-is ∙ v .3 in
     record {
-      runs = ended (a .cells .now) _ _ (at .tally) _ _ (s .becomes .size-is ∙ v .3) (v .6 ∙ halt) (c .answer .ensures);
+      runs = runs-ended (a .cells .now) _ _ (at .tally) _ _ size (v .6 ∙ halt) (c .answer .ensures);
       sound-after = ap tableRefusal (s .becomes .rows-are) ∙ word-keeps-sound t w (v .4);
     }
 
@@ -118,8 +116,8 @@ loop-again c =
     let t = rowsOf (at .cells) in
     let w = getD ws (at .i) 0 in
     let s = c .before .before .before .before .before .advance .ensures in
-    let m = answer-moved t w _ (sym (s .answer-is) ∙ c .before .before .event .given .1) in
-    let h = c .counted .ensures ∙ ap (λ (e : Event). counted e (at .tally)) (m .1) in
+    let m = answer-moved t w _ (sym (s .answer-is) ∙ c .before .before .told .given .1) in
+    let h = c .counted .ensures ∙ ap (λ (o : Told). counted (o .event) (at .tally)) (m .1) in
     let counts = count-on (at .i) (eventOf t w) (at .tally) (v .5) in (
       search needs,
       v .1,
@@ -143,7 +141,7 @@ returns-2 c =
     let ws = c .before .before .before .before .args .words .now in
     let x = c .before .before .before .before .args .cells .now in
     let o = v .6 ∙ run-past (rowsOf (at .cells)) (at .tally) ws (at .i) (omega arith) in
-    record { runs = ended x (at .cells) _ (at .tally) 0 _ (v .3) o (c .answer2 .ensures); sound-after = v .4 }
+    record { runs = runs-ended x (at .cells) _ (at .tally) 0 _ (v .3) o (c .answer2 .ensures); sound-after = v .4 }
 
 pub run-words-spec : {M : Type 1} → statement M
 run-words-spec =
@@ -155,7 +153,7 @@ run-words-spec =
     mul-advance
     shared-slice-read-advance
     advance-requires
-    enum-known-event
+    enum-known-told
     counted-requires
     enum-known-refusal
     answer-requires

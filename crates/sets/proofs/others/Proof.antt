@@ -6,7 +6,7 @@ use lib.Pow.{pow-mono}
 use borrow.Author.Needs.{needs}
 use Rattle.counting.specs.Sets.{others}
 use Rattle.counting.proofs.BitLaws.{one-shl, others-is}
-use Rattle.sets.specs.Answers.{Among}
+use Rattle.sets.specs.Bounds.{Among}
 use Rattle.sets.proofs.others.Statement.{statement}
 use Rattle.sets.proofs.others.Tie as tie
 

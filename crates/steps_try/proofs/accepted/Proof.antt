@@ -7,10 +7,6 @@ use lib.ListN.{length}
 use borrow.Author.Needs.{needs}
 use Rattle.steps_try.proofs.accepted.Statement.{statement}
 use Rattle.steps_try.proofs.accepted.Tie as tie
-use Rattle.steps_try.proofs.accepted.Reads as reads
-use Rattle.steps_try.proofs.accepted.Lts as lts
-use Rattle.steps.proofs.stepping.step.Reads as step-reads
-use Rattle.steps_try.proofs.refusal_of.Reads as refusal-of-reads
 
 abbrev Inv-loop : tie.InvT-loop
 Inv-loop cells₀ words taken₀ i₀ cells taken i = (i ≤ length words) × (taken ≤ i) × (length cells ≡ length cells₀)

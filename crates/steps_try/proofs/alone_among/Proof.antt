@@ -4,9 +4,6 @@ use lib.Seq.{length-take-le}
 use borrow.Author.Needs.{needs}
 use Rattle.steps_try.proofs.alone_among.Statement.{statement}
 use Rattle.steps_try.proofs.alone_among.Tie as tie
-use Rattle.steps_try.proofs.alone_among.Reads as reads
-use Rattle.steps_try.proofs.alone_among.Lts as lts
-use Rattle.steps_try.proofs.alone.Reads as alone-reads
 
 returns : tie.Need-returns
 returns c = search needs

@@ -5,10 +5,6 @@ use lib.ListN.{length}
 use borrow.Author.Needs.{needs}
 use Rattle.steps_try.proofs.every_size.Statement.{statement}
 use Rattle.steps_try.proofs.every_size.Tie as tie
-use Rattle.steps_try.proofs.every_size.Reads as reads
-use Rattle.steps_try.proofs.every_size.Lts as lts
-use Rattle.steps_try.proofs.alone_among.Reads as alone-among-reads
-use Rattle.steps_try.proofs.say.Reads as say-reads
 
 abbrev Inv-loop : tie.InvT-loop
 Inv-loop room₀ n₀ t3 t4 room n = (n ≤ 17) × (length room ≡ 16)

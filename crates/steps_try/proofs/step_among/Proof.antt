@@ -4,10 +4,6 @@ use lib.Seq.{length-take-le}
 use borrow.Author.Needs.{needs}
 use Rattle.steps_try.proofs.step_among.Statement.{statement}
 use Rattle.steps_try.proofs.step_among.Tie as tie
-use Rattle.steps_try.proofs.step_among.Reads as reads
-use Rattle.steps_try.proofs.step_among.Lts as lts
-use Rattle.steps.proofs.stepping.step.Reads as step-reads
-use Rattle.steps_try.proofs.refusal_of.Reads as refusal-of-reads
 
 returns : tie.Need-returns
 returns c = search needs

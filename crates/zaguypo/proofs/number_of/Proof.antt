@@ -2,8 +2,6 @@
 use borrow.Author.Needs.{needs}
 use Rattle.zaguypo.proofs.number_of.Statement.{statement}
 use Rattle.zaguypo.proofs.number_of.Tie as tie
-use Rattle.zaguypo.proofs.number_of.Reads as reads
-use Rattle.zaguypo.proofs.number_of.Lts as lts
 
 mul-result : tie.Need-mul-result
 mul-result c = search needs

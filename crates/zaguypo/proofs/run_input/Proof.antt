@@ -1,129 +1,150 @@
--- `zaguypo::run_input` meets its contract: a refused image, or the call for its table. Assumes nothing.
+-- `zaguypo::run_input` meets its contract: the call for what the input holds. Assumes nothing.
 use native.Mathlib.Omega.{arith}
-use mathlib.Core.Path.{refl, sym, _∙_}
+use mathlib.Core.Path.{_≡_, sym, subst}
 use mathlib.Core.List.{List}
-use Prim.Native.Nat.{ℕ, _≤_}
-use lib.ListN.{length, take}
+use Prim.Native.Nat.{ℕ, _-_}
+use lib.ListN.{drop, length-take}
 use lib.Seq.{length-take-le}
-use Rattle.inputs.proofs.SplitLaws.{events-left}
-use Rattle.inputs.proofs.ReadingLaws.{Loaded, loaded}
-use Rattle.zaguypo.proofs.CallLaws.{calls-as, calls-refused, wordsCall-refused, wordsCall-table}
+use Rattle.machine.specs.Inputs.{Input, inputOf}
+use Rattle.inputs.specs.Opening.{ShowsReady, Shows}
+use Rattle.inputs.specs.declared.Opened.{Opened}
+use Rattle.zaguypo.proofs.CallLaws.{calls-as, call-of, calls-bad-bytes, calls-bad-image, calls-too-many}
 use borrow.Author.Needs.{needs}
 use Rattle.zaguypo.proofs.run_input.Statement.{statement}
 use Rattle.zaguypo.proofs.run_input.Tie as tie
-use Rattle.zaguypo.proofs.run_input.Reads as reads
-use Rattle.zaguypo.proofs.run_input.Lts as lts
-use Rattle.images.proofs.decoding.read_cells.Reads as read-cells-reads
-use Rattle.inputs.proofs.image_length.Reads as image-length-reads
-use Rattle.zaguypo.proofs.run_table.Reads as run-table-reads
 
-image-length-requires : tie.Need-image-length-requires
-image-length-requires c κs = search needs
+slice-aggregate-open-input : tie.Need-slice-aggregate-open-input
+slice-aggregate-open-input c = search needs
 
-slice-aggregate-read-cells : tie.Need-slice-aggregate-read-cells
-slice-aggregate-read-cells c =
-    let cut = c .before .image-length in
-    sym (length-take-le (cut .result) (c .before .before .before .before .args .words .now) (cut .ensures .within))
+open-input-requires : tie.Need-open-input-requires
+open-input-requires c κs = record { room = c .before .before .before .before .before .pre; cells = search needs }
 
-slice-aggregate-read-cells-2 : tie.Need-slice-aggregate-read-cells-2
-slice-aggregate-read-cells-2 c = search needs
+enum-told : tie.Need-enum-told
+enum-told c = search needs
 
-read-cells-requires : tie.Need-read-cells-requires
-read-cells-requires c κs = search needs
-
-enum-known-n : tie.Need-enum-known-n
-enum-known-n c = search needs
-
-cast-size : tie.Need-cast-size
-cast-size c = search needs
-
--- ---- a table was read
-
--- the words of the image
-abbrev image : tie.After-image-length → List ℕ
-image c = take (c .image-length .result) (c .before .before .before .args .words .now)
-
-table : (c : tie.After-n)
-    → let r = c .before .before .before in
-    Loaded (image (r .before .before .before)) (r .read-cells .last .1 .0) (c .n .given .0 .0)
-table c =
-    let r = c .before .before .before in
-    loaded (image (r .before .before .before)) _ (r .read-cells .last .1 .0) (r .read-cells .result) _
-    (r .read-cells .ensures) (c .n .given .1)
-
--- its rows are among the cells
-within : (c : tie.After-n) → c .n .given .0 .0 ≤ length (c .before .before .before .read-cells .last .1 .0)
-within c = omega (arith, table c .few, c .before .before .before .read-cells .kept .1 .0)
-
-array-borrow-prefix-cells : tie.Need-array-borrow-prefix-cells
-array-borrow-prefix-cells c = within (c .before)
-
-slice-aggregate-run-table : tie.Need-slice-aggregate-run-table
-slice-aggregate-run-table c =
-    let r = c .before .before in
-    sym (length-take-le (r .n .given .0 .0) (r .before .before .before .read-cells .last .1 .0) (within r))
-
-mul-run-table : tie.Need-mul-run-table
-mul-run-table c = search needs
-
-sub-run-table : tie.Need-sub-run-table
-sub-run-table c = search needs
-
-part-run-table-start : tie.Need-part-run-table-start
-part-run-table-start c = search needs
-
-part-run-table-end : tie.Need-part-run-table-end
-part-run-table-end c = search needs
-
-run-table-requires : tie.Need-run-table-requires
-run-table-requires c κs = table (c .before .before .before .before) .sound
+cast-result : tie.Need-cast-result
+cast-result c = search needs
 
 enum-known-number : tie.Need-enum-known-number
 enum-known-number c = search needs
 
-cast-result : tie.Need-cast-result
-cast-result c = search needs
+cast-result-2 : tie.Need-cast-result-2
+cast-result-2 c = search needs
+
+enum-told-2 : tie.Need-enum-told-2
+enum-told-2 c = search needs
+
+cast-result-3 : tie.Need-cast-result-3
+cast-result-3 c = search needs
+
+enum-known-size : tie.Need-enum-known-size
+enum-known-size c = search needs
+
+-- what the answer says of the input
+abbrev bytes : tie.After-open-input → List ℕ
+bytes o = o .before .before .before .before .before .before .args .input .now
+
+abbrev lent : tie.After-open-input → List ℕ
+lent o = o .before .before .before .before .before .before .args .image .now
+
+said : (o : tie.After-open-input) (r : Opened) → o .open-input .result ≡ r
+    → Shows (inputOf (bytes o)) (o .open-input .last .1 .0) (o .open-input .last .1 .1 .0) r
+said o r e =
+    subst (λ (v : Opened). Shows (inputOf (bytes o)) (o .open-input .last .1 .0) (o .open-input .last .1 .1 .0) v) e
+    (o .open-input .ensures)
+
+-- ---- a table and its event words
+
+abbrev opened : tie.After-size → tie.After-open-input
+opened c = c .before .before .before .before .before
+
+ready : (c : tie.After-size)
+    → let o = opened c .open-input in
+    let g = c .size .given .0 in
+    ShowsReady (inputOf (bytes (opened c))) (o .last .1 .0) (o .last .1 .1 .0) (g .0) (g .1 .0) (g .1 .1 .0)
+ready c = said (opened c) _ (c .size .given .1)
+
+array-borrow-prefix-cells : tie.Need-array-borrow-prefix-cells
+array-borrow-prefix-cells c = ready (c .before) .table .within
+
+slice-aggregate-run-table : tie.Need-slice-aggregate-run-table
+slice-aggregate-run-table c =
+    let z = c .before .before in
+    sym (length-take-le (z .size .given .0 .0) (opened z .open-input .last .1 .1 .0) (ready z .table .within))
+
+mul-run-table : tie.Need-mul-run-table
+mul-run-table c = let r = ready (c .before .before) in omega (arith, r .ordered, r .ends)
+
+sub-run-table : tie.Need-sub-run-table
+sub-run-table c = let r = ready (c .before .before) in omega (arith, r .ordered, r .ends)
+
+part-run-table-start : tie.Need-part-run-table-start
+part-run-table-start c = let r = ready (c .before .before .before) in omega (arith, r .ordered, r .ends)
+
+part-run-table-end : tie.Need-part-run-table-end
+part-run-table-end c = let r = ready (c .before .before .before) in omega (arith, r .ordered, r .ends)
+
+run-table-requires : tie.Need-run-table-requires
+run-table-requires c κs =
+    let z = c .before .before .before .before .before in
+    let r = ready z in
+    let g = z .size .given .0 .1 in
+    record {
+      table-sound = r .table .sound;
+      words-few = omega (arith, r .few, length-take (g .1 .0 - g .0) (drop (g .0) (opened z .open-input .last .1 .0)));
+    }
 
 same-length : tie.Need-same-length
 same-length c = search needs
 
 returns : tie.Need-returns
 returns c =
-    let r = c .before .before .before .before .before .before .before .before in
-    let m = r .before .before .before .before .before .before in
-    let a = m .before .before .before .args in
-    let ws = a .words .now in
-    let cut = m .image-length in
-    let events = events-left ws (cut .result) (cut .ensures) in
-    let t = table r in
-    calls-as
-    (sym
-    (wordsCall-table ws (a .image .now) (image m) (cut .ensures .image-is) _ _ events (t .rows-are) (t .accepted)))
-    (c .before .before .before .run-table .ensures)
+    let o = c .before .before .before .before .before in
+    calls-as (call-of (bytes o) (lent o) Input.BadBytes (said o _ (c .enum-told .given .1))) (calls-bad-bytes (lent o))
+
+same-length-2 : tie.Need-same-length-2
+same-length-2 c = search needs
 
 returns-2 : tie.Need-returns-2
 returns-2 c =
-    let found = c .before .number .given in
-    let read = c .before .before .before .before .read-cells in
-    let m = c .before .before .before .before .before .before .before in
-    let a = m .before .before .before .args in
-    let answer = sym (read .ensures .answer-is) ∙ found .1 in
-    calls-as
-    (sym
-    (wordsCall-refused (a .words .now) (a .image .now) (image m) (m .image-length .ensures .image-is)
-    (found .0 .0) (found .0 .1 .0) answer))
-    (calls-refused (a .image .now) (found .0 .0) (found .0 .0) refl)
+    let o = c .before .before .before .before .before .before in
+    let g = c .before .number .given in
+    calls-as (call-of (bytes o) (lent o) _ (said o _ (g .1))) (calls-bad-image (lent o) (g .0 .0) (g .0 .1 .0))
+
+same-length-3 : tie.Need-same-length-3
+same-length-3 c = search needs
+
+returns-3 : tie.Need-returns-3
+returns-3 c =
+    let o = c .before .before .before .before .before in
+    let g = c .enum-told2 .given in
+    calls-as (call-of (bytes o) (lent o) _ (said o _ (g .1) .holds)) (calls-too-many (lent o) _)
+
+same-length-4 : tie.Need-same-length-4
+same-length-4 c = search needs
+
+same-length-5 : tie.Need-same-length-5
+same-length-5 c = search needs
+
+returns-4 : tie.Need-returns-4
+returns-4 c =
+    let z = c .before .before .before .before .before .before .before .before .before in
+    calls-as (call-of (bytes (opened z)) (lent (opened z)) _ (ready z .holds))
+    (c .before .before .before .run-table .ensures)
 
 pub run-input-spec : {M : Type 1} → statement M
 run-input-spec =
     tie.close
     (tie.spec
-    image-length-requires
-    slice-aggregate-read-cells
-    slice-aggregate-read-cells-2
-    read-cells-requires
-    enum-known-n
-    cast-size
+    slice-aggregate-open-input
+    open-input-requires
+    enum-told
+    cast-result
+    enum-known-number
+    cast-result-2
+    enum-told-2
+    cast-result-3
+    enum-known-size
     array-borrow-prefix-cells
     slice-aggregate-run-table
     mul-run-table
@@ -131,8 +152,12 @@ run-input-spec =
     part-run-table-start
     part-run-table-end
     run-table-requires
-    enum-known-number
-    cast-result
     same-length
     returns
-    returns-2)
+    same-length-2
+    returns-2
+    same-length-3
+    returns-3
+    same-length-4
+    same-length-5
+    returns-4)

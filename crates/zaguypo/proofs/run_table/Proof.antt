@@ -1,59 +1,56 @@
--- `zaguypo::run_table` meets its contract: 12, then 13, or the run and its last image. Assumes nothing.
+-- `zaguypo::run_table` meets its contract: 13, or the run and its last image. Assumes nothing.
 use native.Mathlib.Omega.{arith}
-use mathlib.Core.Path.{refl, sym, ap}
-use Rattle.machine.specs.declared.Ran.{Ran}
+use mathlib.Core.Path.{ap}
+use Prim.Native.Nat.{_≤_}
+use lib.ListN.{length}
 use Rattle.machine.proofs.SoundRows.{sound-rows}
+use Rattle.machine.specs.declared.Ran.{Ran}
 use Rattle.cells.specs.View.{rowsOf}
 use Rattle.cells.proofs.ViewLaws.{rows-length}
-use Rattle.zaguypo.proofs.CallLaws.{
-  calls-as,
-  calls-refused,
-  calls-ran,
-  tableCall-many,
-  tableCall-short,
-  tableCall-ran,
-}
+use Rattle.zaguypo.proofs.CallLaws.{calls-short, calls-ran}
 use borrow.Author.Needs.{needs}
 use Rattle.zaguypo.proofs.run_table.Statement.{statement}
 use Rattle.zaguypo.proofs.run_table.Tie as tie
-use Rattle.zaguypo.proofs.run_table.Reads as reads
-use Rattle.zaguypo.proofs.run_table.Lts as lts
-use Rattle.runs.proofs.run_words.Reads as run-words-reads
-use Rattle.zaguypo.proofs.number_of.Reads as number-of-reads
-use Rattle.zaguypo.proofs.write_image.Reads as write-image-reads
+
+-- a sound table has at most 16 processes
+few : (s : tie.Start) → length (s .args .cells .now) ≤ 16
+few s = let x = s .args .cells .now in omega (arith, sound-rows (rowsOf x) (s .pre .table-sound) .1, rows-length x)
+
+image-words-requires : tie.Need-image-words-requires
+image-words-requires c κs = omega (arith, few (c .before .before))
+
+mul-if1 : tie.Need-mul-if1
+mul-if1 c = omega (arith, few (c .before .before .before), c .image-words .ensures)
 
 cast-result : tie.Need-cast-result
 cast-result c = search needs
 
 returns : tie.Need-returns
 returns c =
-    let a = c .before .before .before .args in
-    let t = rowsOf (a .cells .now) in
-    let ws = a .words .now in
-    let l = a .image .now in
-    let size = rows-length (a .cells .now) in
-    calls-as (sym (tableCall-many t ws l (omega arith))) (calls-refused l 12 12 refl)
-
-mul-if2 : tie.Need-mul-if2
-mul-if2 c = search needs
-
-cast-result-2 : tie.Need-cast-result-2
-cast-result-2 c = search needs
-
-returns-2 : tie.Need-returns-2
-returns-2 c =
-    let a = c .before .before .before .before .args in
-    let t = rowsOf (a .cells .now) in
-    let ws = a .words .now in
-    let l = a .image .now in
-    let size = rows-length (a .cells .now) in
-    calls-as (sym (tableCall-short t ws l (omega arith) (omega arith))) (calls-refused l 13 13 refl)
+    let i = c .before in
+    let a = i .before .before .before .args in
+    calls-short (rowsOf (a .cells .now)) (a .words .now) (a .image .now)
+    (omega (arith, rows-length (a .cells .now), i .image-words .ensures, c .if1 .taken))
 
 run-words-requires : tie.Need-run-words-requires
 run-words-requires c κs = search needs
 
 write-image-requires : tie.Need-write-image-requires
-write-image-requires c κs = search needs
+write-image-requires c κs =
+    let w = c .before .before .before .before in
+    let e = w .before .before in
+    record {
+      sound = w .run-words .ensures .sound-after;
+      room =
+          omega (
+            arith,
+            rows-length (w .run-words .last .0),
+            w .run-words .kept .0,
+            e .if1 .left,
+            e .before .image-words .ensures,
+            rows-length (e .before .before .before .before .args .cells .now),
+          );
+    }
 
 number-of-requires : tie.Need-number-of-requires
 number-of-requires c κs = search needs
@@ -64,45 +61,35 @@ same-length c = search needs
 same-length-2 : tie.Need-same-length-2
 same-length-2 c = search needs
 
-returns-3 : tie.Need-returns-3
-returns-3 c =
+returns-2 : tie.Need-returns-2
+returns-2 c =
     let put = c .before .before .before .write-image in
     let w = c .before .before .before .before .before .before .before .before in
     let e = w .before .before in
-    let start = e .before .before .before .before in
-    let a = start .args in
-    let t = rowsOf (a .cells .now) in
+    let i = e .before in
+    let a = i .before .before .before .args in
     let run = w .run-words in
-    let y = run .last .0 in
     let ran = run .ensures .runs .ran-is in
-    let size = rows-length (a .cells .now) in
-    let same = rows-length y in
-    let kept = run .kept .0 in
-    let some = sound-rows t (start .pre) .0 in
-    let lent = e .if2 .left in
-    let call = tableCall-ran t (a .words .now) (a .image .now) (e .before .if1 .left) (omega arith) in
-    calls-as (sym call)
-    (calls-ran t (a .words .now) (a .image .now) (rowsOf y) (put .last .1 .0) _ _ (c .number-of .result)
+    calls-ran (rowsOf (a .cells .now)) (a .words .now) (a .image .now)
+    (omega (arith, rows-length (a .cells .now), i .image-words .ensures, e .if1 .left))
+    (rowsOf (run .last .0)) (put .last .1 .0) _ _ (c .number-of .result)
     (run .ensures .runs .becomes .rows-are)
-    (omega arith)
-    (omega arith)
     (ap (λ (r : Ran). r .taken) ran)
     (ap (λ (r : Ran). r .refusal) ran)
     (c .number-of .ensures)
-    (put .ensures))
+    (put .ensures)
 
 pub run-table-spec : {M : Type 1} → statement M
 run-table-spec =
     tie.close
     (tie.spec
+    image-words-requires
+    mul-if1
     cast-result
     returns
-    mul-if2
-    cast-result-2
-    returns-2
     run-words-requires
     write-image-requires
     number-of-requires
     same-length
     same-length-2
-    returns-3)
+    returns-2)

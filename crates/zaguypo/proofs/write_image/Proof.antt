@@ -1,35 +1,36 @@
--- `zaguypo::write_image` meets its contract: the image in 80 words, and those that it has as bytes. Assumes nothing.
+-- `zaguypo::write_image` meets its contract: the words of the image, then their bytes. Assumes nothing.
 use native.Mathlib.Omega.{arith}
 use mathlib.Core.Path.{_≡_, sym, ap, _∙_}
 use mathlib.Core.List.{List}
-use Prim.Native.Nat.{ℕ, _*_, _≤_, _<_}
+use Prim.Native.Nat.{ℕ, _≤_, _<_}
 use lib.ListN.{length, take, replicate, length-replicate}
-use lib.Seq.{take-at, length-take-le}
-use Rattle.machine.specs.Images.{imageOf}
+use lib.Seq.{length-take-le}
+use Rattle.machine.specs.Images.{imageLength, imageOf}
 use Rattle.machine.specs.Bytes.{bytesOf}
 use Rattle.machine.proofs.SoundRows.{sound-rows}
-use Rattle.codec.proofs.RoundTrip.{length-image}
+use Rattle.image_theorems.proofs.RoundTrip.{length-image}
 use Rattle.cells.specs.View.{rowsOf}
 use Rattle.cells.proofs.ViewLaws.{rows-length}
-use Rattle.octets.specs.Placing.{placed}
+use Rattle.counting.specs.Placing.{placed}
+use Rattle.counting.proofs.PlacingLaws.{take-first}
 use borrow.Author.Needs.{needs}
 use Rattle.zaguypo.proofs.write_image.Statement.{statement}
 use Rattle.zaguypo.proofs.write_image.Tie as tie
-use Rattle.zaguypo.proofs.write_image.Reads as reads
-use Rattle.zaguypo.proofs.write_image.Lts as lts
-use Rattle.images.proofs.encoding.write_cells.Reads as write-cells-reads
-use Rattle.octets.proofs.pack.Reads as pack-reads
 
 slice-aggregate-write-cells : tie.Need-slice-aggregate-write-cells
 slice-aggregate-write-cells c = search needs
 
--- a sound table has processes, and 80 words are room for its image
-sizes : (s : tie.Start) → let n = length (s .args .cells .now) in (0 < n) × (5 * n ≤ length (replicate {A = ℕ} 80 0))
+-- a sound table has processes, at most 16, and the longest image's words are room for its image
+few : (s : tie.Start) → length (s .args .cells .now) ≤ 16
+few s = let x = s .args .cells .now in omega (arith, sound-rows (rowsOf x) (s .pre .sound) .1, rows-length x)
+
+sizes : (s : tie.Start)
+    → let n = length (s .args .cells .now) in (0 < n) × (imageLength n ≤ length (replicate {A = ℕ} (imageLength 16) 0))
 sizes s =
     let x = s .args .cells .now in
     let facts = sound-rows (rowsOf x) (s .pre .sound) in
     let size = rows-length x in
-    let zeros = length-replicate {A = ℕ} 80 0 in
+    let zeros = length-replicate {A = ℕ} (imageLength 16) 0 in
     (omega (arith, facts .0), omega (arith, facts .1))
 
 write-cells-requires : tie.Need-write-cells-requires
@@ -37,42 +38,45 @@ write-cells-requires c κs =
     let s = c .before .before in
     record { is-sound = s .pre .sound; long = omega (arith, rows-length (s .args .cells .now), sizes s .1) }
 
-mul-all : tie.Need-mul-all
-mul-all c = search needs
+image-words-requires : tie.Need-image-words-requires
+image-words-requires c κs = let s = c .before .before .before .before in omega (arith, sizes s .1, few s)
 
 -- the image is within the words
-within : (c : tie.After-write-cells)
-    → 5 * length (c .before .before .before .args .cells .now) ≤ length (c .write-cells .last .1 .0)
-within c = omega (arith, sizes (c .before .before .before) .1, c .write-cells .kept .1 .0)
+within : (c : tie.After-image-words) → c .image-words .result ≤ length (c .before .before .write-cells .last .1 .0)
+within c =
+    let w = c .before .before in
+    omega (arith, sizes (w .before .before .before) .1, w .write-cells .kept .1 .0, c .image-words .ensures)
 
 array-share-prefix-words : tie.Need-array-share-prefix-words
-array-share-prefix-words c = within (c .before)
+array-share-prefix-words c = within c
 
 slice-aggregate-pack : tie.Need-slice-aggregate-pack
 slice-aggregate-pack c =
-    let w = c .before .before in
-    sym (length-take-le _ (w .write-cells .last .1 .0) (within w))
+    let i = c .before in
+    sym (length-take-le _ (i .before .before .write-cells .last .1 .0) (within i))
 
 pack-requires : tie.Need-pack-requires
 pack-requires c κs =
-    let w = c .before .before .before in
-    let words = length-take-le _ (w .write-cells .last .1 .0) (within w) in
-    omega (arith, w .before .before .before .pre .room)
+    let i = c .before .before in
+    let w = i .before .before in
+    let words = length-take-le _ (w .write-cells .last .1 .0) (within i) in
+    let s = w .before .before .before in
+    omega (arith, s .pre .room, rows-length (s .args .cells .now), i .image-words .ensures)
 
 same-length : tie.Need-same-length
 same-length c = search needs
 
 returns : tie.Need-returns
 returns c =
-    let w = c .before .before .before .before .before .before in
+    let i = c .before .before .before .before .before in
+    let w = i .before .before in
     let start = w .before .before .before in
     let x = start .args .cells .now in
-    let size = rows-length x in
-    let all = 5 * length x in
-    let image = length-image (rowsOf x) (omega (arith, sizes start .0)) in
-    let long : length (imageOf (rowsOf x)) ≡ all = omega arith in
+    let all = i .image-words .result in
+    let image = length-image (rowsOf x) (omega (arith, sizes start .0, rows-length x)) in
+    let long : length (imageOf (rowsOf x)) ≡ all = omega (arith, rows-length x, i .image-words .ensures) in
     let words : take all (w .write-cells .last .1 .0) ≡ imageOf (rowsOf x) =
-    ap (take all) (w .write-cells .ensures) ∙ take-at (imageOf (rowsOf x)) _ all long in
+    ap (take all) (w .write-cells .ensures) ∙ take-first _ (imageOf (rowsOf x)) all long in
     c .before .before .pack .ensures ∙ ap (λ (l : List ℕ). placed (start .args .image .now) 0 (bytesOf l)) words
 
 pub write-image-spec : {M : Type 1} → statement M
@@ -81,7 +85,7 @@ write-image-spec =
     (tie.spec
     slice-aggregate-write-cells
     write-cells-requires
-    mul-all
+    image-words-requires
     array-share-prefix-words
     slice-aggregate-pack
     pack-requires

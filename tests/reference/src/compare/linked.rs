@@ -7,15 +7,15 @@ use std::io::{Read, Write};
 use std::path::PathBuf;
 use std::process::{Command, Stdio};
 
-/// THE EXPORTED NAMES. Row, Tally, Ran and Census are `repr(C)` in row.rs, run.rs and census.rs.
+/// THE EXPORTED NAMES. Row, StepAnswer, Tally, Ran and Census are `repr(C)` in row.rs, step.rs, run.rs and census.rs.
 mod exported {
-    use crate::{Census, Ran, Row, Tally};
+    use crate::{Census, Ran, Row, StepAnswer, Tally};
 
     extern "C" {
         pub fn zaguypo_run(input: *const u8, input_len: usize, image: *mut u8, image_len: usize) -> u64;
 
         #[cfg(feature = "linked-rows")]
-        pub fn zaguypo_step(rows: *mut Row, n: usize, word: u32) -> u16;
+        pub fn zaguypo_step(rows: *mut Row, n: usize, word: u32) -> StepAnswer;
         #[cfg(feature = "linked-rows")]
         pub fn zaguypo_run_rows(rows: *mut Row, n: usize, words: *const u32, count: usize, tally: *mut Tally) -> Ran;
 
@@ -25,7 +25,7 @@ mod exported {
 
     // keeps the imports used whatever the features
     #[allow(dead_code)]
-    type Crossing = (Row, Tally, Ran, Census);
+    type Crossing = (Row, StepAnswer, Tally, Ran, Census);
 }
 
 /// The library, and the printing program if its path is given.
@@ -56,7 +56,7 @@ impl Engine for Linked {
     #[cfg(feature = "linked-rows")]
     fn step(&self, rows: &mut [Row], word: u32) -> u16 {
         // SAFETY: the pointer comes from a slice of the length given with it.
-        unsafe { exported::zaguypo_step(rows.as_mut_ptr(), rows.len(), word) }
+        unsafe { exported::zaguypo_step(rows.as_mut_ptr(), rows.len(), word) }.refusal
     }
 
     #[cfg(feature = "linked-rows")]

@@ -8,9 +8,6 @@ use Rattle.cells.proofs.ViewLaws.{rows-set}
 use borrow.Author.Needs.{needs}
 use Rattle.cells.proofs.access.put_row.Statement.{statement}
 use Rattle.cells.proofs.access.put_row.Tie as tie
-use Rattle.cells.proofs.access.put_row.Reads as reads
-use Rattle.cells.proofs.access.put_row.Lts as lts
-use Rattle.cells.proofs.access.cells_of.Reads as cells-of-reads
 
 cells-of-requires : tie.Need-cells-of-requires
 cells-of-requires c κs = search needs

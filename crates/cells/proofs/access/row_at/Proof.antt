@@ -4,9 +4,6 @@ use Rattle.cells.proofs.ViewLaws.{rows-row}
 use borrow.Author.Needs.{needs}
 use Rattle.cells.proofs.access.row_at.Statement.{statement}
 use Rattle.cells.proofs.access.row_at.Tie as tie
-use Rattle.cells.proofs.access.row_at.Reads as reads
-use Rattle.cells.proofs.access.row_at.Lts as lts
-use Rattle.cells.proofs.access.row_of.Reads as row-of-reads
 
 mul-row-of : tie.Need-mul-row-of
 mul-row-of c = search needs

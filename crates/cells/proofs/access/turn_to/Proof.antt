@@ -8,10 +8,6 @@ use Rattle.cells.specs.View.{rowsOf}
 use borrow.Author.Needs.{needs}
 use Rattle.cells.proofs.access.turn_to.Statement.{statement}
 use Rattle.cells.proofs.access.turn_to.Tie as tie
-use Rattle.cells.proofs.access.turn_to.Reads as reads
-use Rattle.cells.proofs.access.turn_to.Lts as lts
-use Rattle.cells.proofs.access.put_row.Reads as put-row-reads
-use Rattle.cells.proofs.access.row_at.Reads as row-at-reads
 
 row-at-requires : tie.Need-row-at-requires
 row-at-requires c κs = search needs

@@ -14,11 +14,6 @@ use Rattle.cells.proofs.CheckLaws.{SoundSo, sound-suc, sound-not, sound
 use Rattle.cells.proofs.CheckLaws.{refused-few, refused-many, refused-row, refused-none}
 use Rattle.cells.proofs.checks.check.Statement.{statement}
 use Rattle.cells.proofs.checks.check.Tie as tie
-use Rattle.cells.proofs.checks.check.Reads as reads
-use Rattle.cells.proofs.checks.check.Lts as lts
-use Rattle.cells.proofs.access.row_at.Reads as row-at-reads
-use Rattle.rows.proofs.sound.full_set.Reads as full-set-reads
-use Rattle.rows.proofs.sound.sound_row.Reads as sound-row-reads
 
 abbrev Inv-loop : tie.InvT-loop
 Inv-loop cells n full q₀ q =

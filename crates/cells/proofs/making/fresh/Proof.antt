@@ -1,22 +1,24 @@
 -- `making::fresh` meets its contract. Assumes nothing.
-use Prim.Native.Nat.{_-_, _≤_}
-use mathlib.Core.Path.{_≡_, refl, ap, _∙_}
-use mathlib.Core.List.{List}
+use Prim.Native.Nat.{_+_, _-_, _≤_}
+use mathlib.Core.Path.{_≡_, refl, sym, _∙_}
 use native.Mathlib.Omega.{arith}
-use lib.ListN.{length, set}
+use lib.ListN.{length, set, replicate, length-replicate, getD-replicate}
 use borrow.Author.Needs.{needs}
-use Rattle.machine.specs.Rows.{idle}
-use Rattle.machine.specs.declared.Row.{Row}
-use Rattle.machine.specs.declared.NewTable.{NewTable}
-use Rattle.cells.proofs.FreshLaws.{filled, filled-suc, made-table, made-none, made-size}
+use Rattle.counting.proofs.PlacingLaws.{begun, begun-start, begun-next, begun-end}
+use Rattle.machine.specs.Rows.{idle, blank}
+use Rattle.machine.specs.Tables.{freshTable}
+use Rattle.cells.proofs.FreshLaws.{pad-handed, made-table, made-none, made-size}
 use Rattle.cells.proofs.making.fresh.Statement.{statement}
 use Rattle.cells.proofs.making.fresh.Tie as tie
-use Rattle.cells.proofs.making.fresh.Reads as reads
-use Rattle.cells.proofs.making.fresh.Lts as lts
-use Rattle.cells.proofs.making.no_table.Reads as no-table-reads
 
 abbrev Inv-loop : tie.InvT-loop
-Inv-loop n rows₀ size q₀ rows q = (q ≤ size) × (2 ≤ n) × (n ≤ 16) × (size ≡ n) × (length rows ≡ 16) × (rows ≡ filled q)
+Inv-loop n rows₀ size q₀ rows q =
+    (q ≤ size)
+    × (2 ≤ n)
+    × (n ≤ 16)
+    × (size ≡ n)
+    × (length rows ≡ 16)
+    × (rows ≡ begun (replicate 16 blank) 0 (freshTable n) q)
 
 abbrev μ-loop : tie.MeasureT-loop
 μ-loop n rows₀ size q₀ rows q = size - q
@@ -30,7 +32,7 @@ returns c = c .no-table .ensures ∙ made-none (c .before .before .args .n) (c .
 loop-holds : tie.Need-loop-holds Inv-loop μ-loop
 loop-holds c =
     let size = made-size (c .before .args .n) (c .if1 .left) in
-    (search needs, size .0, size .1, refl, refl, refl)
+    (search needs, size .0, size .1, refl, refl, begun-start (replicate 16 blank) 0 (freshTable (c .before .args .n)))
 
 mul-rows : tie.Need-mul-rows Inv-loop μ-loop
 mul-rows c = search needs
@@ -46,21 +48,25 @@ loop-less c = search needs
 
 loop-again : tie.Need-loop-again Inv-loop μ-loop
 loop-again c =
+    let n = c .before .before .before .args .n in
     let v = c .before .loop .inv in
     let q = c .before .loop .q in
-    let rows-are = ap (λ (l : List Row). set l q idle) (v .5) ∙ filled-suc q (omega arith) in
-    (search needs, search needs, search needs, v .3, search needs, rows-are)
+    let count = length-replicate n idle in
+    let next =
+    begun-next (replicate 16 blank) 0 (freshTable n) (omega arith) q (q + 1) q idle blank (omega arith) (omega arith)
+    (omega arith) (sym (getD-replicate n q idle blank (omega arith))) in
+    (search needs, v .1, v .2, v .3, search needs, (λ i. set (v .5 i) q idle) ∙ next)
 
 cast-t14 : tie.Need-cast-t14 Inv-loop μ-loop
 cast-t14 c = search needs
 
 returns-2 : tie.Need-returns-2 Inv-loop μ-loop
 returns-2 c =
-    let v = c .before .loop .inv in
     let n = c .before .before .before .args .n in
-    let e : c .before .loop .q ≡ n = omega arith in
-    ap {B = NewTable} (λ (l : List Row). record { refusal = 0; place = 0; size = n; rows = l }) (v .5 ∙ ap filled e)
-    ∙ made-table n (omega arith) (omega arith)
+    let at = c .before .loop in
+    let count = length-replicate n idle in
+    let rows = at .inv .5 ∙ begun-end (replicate 16 blank) 0 (freshTable n) (at .q) (omega arith) in
+    pad-handed (freshTable n) n (at .rows) (sym count) rows ∙ made-table n (omega arith) (omega arith)
 
 pub fresh-spec : {M : Type 1} → statement M
 fresh-spec =

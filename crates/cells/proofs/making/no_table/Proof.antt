@@ -2,8 +2,6 @@
 use mathlib.Core.Path.{refl}
 use Rattle.cells.proofs.making.no_table.Statement.{statement}
 use Rattle.cells.proofs.making.no_table.Tie as tie
-use Rattle.cells.proofs.making.no_table.Reads as reads
-use Rattle.cells.proofs.making.no_table.Lts as lts
 
 returns : tie.Need-returns
 returns c = refl

@@ -12,10 +12,6 @@ use Rattle.cells.specs.View.{rowsOf}
 use Rattle.cells.proofs.ViewLaws.{rows-length}
 use Rattle.cells.proofs.sweeps.competitors.Statement.{statement}
 use Rattle.cells.proofs.sweeps.competitors.Tie as tie
-use Rattle.cells.proofs.sweeps.competitors.Reads as reads
-use Rattle.cells.proofs.sweeps.competitors.Lts as lts
-use Rattle.cells.proofs.access.row_at.Reads as row-at-reads
-use Rattle.rows.proofs.sound.competes.Reads as competes-reads
 
 abbrev Inv-loop : tie.InvT-loop
 Inv-loop cells n s₀ q₀ s q = (q ≤ n) × (n ≤ 16) × (s ≡ setOf (λ i. competes (row (rowsOf cells) i)) q)

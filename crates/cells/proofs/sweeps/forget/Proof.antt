@@ -1,31 +1,35 @@
 -- `sweeps::forget` meets its contract: the rows passed have forgotten p, at each turn of the loop. Assumes nothing.
-use Prim.Native.Nat.{ℕ, _≤_, _<_, _-_}
-use mathlib.Core.Path.{_≡_, refl, ap, _∙_}
+use Prim.Native.Nat.{_+_, _-_, _≤_, _<_}
+use mathlib.Core.Path.{_≡_, sym, _∙_}
+use mathlib.Core.List.{map}
 use native.Mathlib.Omega.{arith}
-use native.Mathlib.Numerals.{add-one}
-use lib.ListN.{length}
+use lib.ListN.{length, length-map, List·getD-map}
 use borrow.Author.Needs.{needs}
+use Rattle.counting.proofs.PlacingLaws.{begun, begun-start, begun-next, begun-rest, begun-end, placed-whole}
 use Rattle.machine.specs.Rows.{blank}
+use Rattle.machine.specs.Tables.{row}
 use Rattle.machine.specs.Steps.{forgets}
 use Rattle.cells.specs.View.{rowsOf}
-use Rattle.cells.proofs.ViewLaws.{rows-length, swept, swept-at, swept-suc, swept-all}
+use Rattle.cells.proofs.ViewLaws.{rows-length}
 use Rattle.cells.proofs.sweeps.forget.Statement.{statement}
 use Rattle.cells.proofs.sweeps.forget.Tie as tie
-use Rattle.cells.proofs.sweeps.forget.Reads as reads
-use Rattle.cells.proofs.sweeps.forget.Lts as lts
-use Rattle.cells.proofs.access.put_row.Reads as put-row-reads
-use Rattle.cells.proofs.access.row_at.Reads as row-at-reads
-use Rattle.rows.proofs.moves.forgets.Reads as forgets-reads
 
 abbrev Inv-loop : tie.InvT-loop
 Inv-loop cells₀ p n q₀ cells q =
-    (q ≤ n) × (p < 16) × (length cells₀ ≡ n) × (length cells ≡ n) × (rowsOf cells ≡ swept (forgets p) q (rowsOf cells₀))
+    (q ≤ n)
+    × (p < 16)
+    × (length cells₀ ≡ n)
+    × (length cells ≡ n)
+    × (rowsOf cells ≡ begun (rowsOf cells₀) 0 (map (forgets p) (rowsOf cells₀)) q)
 
 abbrev μ-loop : tie.MeasureT-loop
 μ-loop cells₀ p n q₀ cells q = n - q
 
 loop-holds : tie.Need-loop-holds Inv-loop μ-loop
-loop-holds c = (search needs, search needs, search needs, search needs, refl)
+loop-holds c =
+    let t = rowsOf (c .args .cells .now) in
+    let begins = begun-start t 0 (map (forgets (c .args .p)) t) in
+    (search needs, search needs, search needs, search needs, begins)
 
 row-at-requires : tie.Need-row-at-requires Inv-loop μ-loop
 row-at-requires c κs = search needs
@@ -44,12 +48,16 @@ loop-less c = search needs
 
 loop-again : tie.Need-loop-again Inv-loop μ-loop
 loop-again c =
-    let x = c .before .before .before .before .before .before .before .before .args .cells .now in
-    let f = forgets (c .before .before .before .before .before .before .before .before .args .p) in
+    let a = c .before .before .before .before .before .before .before .before .args in
+    let t = rowsOf (a .cells .now) in
+    let f = forgets (a .p) in
     let q = c .before .before .before .before .before .before .before .loop .q in
-    let s = swept-suc f q (rowsOf x) blank in
-    let a = swept-at f q (rowsOf x) blank in
-    let n = add-one q in
+    let size = rows-length (a .cells .now) in
+    let count = length-map t f in
+    let old = begun-rest t 0 (map f t) (omega arith) q q blank (omega arith) (omega arith) in
+    let next =
+    begun-next t 0 (map f t) (omega arith) q (q + 1) q (f (row t q)) (f blank) (omega arith) (omega arith) (omega arith)
+    (sym (List·getD-map f t q blank)) in
     (search needs, search needs, search needs, search needs, cc)
 
 same-length : tie.Need-same-length Inv-loop μ-loop
@@ -57,11 +65,14 @@ same-length c = search needs
 
 returns : tie.Need-returns Inv-loop μ-loop
 returns c =
-    let x = c .before .before .args .cells .now in
-    let f = forgets (c .before .before .args .p) in
-    let e : c .before .loop .q ≡ length (rowsOf x) = omega (arith, rows-length x) in
+    let a = c .before .before .args in
+    let t = rowsOf (a .cells .now) in
+    let u = map (forgets (a .p)) t in
+    let at = c .before .loop in
+    let size = rows-length (a .cells .now) in
+    let count = length-map t (forgets (a .p)) in
     record {
-      rows-are = c .before .loop .inv .4 ∙ ap (λ (k : ℕ). swept f k (rowsOf x)) e ∙ swept-all f (rowsOf x);
+      rows-are = at .inv .4 ∙ begun-end t 0 u (at .q) (omega arith) ∙ placed-whole t u count;
       size-is = search needs;
     }
 

@@ -1,118 +1,128 @@
--- `images::checks::row_refusal` meets its contract: the first word that does not pass stops. Assumes nothing.
-use Rattle.images.proofs.SlotLaws.{state-stops, est-stops, lis-stops, ahead-stops, none-stops}
+-- `images::checks::row_refusal` meets its contract: the first word that does not pass stops, and one that passes leaves
+-- the refusal to the words after it. Assumes nothing.
+use Prim.Native.Nat.{suc}
+use mathlib.Core.Path.{_≡_, sym, _∙_}
+use mathlib.Core.List.{[], _∷_}
+use native.Mathlib.Omega.{arith}
+use Rattle.machine.specs.Images.{slot, EST, LIS, AHEAD, rowPlace, rowSlots, firstRefusal}
+use Rattle.machine.specs.declared.Found.{Found}
+use Rattle.images.proofs.SlotLaws.{stop-at, pass-at}
 use borrow.Author.Needs.{needs}
 use Rattle.images.proofs.checks.row_refusal.Statement.{statement}
 use Rattle.images.proofs.checks.row_refusal.Tie as tie
-use Rattle.images.proofs.checks.row_refusal.Reads as reads
-use Rattle.images.proofs.checks.row_refusal.Lts as lts
-use Rattle.images.proofs.checks.set_refusal.Reads as set-refusal-reads
-use Rattle.images.proofs.checks.state_refusal.Reads as state-refusal-reads
+
+-- ---- the first refusal from each of the four words on
+
+abbrev fromState : tie.Start → Found
+fromState s =
+    let x = s .args in
+    firstRefusal (x .n) (rowPlace (x .q)) (rowSlots (x .q) 1) (x .a ∷ x .b ∷ x .c ∷ x .d ∷ [])
+
+abbrev fromEst : tie.Start → Found
+fromEst s =
+    let x = s .args in
+    firstRefusal (x .n) (suc (rowPlace (x .q))) (slot EST (x .q) ∷ slot LIS (x .q) ∷ slot AHEAD (x .q) ∷ [])
+    (x .b ∷ x .c ∷ x .d ∷ [])
+
+abbrev fromLis : tie.Start → Found
+fromLis s =
+    let x = s .args in
+    firstRefusal (x .n) (suc (suc (rowPlace (x .q)))) (slot LIS (x .q) ∷ slot AHEAD (x .q) ∷ []) (x .c ∷ x .d ∷ [])
+
+abbrev fromAhead : tie.Start → Found
+fromAhead s =
+    let x = s .args in
+    firstRefusal (x .n) (suc (suc (suc (rowPlace (x .q))))) (slot AHEAD (x .q) ∷ []) (x .d ∷ [])
+
+to-est : (c : tie.Else1) → fromState (c .before .before .before) ≡ fromEst (c .before .before .before)
+unfolding rowSlots
+to-est c = pass-at _ _ _ _ _ _ _ (c .before .state-refusal .ensures) (c .if1 .left)
+
+to-lis : (c : tie.Else2)
+    → let s = c .before .before .before .before .before in
+    fromState s ≡ fromLis s
+to-lis c = to-est (c .before .before) ∙ pass-at _ _ _ _ _ _ _ (c .before .set-refusal .ensures) (c .if2 .left)
+
+to-ahead : (c : tie.Else3)
+    → let s = c .before .before .before .before .before .before .before in
+    fromState s ≡ fromAhead s
+to-ahead c = to-lis (c .before .before) ∙ pass-at _ _ _ _ _ _ _ (c .before .set-refusal2 .ensures) (c .if3 .left)
+
+to-end : (c : tie.Else4)
+    → let s = c .before .before .before .before .before .before .before .before .before in
+    fromState s ≡ firstRefusal (s .args .n) (suc (suc (suc (suc (rowPlace (s .args .q)))))) [] []
+to-end c = to-ahead (c .before .before) ∙ pass-at _ _ _ _ _ _ _ (c .before .set-refusal3 .ensures) (c .if4 .left)
+
+-- ---- the needs
+
+row-place-requires : tie.Need-row-place-requires
+row-place-requires c κs = search needs
+
+cast-at : tie.Need-cast-at
+cast-at c = search needs
 
 state-refusal-requires : tie.Need-state-refusal-requires
 state-refusal-requires c κs = search needs
 
-mul-t13 : tie.Need-mul-t13
-mul-t13 c = search needs
-
-add-t14 : tie.Need-add-t14
-add-t14 c = search needs
-
 returns : tie.Need-returns
-returns c =
-    let x = c .before .before .args in
-    state-stops (x .n) (x .q) (x .a) (x .b) (x .c) (x .d)
-    (c .before .state-refusal .result) (c .before .state-refusal .ensures) (c .if1 .taken)
+unfolding rowSlots
+returns c = sym (stop-at _ _ _ _ _ _ _ _ (omega arith) (c .before .state-refusal .ensures) (c .if1 .taken))
 
 set-refusal-requires : tie.Need-set-refusal-requires
 set-refusal-requires c κs = search needs
-
-mul-t15 : tie.Need-mul-t15
-mul-t15 c = search needs
 
 add-t16 : tie.Need-add-t16
 add-t16 c = search needs
 
 returns-2 : tie.Need-returns-2
 returns-2 c =
-    let x = c .before .before .before .before .args in
-    est-stops (x .n) (x .q) (x .a) (x .b) (x .c) (x .d)
-    (c .before .before .before .state-refusal .result) (c .before .before .before .state-refusal .ensures)
-    (c .before .before .if1 .left)
-    (c .before .set-refusal .result) (c .before .set-refusal .ensures) (c .if2 .taken)
+    sym
+    (to-est (c .before .before)
+    ∙ stop-at _ _ _ _ _ _ _ _ (omega arith) (c .before .set-refusal .ensures) (c .if2 .taken))
 
 set-refusal-requires-2 : tie.Need-set-refusal-requires-2
 set-refusal-requires-2 c κs = search needs
 
-mul-t17 : tie.Need-mul-t17
-mul-t17 c = search needs
-
-add-t18 : tie.Need-add-t18
-add-t18 c = search needs
+add-t17 : tie.Need-add-t17
+add-t17 c = search needs
 
 returns-3 : tie.Need-returns-3
 returns-3 c =
-    let x = c .before .before .before .before .before .before .args in
-    lis-stops (x .n) (x .q) (x .a) (x .b) (x .c) (x .d)
-    (c .before .before .before .before .before .state-refusal .result)
-    (c .before .before .before .before .before .state-refusal .ensures)
-    (c .before .before .before .before .if1 .left)
-    (c .before .before .before .set-refusal .result) (c .before .before .before .set-refusal .ensures)
-    (c .before .before .if2 .left)
-    (c .before .set-refusal2 .result) (c .before .set-refusal2 .ensures) (c .if3 .taken)
+    sym
+    (to-lis (c .before .before)
+    ∙ stop-at _ _ _ _ _ _ _ _ (omega arith) (c .before .set-refusal2 .ensures) (c .if3 .taken))
 
 set-refusal-requires-3 : tie.Need-set-refusal-requires-3
 set-refusal-requires-3 c κs = search needs
 
-mul-t19 : tie.Need-mul-t19
-mul-t19 c = search needs
-
-add-t20 : tie.Need-add-t20
-add-t20 c = search needs
+add-t18 : tie.Need-add-t18
+add-t18 c = search needs
 
 returns-4 : tie.Need-returns-4
 returns-4 c =
-    let x = c .before .before .before .before .before .before .before .before .args in
-    ahead-stops (x .n) (x .q) (x .a) (x .b) (x .c) (x .d)
-    (c .before .before .before .before .before .before .before .state-refusal .result)
-    (c .before .before .before .before .before .before .before .state-refusal .ensures)
-    (c .before .before .before .before .before .before .if1 .left)
-    (c .before .before .before .before .before .set-refusal .result)
-    (c .before .before .before .before .before .set-refusal .ensures) (c .before .before .before .before .if2 .left)
-    (c .before .before .before .set-refusal2 .result) (c .before .before .before .set-refusal2 .ensures)
-    (c .before .before .if3 .left)
-    (c .before .set-refusal3 .result) (c .before .set-refusal3 .ensures) (c .if4 .taken)
+    sym
+    (to-ahead (c .before .before)
+    ∙ stop-at _ _ _ _ _ _ _ _ (omega arith) (c .before .set-refusal3 .ensures) (c .if4 .taken))
 
 returns-5 : tie.Need-returns-5
-returns-5 c =
-    let x = c .before .before .before .before .before .before .before .before .args in
-    none-stops (x .n) (x .q) (x .a) (x .b) (x .c) (x .d)
-    (c .before .before .before .before .before .before .before .state-refusal .result)
-    (c .before .before .before .before .before .before .before .state-refusal .ensures)
-    (c .before .before .before .before .before .before .if1 .left)
-    (c .before .before .before .before .before .set-refusal .result)
-    (c .before .before .before .before .before .set-refusal .ensures) (c .before .before .before .before .if2 .left)
-    (c .before .before .before .set-refusal2 .result) (c .before .before .before .set-refusal2 .ensures)
-    (c .before .before .if3 .left)
-    (c .before .set-refusal3 .result) (c .before .set-refusal3 .ensures) (c .if4 .left)
+unfolding firstRefusal
+returns-5 c = sym (to-end c)
 
 pub row-refusal-spec : {M : Type 1} → statement M
 row-refusal-spec =
     tie.close
     (tie.spec
+    row-place-requires
+    cast-at
     state-refusal-requires
-    mul-t13
-    add-t14
     returns
     set-refusal-requires
-    mul-t15
     add-t16
     returns-2
     set-refusal-requires-2
-    mul-t17
-    add-t18
+    add-t17
     returns-3
     set-refusal-requires-3
-    mul-t19
-    add-t20
+    add-t18
     returns-4
     returns-5)

@@ -1,12 +1,11 @@
 -- `images::checks::set_refusal` meets its contract: the tests are those of the law. Assumes nothing.
 use mathlib.Core.Path.{sym, _∙_}
 use native.Mathlib.Omega.{arith}
-use Rattle.images.proofs.SlotLaws.{set-slot, choice-on, choice-off}
+use Rattle.counting.proofs.TestLaws.{choice-on, choice-off}
+use Rattle.images.proofs.SlotLaws.{set-slot}
 use borrow.Author.Needs.{needs}
 use Rattle.images.proofs.checks.set_refusal.Statement.{statement}
 use Rattle.images.proofs.checks.set_refusal.Tie as tie
-use Rattle.images.proofs.checks.set_refusal.Reads as reads
-use Rattle.images.proofs.checks.set_refusal.Lts as lts
 
 mul-if1 : tie.Need-mul-if1
 mul-if1 c = search needs

@@ -1,21 +1,17 @@
 -- `images::checks::state_refusal` meets its contract: the tests are those of the law. Assumes nothing.
 use Prim.Native.Nat.{ℕ}
-use mathlib.Core.Bool.{Bool, _&&_, not}
+use mathlib.Core.Bool.{Bool, _&&_, not, and-eq-true-iff}
 use mathlib.Core.Path.{_≡_, sym, ap, _∙_}
 use native.Mathlib.Omega.{arith}
 use borrow.Author.Tests.{ltb-true, not-false}
 use Rattle.machine.specs.Tables.{oneOf, locations, levelFits}
 use Rattle.machine.specs.Images.{codeIn, locationIn, levelIn}
-use Rattle.machine.proofs.TestLaws.{and-left}
-use Rattle.codec.proofs.Locations.{known-at}
-use Rattle.images.proofs.SlotLaws.{state-slot, choice-on, choice-off}
+use Rattle.image_theorems.proofs.Locations.{known-at}
+use Rattle.counting.proofs.TestLaws.{choice-on, choice-off}
+use Rattle.images.proofs.SlotLaws.{state-slot}
 use borrow.Author.Needs.{needs}
 use Rattle.images.proofs.checks.state_refusal.Statement.{statement}
 use Rattle.images.proofs.checks.state_refusal.Tie as tie
-use Rattle.images.proofs.checks.state_refusal.Reads as reads
-use Rattle.images.proofs.checks.state_refusal.Lts as lts
-use Rattle.rows.proofs.codes.location_of.Reads as location-of-reads
-use Rattle.rows.proofs.sound.location_fits.Reads as location-fits-reads
 
 add-if1 : tie.Need-add-if1
 add-if1 c = search needs
@@ -39,7 +35,7 @@ returns-2 c =
 
 location-of-requires : tie.Need-location-of-requires
 location-of-requires c κs =
-    ltb-true _ _ (and-left _ _ (not-false _ (c .if2 .left)))
+    ltb-true _ _ (and-eq-true-iff _ _ .0 (not-false _ (c .if2 .left)) .0)
 
 location-fits-requires : tie.Need-location-fits-requires
 location-fits-requires c κs = search needs
@@ -50,7 +46,7 @@ fits : (c : tie.After-location-fits)
     c .location-fits .result ≡ levelFits (locationIn (a .w)) (levelIn (a .w))
 fits c =
     let w = c .before .before .before .before .args .w in
-    let low = ltb-true _ _ (and-left _ _ (not-false _ (c .before .before .if2 .left))) in
+    let low = ltb-true _ _ (and-eq-true-iff _ _ .0 (not-false _ (c .before .before .if2 .left)) .0) in
     c .location-fits .ensures
     ∙ ap (λ (l : ℕ). oneOf l locations && levelFits l (levelIn w)) (c .before .location-of .ensures)
     ∙ ap (λ (b : Bool). b && levelFits (locationIn w) (levelIn w)) (known-at locations (codeIn w) low)

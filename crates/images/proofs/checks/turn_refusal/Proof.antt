@@ -1,12 +1,11 @@
 -- `images::checks::turn_refusal` meets its contract: the tests are those of the law. Assumes nothing.
 use mathlib.Core.Path.{sym, _∙_}
 use native.Mathlib.Omega.{arith}
-use Rattle.images.proofs.SlotLaws.{turn-slot, choice-on, choice-off}
+use Rattle.counting.proofs.TestLaws.{choice-on, choice-off}
+use Rattle.images.proofs.SlotLaws.{turn-slot}
 use borrow.Author.Needs.{needs}
 use Rattle.images.proofs.checks.turn_refusal.Statement.{statement}
 use Rattle.images.proofs.checks.turn_refusal.Tie as tie
-use Rattle.images.proofs.checks.turn_refusal.Reads as reads
-use Rattle.images.proofs.checks.turn_refusal.Lts as lts
 
 add-if1 : tie.Need-add-if1
 add-if1 c = search needs

@@ -1,15 +1,18 @@
 -- `images::decoding::read_rows` meets its contract. The invariant: what is left of the rows' words decides the
 -- refusal, and
 -- the first cells stand for the rows read so far. Assumes nothing.
-use Prim.Native.Nat.{ℕ, _-_, _≤_, _<_}
-use mathlib.Core.Path.{_≡_, refl, sym, ap, _∙_, subst}
+use Prim.Native.Nat.{_+_, _-_, _≤_, _<_}
+use mathlib.Core.Path.{_≡_, refl, sym, ap, _∙_}
 use native.Mathlib.Omega.{arith}
-use lib.ListN.{length, take, drop}
-use Rattle.machine.specs.Images.{rowSlots, firstRefusal, rowsIn}
+use lib.ListN.{length, take, drop, set}
+use Rattle.counting.proofs.PlacingLaws.{begun, begun-start, begun-next, begun-end, take-first}
+use Rattle.machine.specs.Rows.{blank}
+use Rattle.machine.specs.Tables.{Table}
+use Rattle.machine.specs.Images.{rowSlots, firstRefusal, rowIn, rowsIn}
+use Rattle.image_theorems.proofs.RoundTrip.{length-rowsIn, row-rowsIn}
 use Rattle.cells.specs.View.{rowOf, rowsOf}
 use Rattle.cells.proofs.ViewLaws.{rows-length}
-use Rattle.images.specs.Bounds.{foundOf}
-use Rattle.images.specs.declared.Found.{Found}
+use Rattle.images.proofs.SlotLaws.{none-found}
 use Rattle.images.proofs.WalkLaws.{
   fromRow,
   ofRow,
@@ -17,23 +20,17 @@ use Rattle.images.proofs.WalkLaws.{
   rows-stop,
   rows-on,
   rows-end,
-  filled-start,
-  filled-on,
   map-take,
 }
 use Rattle.images.proofs.decoding.read_rows.Statement.{statement}
 use Rattle.images.proofs.decoding.read_rows.Tie as tie
-use Rattle.images.proofs.decoding.read_rows.Reads as reads
-use Rattle.images.proofs.decoding.read_rows.Lts as lts
-use Rattle.images.proofs.decoding.read_row.Reads as read-row-reads
-use Rattle.rows.proofs.sound.full_set.Reads as full-set-reads
 
 abbrev Inv-loop : tie.InvT-loop
 Inv-loop words cells₀ n full q₀ cells q =
     (q ≤ n)
     × (length cells ≡ length cells₀)
     × (firstRefusal n 1 (rowSlots 0 n) (drop 1 words) ≡ fromRow n words q)
-    × (take q (rowsOf cells) ≡ rowsIn n words 0 q)
+    × (rowsOf cells ≡ begun (rowsOf cells₀) 0 (rowsIn n words 0 n) q)
 
 abbrev μ-loop : tie.MeasureT-loop
 μ-loop words cells₀ n full q₀ cells q = n - q
@@ -42,13 +39,10 @@ full-set-requires : tie.Need-full-set-requires Inv-loop μ-loop
 full-set-requires c κs = omega (arith, c .before .pre .0 .few)
 
 loop-holds : tie.Need-loop-holds Inv-loop μ-loop
-loop-holds c = (
-  omega arith,
-  refl,
-  rows-start (c .before .before .args .n)
-      (c .before .before .args .words .now),
-  filled-start _ _ (rowsOf (c .before .before .args .cells .now)),
-)
+loop-holds c =
+    let a = c .before .before .args in
+    let ws = a .words .now in
+    (omega arith, refl, rows-start (a .n) ws, begun-start (rowsOf (a .cells .now)) 0 (rowsIn (a .n) ws 0 (a .n)))
 
 read-row-requires : tie.Need-read-row-requires Inv-loop μ-loop
 read-row-requires c κs = (
@@ -72,13 +66,12 @@ returns c =
     let row = c .before .before .before .read-row .ensures in
     let inv = c .before .before .before .before .before .before .loop .inv in
     let long = c .before .before .before .before .before .before .before .before .before .pre .0 .length-is in
-    let some : ofRow n ws q .refusal ≡ 0 → ⊥ = λ z. c .if1 .taken
-    (ap (λ (f : Found). f .refusal) (row .found-is) ∙ z) in
+    let some : ofRow n ws q .refusal ≡ 0 → ⊥ = λ z. c .if1 .taken (none-found (sym (row .found-is)) z) in
     record {
       found-is =
           row .found-is
-          ∙ sym (ap foundOf (inv .2 ∙ rows-stop n ws q
-          (c .before .before .before .before .before .loop-test .taken) long some));
+          ∙ sym (inv .2 ∙ rows-stop n ws q
+          (c .before .before .before .before .before .loop-test .taken) long some);
       rows-are = λ z. absurd (c .if1 .taken z);
       size-is = row .size-is ∙ inv .1;
     }
@@ -97,15 +90,19 @@ loop-again c =
     let q = c .before .before .before .before .before .before .loop .q in
     let row = c .before .before .before .read-row .ensures in
     let inv = c .before .before .before .before .before .before .loop .inv in
-    let x = c .before .before .before .before .before .before .loop .cells in
+    let a = c .before .before .before .before .before .before .before .before .before .args in
     let pre = c .before .before .before .before .before .before .before .before .before .pre in
     let l : q < n = c .before .before .before .before .before .loop-test .taken in
-    let none = sym (ap (λ (f : Found). f .refusal) (row .found-is)) ∙ c .if1 .left in (
+    let none = none-found (row .found-is) (c .if1 .left) in
+    let count = length-rowsIn n ws 0 n in
+    let row-is = ap (rowIn n ws) {x = q} {y = 0 + q} (omega arith) ∙ sym (row-rowsIn n ws 0 n q l) in
+    let next =
+    begun-next (rowsOf (a .cells .now)) 0 (rowsIn n ws 0 n) (omega (arith, rows-length (a .cells .now), pre .1)) q
+    (q + 1) q (rowIn n ws q) blank (omega arith) (omega arith) (omega arith) row-is in (
       omega arith,
       row .size-is ∙ inv .1,
       inv .2 ∙ rows-on n ws q l (pre .0 .length-is) none,
-      filled-on n ws (rowsOf x) _ q (omega (arith, rows-length x, inv .1, pre .1)) (inv .3)
-          (row .rows-are (c .if1 .left)),
+      row .rows-are (c .if1 .left) ∙ ap (λ (t : Table). set t q (rowIn n ws q)) (inv .3) ∙ next,
     )
 
 same-length-2 : tie.Need-same-length-2 Inv-loop μ-loop
@@ -118,12 +115,15 @@ returns-2 c =
     let q = c .before .loop .q in
     let inv = c .before .loop .inv in
     let end : q ≡ n = omega (arith, c .loop-test .left, inv .0) in
+    let d = rowsOf (c .before .before .before .before .args .cells .now) in
+    let count = length-rowsIn n ws 0 n in
     record {
-      found-is = sym (ap foundOf (inv .2 ∙ ap (fromRow n ws) end ∙ rows-end n ws));
+      found-is = sym (inv .2 ∙ ap (fromRow n ws) end ∙ rows-end n ws);
       rows-are =
           λ z.
           map-take rowOf n (c .before .loop .cells)
-          ∙ subst (λ (k : ℕ). take k (rowsOf (c .before .loop .cells)) ≡ rowsIn n ws 0 k) end (inv .3);
+          ∙ ap (take n) (inv .3 ∙ begun-end d 0 (rowsIn n ws 0 n) q (omega arith))
+          ∙ take-first d (rowsIn n ws 0 n) n count;
       size-is = inv .1;
     }
 

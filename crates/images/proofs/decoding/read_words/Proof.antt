@@ -1,18 +1,13 @@
 -- `images::decoding::read_words` meets its contract: the rows decide where they refuse, else the turn cells. Assumes
 -- nothing.
-use mathlib.Core.Path.{_≡_, sym, ap, _∙_}
+use mathlib.Core.Path.{_≡_, sym, _∙_}
 use lib.ListN.{drop}
 use Rattle.machine.specs.Images.{rowSlots, firstRefusal}
-use Rattle.images.specs.Bounds.{foundOf}
-use Rattle.images.specs.declared.Found.{Found}
+use Rattle.images.proofs.SlotLaws.{none-found}
 use Rattle.images.proofs.ImageLaws.{image-rows, image-turns}
 use borrow.Author.Needs.{needs}
 use Rattle.images.proofs.decoding.read_words.Statement.{statement}
 use Rattle.images.proofs.decoding.read_words.Tie as tie
-use Rattle.images.proofs.decoding.read_words.Reads as reads
-use Rattle.images.proofs.decoding.read_words.Lts as lts
-use Rattle.images.proofs.decoding.check_turns.Reads as check-turns-reads
-use Rattle.images.proofs.decoding.read_rows.Reads as read-rows-reads
 
 read-rows-requires : tie.Need-read-rows-requires
 read-rows-requires c κs = search needs
@@ -26,10 +21,10 @@ returns c =
     let ws = c .before .before .before .before .before .before .args .words .now in
     let rows = c .before .before .before .read-rows .ensures in
     let some : firstRefusal n 1 (rowSlots 0 n) (drop 1 ws) .refusal ≡ 0 → ⊥ =
-    λ z. c .if1 .taken (ap (λ (f : Found). f .refusal) (rows .found-is) ∙ z) in
+    λ z. c .if1 .taken (none-found (sym (rows .found-is)) z) in
     record {
-      found-is = rows .found-is ∙ sym (ap foundOf (image-rows n ws
-          (c .before .before .before .before .before .before .pre .0 .length-is) some));
+      found-is = rows .found-is ∙ sym (image-rows n ws
+          (c .before .before .before .before .before .before .pre .0 .length-is) some);
       rows-are = λ z. absurd (c .if1 .taken z);
       size-is = rows .size-is;
     }
@@ -47,9 +42,9 @@ returns-2 c =
     let pre = c .before .before .before .before .before .before .before .pre .0 in
     let rows = c .before .before .before .before .read-rows .ensures in
     let left = c .before .if1 .left in
-    let none = sym (ap (λ (f : Found). f .refusal) (rows .found-is)) ∙ left in
+    let none = none-found (rows .found-is) left in
     record {
-      found-is = c .check-turns .ensures ∙ sym (ap foundOf (image-turns n ws (pre .length-is) (pre .some) none));
+      found-is = c .check-turns .ensures ∙ sym (image-turns n ws (pre .length-is) (pre .some) none);
       rows-are = λ z. rows .rows-are left;
       size-is = rows .size-is;
     }

@@ -3,9 +3,6 @@ use Rattle.machine.specs.Images.{actIn, bbIn, levelIn, setIn}
 use borrow.Author.Needs.{needs}
 use Rattle.images.proofs.decoding.row_of.Statement.{statement}
 use Rattle.images.proofs.decoding.row_of.Tie as tie
-use Rattle.images.proofs.decoding.row_of.Reads as reads
-use Rattle.images.proofs.decoding.row_of.Lts as lts
-use Rattle.rows.proofs.codes.location_of.Reads as location-of-reads
 
 cast-location-of : tie.Need-cast-location-of
 cast-location-of c = search needs

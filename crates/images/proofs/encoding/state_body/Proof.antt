@@ -5,9 +5,6 @@ use Rattle.machine.specs.Images.{bodyOf}
 use borrow.Author.Needs.{needs}
 use Rattle.images.proofs.encoding.state_body.Statement.{statement}
 use Rattle.images.proofs.encoding.state_body.Tie as tie
-use Rattle.images.proofs.encoding.state_body.Reads as reads
-use Rattle.images.proofs.encoding.state_body.Lts as lts
-use Rattle.rows.proofs.codes.code_of.Reads as code-of-reads
 
 code-of-requires : tie.Need-code-of-requires
 code-of-requires c κs = search needs

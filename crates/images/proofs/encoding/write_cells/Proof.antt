@@ -1,81 +1,70 @@
 -- `images::encoding::write_cells` meets its contract: header, rows and turn cells, each where the last ended. Assumes
 -- nothing.
-use Prim.Native.Nat.{ℕ, _+_}
+use Prim.Native.Nat.{ℕ, _≤_, _<_}
 use mathlib.Core.Path.{sym, ap, _∙_}
+use mathlib.Core.List.{List}
 use native.Mathlib.Omega.{arith}
 use lib.ListN.{length, set, length-set}
+use Rattle.counting.specs.Placing.{placed}
+use Rattle.machine.specs.Images.{headerOf, turnPlace}
 use Rattle.machine.proofs.SoundRows.{sound-rows}
 use Rattle.cells.specs.View.{rowsOf}
 use Rattle.cells.proofs.ViewLaws.{rows-length}
-use Rattle.images.proofs.WriteLaws.{write-header, write-end}
+use Rattle.images.specs.Inner.{rowsPart, turnsPart}
+use Rattle.images.proofs.WriteLaws.{image-placed}
 use borrow.Author.Needs.{needs}
 use Rattle.images.proofs.encoding.write_cells.Statement.{statement}
 use Rattle.images.proofs.encoding.write_cells.Tie as tie
-use Rattle.images.proofs.encoding.write_cells.Reads as reads
-use Rattle.images.proofs.encoding.write_cells.Lts as lts
-use Rattle.images.proofs.encoding.write_rows.Reads as write-rows-reads
-use Rattle.images.proofs.encoding.write_turns.Reads as write-turns-reads
+
+small : (s : tie.Start) → (0 < length (s .args .cells .now)) × (length (s .args .cells .now) ≤ 16)
+small s =
+    let x = s .args .cells .now in
+    let all = sound-rows (rowsOf x) (s .pre .is-sound) in
+    (omega (arith, all .0, rows-length x), omega (arith, all .1, rows-length x))
 
 cast-out : tie.Need-cast-out
-cast-out c =
-    let x = c .before .args .cells .now in
-    let t = rowsOf x in
-    let room = c .before .pre in
-    omega (arith, sound-rows t (room .is-sound) .0, sound-rows t (room .is-sound) .1, room .long, rows-length x)
+cast-out c = let h = small (c .before) in omega arith
 
 add-out : tie.Need-add-out
-add-out c =
-    let x = c .before .args .cells .now in
-    let t = rowsOf x in
-    let room = c .before .pre in
-    omega (arith, sound-rows t (room .is-sound) .0, sound-rows t (room .is-sound) .1, room .long, rows-length x)
+add-out c = let h = small (c .before) in omega arith
 
 slice-write-out : tie.Need-slice-write-out
 slice-write-out c =
-    let x = c .before .args .cells .now in
-    let t = rowsOf x in
-    let room = c .before .pre in
-    omega (arith, sound-rows t (room .is-sound) .0, sound-rows t (room .is-sound) .1, room .long, rows-length x)
+    let s = c .before in
+    omega (arith, small s .0, s .pre .long, rows-length (s .args .cells .now))
 
 write-rows-requires : tie.Need-write-rows-requires
 write-rows-requires c κs = search needs
 
 write-turns-requires : tie.Need-write-turns-requires
 write-turns-requires c κs =
-    let x = c .before .before .before .before .before .before .args .cells .now in
-    let t = rowsOf x in
-    let room = c .before .before .before .before .before .before .pre in
-    let o = c .before .before .before .before .before .before .args .out .now in
-    let same = length-set o 0 (2147483648 + length x) in
+    let s = c .before .before .before .before .before .before in
+    let same = length-set (s .args .out .now) 0 (headerOf (length (s .args .cells .now))) in
     record {
-      is-sound = room .is-sound;
-      long = omega
-          (arith, room .long, same, c .before .before .before .write-rows .ensures .size-is);
+      is-sound = s .pre .is-sound;
+      long = omega (arith, s .pre .long, same, c .before .before .before .write-rows .kept .1 .0);
     }
 
 same-length : tie.Need-same-length
 same-length c =
-    let x = c .before .before .before .before .before .before .before .before .before .args .cells .now in
-    let t = rowsOf x in
-    let room = c .before .before .before .before .before .before .before .before .before .pre in
-    let o = c .before .before .before .before .before .before .before .before .before .args .out .now in
-    let same = length-set o 0 (2147483648 + length x) in
-    c .before .before .write-turns .ensures .size-is
-    ∙ c .before .before .before .before .before .before .write-rows .ensures .size-is ∙ same
+    let s = c .before .before .before .before .before .before .before .before .before in
+    c .before .before .write-turns .kept .1 .0
+    ∙ c .before .before .before .before .before .before .write-rows .kept .1 .0
+    ∙ length-set (s .args .out .now) 0 (headerOf (length (s .args .cells .now)))
 
 returns : tie.Need-returns
 returns c =
-    let x = c .before .before .before .before .before .before .before .before .before .args .cells .now in
+    let s = c .before .before .before .before .before .before .before .before .before in
+    let x = s .args .cells .now in
     let t = rowsOf x in
-    let room = c .before .before .before .before .before .before .before .before .before .pre in
-    let o = c .before .before .before .before .before .before .before .before .before .args .out .now in
-    let same = length-set o 0 (2147483648 + length x) in
-    let ok = room .is-sound in
+    let n = rows-length x in
+    let h = small s in
     let rows = c .before .before .before .before .before .before .write-rows .ensures in
-    let head = ap (λ (n : ℕ). set o 0 (2147483648 + n)) (sym (rows-length x)) ∙ write-header t o ok (room .long) in
-    c .before .before .write-turns .ensures .words-are o (sym (rows .size-is ∙ same))
-    (rows .words-are o (sym same) head)
-    ∙ write-end t o ok (room .long)
+    let head = ap (λ (k : ℕ). set (s .args .out .now) 0 (headerOf k)) (sym n) in
+    c .before .before .write-turns .ensures
+    ∙ ap (λ (l : List ℕ). placed l (turnPlace (length x) 1) (turnsPart t))
+    (rows ∙ ap (λ (l : List ℕ). placed l 1 (rowsPart t)) head)
+    ∙ image-placed t (s .args .out .now) (omega arith) (s .pre .long) (turnPlace (length x) 1) (omega arith)
 
 pub write-cells-spec : {M : Type 1} → statement M
 write-cells-spec =

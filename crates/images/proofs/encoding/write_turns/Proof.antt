@@ -1,132 +1,108 @@
--- `images::encoding::write_turns` meets its contract. The invariant: the words up to turn[k] are written. Assumes
--- nothing.
-use Prim.Native.Nat.{ℕ, _+_, _-_, _*_, _≤_, _<_}
-use mathlib.Core.Path.{_≡_, refl, sym, ap, _∙_, subst}
+-- `images::encoding::write_turns` meets its contract. The invariant: the words of the turn cells up to turn[k] are put.
+-- Assumes nothing.
+use Prim.Native.Nat.{_+_, _-_, _≤_, _<_}
+use mathlib.Core.Path.{_≡_, refl, sym, ap, _∙_}
 use native.Mathlib.Omega.{arith}
 use lib.ListN.{length, set, length-set}
-use borrow.Author.Needs.{needs}
-use Rattle.machine.specs.Images.{TURN, bodyOf}
+use Rattle.counting.proofs.PlacingLaws.{begun, begun-start, begun-next, begun-end}
+use Rattle.machine.specs.Images.{TURN, turnPlace, bodyOf}
 use Rattle.machine.specs.declared.Row.{Row}
 use Rattle.machine.proofs.SoundRows.{sound-rows}
 use Rattle.cells.specs.View.{rowsOf}
 use Rattle.cells.proofs.ViewLaws.{rows-length}
-use Rattle.images.specs.Writing.{Filled, wordFor}
-use Rattle.images.proofs.WriteLaws.{write-turn}
+use Rattle.images.specs.Inner.{wordFor, turnsPart}
+use Rattle.images.proofs.WriteLaws.{length-turnsPart, turn-word}
+use borrow.Author.Needs.{needs}
 use Rattle.images.proofs.encoding.write_turns.Statement.{statement}
 use Rattle.images.proofs.encoding.write_turns.Tie as tie
-use Rattle.images.proofs.encoding.write_turns.Reads as reads
-use Rattle.images.proofs.encoding.write_turns.Lts as lts
-use Rattle.cells.proofs.access.row_at.Reads as row-at-reads
-use Rattle.images.proofs.encoding.word.Reads as word-reads
 
 abbrev Inv-loop : tie.InvT-loop
-Inv-loop cells out₀ n first k₀ out k =
+Inv-loop cells out₀ n k₀ out k =
     (1 ≤ k)
     × (k ≤ n)
+    × (n ≤ 16)
     × (n ≡ length (rowsOf cells))
-    × (first ≡ 4 * n)
-    × Filled (rowsOf cells) (4 * length (rowsOf cells) + 1) (4 * length (rowsOf cells) + k) out₀ out
+    × (length out ≡ length out₀)
+    × (out ≡ begun out₀ (turnPlace n 1) (turnsPart (rowsOf cells)) (k - 1))
 
 abbrev μ-loop : tie.MeasureT-loop
-μ-loop cells out₀ n first k₀ out k = n - k
-
-mul-first : tie.Need-mul-first Inv-loop μ-loop
-mul-first c = search needs
+μ-loop cells out₀ n k₀ out k = n - k
 
 loop-holds : tie.Need-loop-holds Inv-loop μ-loop
 loop-holds c =
     let x = c .before .args .cells .now in
-    let some = sound-rows (rowsOf x) (c .before .pre .is-sound) .0 in (
-      omega arith,
-      omega (arith, some, rows-length x),
+    let all = sound-rows (rowsOf x) (c .before .pre .is-sound) in (
+      search needs,
+      omega (arith, all .0, rows-length x),
+      omega (arith, all .1, rows-length x),
       sym (rows-length x),
       refl,
-      record { words-are = λ o e h. h; size-is = refl },
+      begun-start (c .before .args .out .now) (turnPlace (length x) 1) (turnsPart (rowsOf x)),
     )
 
--- ---- in the loop
-
-abbrev start : tie.In-loop Inv-loop μ-loop → tie.Start Inv-loop μ-loop
-start c = c .before .before .before
-
 row-at-requires : tie.Need-row-at-requires Inv-loop μ-loop
-row-at-requires c κs = c .loop-test .taken
+row-at-requires c κs = search needs
 
--- k and the number of processes are small
-small : (c : tie.In-loop Inv-loop μ-loop)
-    → let n = length (start c .args .cells .now) in
-    (c .before .loop .k < n) × (n ≤ 16)
-small c =
-    let s = start c in
-    let few = sound-rows (rowsOf (s .args .cells .now)) (s .pre .is-sound) .1 in
-    (c .loop-test .taken, omega (arith, c .before .loop .inv .2))
+turn-place-requires : tie.Need-turn-place-requires Inv-loop μ-loop
+turn-place-requires c κs = search needs
 
 cast-word : tie.Need-cast-word Inv-loop μ-loop
-cast-word c = omega (arith, small (c .before) .0, small (c .before) .1)
+cast-word c = search needs
 
 word-requires : tie.Need-word-requires Inv-loop μ-loop
-word-requires c κs = (omega arith, omega (arith, small (c .before) .0, small (c .before) .1))
-
-add-out : tie.Need-add-out Inv-loop μ-loop
-add-out c =
-    let l = c .before .before in
-    omega (arith, small l .0, small l .1, l .before .loop .inv .3)
+word-requires c κs = search needs
 
 mul-out : tie.Need-mul-out Inv-loop μ-loop
-mul-out c =
-    let l = c .before .before in
-    omega (arith, small l .0, small l .1, l .before .loop .inv .3)
+mul-out c = search needs
 
 slice-write-out : tie.Need-slice-write-out Inv-loop μ-loop
 slice-write-out c =
-    let l = c .before .before in
-    let inv = l .before .loop .inv in
-    omega (arith, start l .pre .long, inv .2, inv .3, inv .4 .size-is, l .loop-test .taken)
+    let s = c .before .before .before .before .before .before in
+    let inv = c .before .before .before .before .loop .inv in
+    omega (arith, s .pre .long, inv .3, inv .4)
 
 add-k : tie.Need-add-k Inv-loop μ-loop
 add-k c = search needs
 
 loop-less : tie.Need-loop-less Inv-loop μ-loop
-loop-less c = omega (arith, c .before .before .loop-test .taken)
+loop-less c = search needs
 
 loop-again : tie.Need-loop-again Inv-loop μ-loop
 unfolding bodyOf
 loop-again c =
-    let l = c .before .before in
-    let x = start l .args .cells .now in
+    let s = c .before .before .before .before .before .before in
+    let o = s .args .out .now in
+    let x = s .args .cells .now in
     let t = rowsOf x in
-    let room = start l .pre in
-    let k = l .before .loop .k in
-    let inv = l .before .loop .inv in
-    let more : k < length t = omega (arith, inv .2, l .loop-test .taken) in
-    let place : 4 * length x + k ≡ 4 * length t + k = omega (arith, rows-length x) in
-    let word = c .word .ensures ∙ ap (λ (r : Row). wordFor TURN k r) (c .before .row-at .ensures) in (
-      omega (arith, inv .0),
-      omega (arith, l .loop-test .taken),
-      inv .2,
-      inv .3,
-      record {
-        words-are =
-            λ o e h.
-            (λ i. set (inv .4 .words-are o e h i) (place i) (word i))
-            ∙ write-turn t o (room .is-sound) (omega (arith, room .long)) k (inv .0) more;
-        size-is = simp length-set (inv .4 .size-is);
-      },
+    let at = c .before .before .before .before .loop in
+    let k = at .k in
+    let l : k < length t = omega (arith, at .inv .3, c .before .before .before .loop-test .taken) in
+    let parts = length-turnsPart t in
+    let row-is = c .before .before .row-at .ensures in
+    let word = c .word .ensures ∙ ap (λ (r : Row). wordFor TURN k r) row-is ∙ turn-word t k (at .inv .0) l in
+    let next =
+    begun-next o (turnPlace (length x) 1) (turnsPart t) (omega (arith, s .pre .long, at .inv .3)) (k - 1) (k + 1 - 1)
+    (c .before .turn-place .result) (c .word .result) 0 (omega (arith, c .before .turn-place .ensures)) (omega arith)
+    (omega arith) word in (
+      search needs,
+      search needs,
+      at .inv .2,
+      at .inv .3,
+      length-set (at .out) (c .before .turn-place .result) (c .word .result) ∙ at .inv .4,
+      (λ i. set (at .inv .5 i) (c .before .turn-place .result) (c .word .result)) ∙ next,
     )
 
--- ---- after the last turn cell
-
 same-length : tie.Need-same-length Inv-loop μ-loop
-same-length c = c .before .loop .inv .4 .size-is
+same-length c = c .before .loop .inv .4
 
 returns : tie.Need-returns Inv-loop μ-loop
 returns c =
-    let at = c .before .loop in
     let a = c .before .before .before .args in
-    let t = rowsOf (a .cells .now) in
-    let inv = at .inv in
-    let end : 4 * length t + at .k ≡ 5 * length t = omega (arith, c .loop-test .left, inv .1, inv .2) in
-    subst (λ (j : ℕ). Filled t (4 * length t + 1) j (a .out .now) (at .out)) end (inv .4)
+    let x = a .cells .now in
+    let t = rowsOf x in
+    let at = c .before .loop in
+    at .inv .5 ∙ begun-end (a .out .now) (turnPlace (length x) 1) (turnsPart t) (at .k - 1)
+    (omega (arith, at .inv .3, length-turnsPart t))
 
 pub write-turns-spec : {M : Type 1} → statement M
 write-turns-spec =
@@ -134,12 +110,11 @@ write-turns-spec =
     (tie.spec
     Inv-loop
     μ-loop
-    mul-first
     loop-holds
     row-at-requires
+    turn-place-requires
     cast-word
     word-requires
-    add-out
     mul-out
     slice-write-out
     add-k

@@ -1,27 +1,31 @@
 -- `images::tables::new_table` meets its contract. The invariant: the first q rows are those of the cells, the others
 -- blank.
 -- Assumes nothing.
-use Prim.Native.Nat.{_-_, _≤_}
-use mathlib.Core.Path.{_≡_, refl, ap, _∙_}
+use Prim.Native.Nat.{_+_, _-_, _≤_}
+use mathlib.Core.Path.{_≡_, refl, sym, _∙_}
 use native.Mathlib.Omega.{arith}
-use lib.ListN.{set}
+use lib.ListN.{take, set, replicate}
+use lib.Seq.{length-take-le}
+use Rattle.counting.proofs.PlacingLaws.{begun, begun-start, begun-next, begun-end}
+use Rattle.machine.specs.Rows.{blank}
 use Rattle.cells.specs.View.{rowsOf}
 use Rattle.cells.proofs.ViewLaws.{rows-length}
-use Rattle.images.proofs.TableLaws.{padded, pad-next, pad-handed}
+use Rattle.cells.proofs.FreshLaws.{pad-handed}
+use Rattle.images.proofs.TableLaws.{row-taken}
 use Rattle.images.proofs.tables.new_table.Statement.{statement}
 use Rattle.images.proofs.tables.new_table.Tie as tie
-use Rattle.images.proofs.tables.new_table.Reads as reads
-use Rattle.images.proofs.tables.new_table.Lts as lts
-use Rattle.cells.proofs.access.row_at.Reads as row-at-reads
 
 abbrev Inv-loop : tie.InvT-loop
-Inv-loop cells n m rows₀ q₀ rows q = (q ≤ m) × (m ≡ n) × (rows ≡ padded (rowsOf cells) q)
+Inv-loop cells n m rows₀ q₀ rows q =
+    (q ≤ m) × (m ≡ n) × (rows ≡ begun (replicate 16 blank) 0 (rowsOf (take n cells)) q)
 
 abbrev μ-loop : tie.MeasureT-loop
 μ-loop cells n m rows₀ q₀ rows q = m - q
 
 loop-holds : tie.Need-loop-holds Inv-loop μ-loop
-loop-holds c = (omega arith, refl, refl)
+loop-holds c =
+    let t = rowsOf (take (c .args .n) (c .args .cells .now)) in
+    (omega arith, refl, begun-start (replicate 16 blank) 0 t)
 
 row-at-requires : tie.Need-row-at-requires Inv-loop μ-loop
 row-at-requires c κs =
@@ -44,23 +48,27 @@ loop-less c = omega (arith, c .before .loop-test .taken)
 
 loop-again : tie.Need-loop-again Inv-loop μ-loop
 loop-again c =
-    let x = c .before .before .before .args .cells .now in
+    let a = c .before .before .before .args in
+    let x = a .cells .now in
     let pre = c .before .before .before .pre in
     let inv = c .before .before .loop .inv in
     let q = c .before .before .loop .q in
     let l = c .before .loop-test .taken in
-    let next = pad-next (rowsOf x) q (omega (arith, l, inv .1, pre .0, pre .1, rows-length x))
-    (omega (arith, l, inv .1, pre .0)) in
-    (omega (arith, l), inv .1, (λ i. set (inv .2 i) q (c .row-at .ensures i)) ∙ next)
+    let size = rows-length (take (a .n) x) ∙ length-take-le (a .n) x (omega arith) in
+    let row-is = c .row-at .ensures ∙ row-taken x (a .n) q (omega arith) in
+    let next =
+    begun-next (replicate 16 blank) 0 (rowsOf (take (a .n) x)) (omega arith) q (q + 1) q (c .row-at .result) blank
+    (omega arith) (omega arith) (omega arith) row-is in
+    (omega (arith, l), inv .1, (λ i. set (inv .2 i) q (c .row-at .result)) ∙ next)
 
 returns : tie.Need-returns Inv-loop μ-loop
 returns c =
-    let x = c .before .before .args .cells .now in
-    let n = c .before .before .args .n in
+    let a = c .before .before .args in
+    let t = rowsOf (take (a .n) (a .cells .now)) in
     let pre = c .before .before .pre in
-    let inv = c .before .loop .inv in
-    let end : c .before .loop .q ≡ n = omega (arith, c .loop-test .left, inv .0, inv .1) in
-    pad-handed x n (c .before .loop .rows) (pre .0) (pre .1) (inv .2 ∙ ap (padded (rowsOf x)) end)
+    let at = c .before .loop in
+    let size = rows-length (take (a .n) (a .cells .now)) ∙ length-take-le (a .n) (a .cells .now) (omega arith) in
+    pad-handed t (a .n) (at .rows) (sym size) (at .inv .2 ∙ begun-end (replicate 16 blank) 0 t (at .q) (omega arith))
 
 pub new-table-spec : {M : Type 1} → statement M
 new-table-spec =

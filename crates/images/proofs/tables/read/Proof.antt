@@ -1,15 +1,10 @@
 -- `images::tables::read` meets its contract: what is handed back, by the answer. Assumes nothing.
 use mathlib.Core.Path.{subst, _∙_}
 use Rattle.images.specs.Answers.{ReadInto}
-use Rattle.images.proofs.TableLaws.{read-few, read-table, read-refused}
+use Rattle.images.proofs.TableLaws.{read-few, read-table, read-none}
 use borrow.Author.Needs.{needs}
 use Rattle.images.proofs.tables.read.Statement.{statement}
 use Rattle.images.proofs.tables.read.Tie as tie
-use Rattle.images.proofs.tables.read.Reads as reads
-use Rattle.images.proofs.tables.read.Lts as lts
-use Rattle.images.proofs.decoding.read_cells.Reads as read-cells-reads
-use Rattle.images.proofs.tables.new_table.Reads as new-table-reads
-use Rattle.cells.proofs.making.no_table.Reads as no-table-reads
 
 slice-aggregate-read-cells : tie.Need-slice-aggregate-read-cells
 slice-aggregate-read-cells c = search needs
@@ -51,7 +46,7 @@ returns-2 c =
     let read = c .before .before .before .before .before in
     let ws = read .before .before .before .args .words .now in
     let into = subst (ReadInto ws _ _) (told .1) (read .read-cells .ensures) in
-    c .no-table .ensures ∙ read-refused ws _ _ (told .0 .0) (told .0 .1 .0) into
+    c .no-table .ensures ∙ read-none ws _ _ (told .0 .0) (told .0 .1 .0) into
 
 pub read-spec : {M : Type 1} → statement M
 read-spec =

@@ -1,10 +1,10 @@
 -- `kinds::allowed` meets its contract, kind by kind. Assumes nothing.
-use mathlib.Core.Path.{ap, _∙_}
+use mathlib.Core.Path.{refl, ap, _∙_}
 use mathlib.Core.Bool.{Bool, _&&_, _||_, not}
 use lib.Dec.{eqb}
 use borrow.Author.Needs.{needs}
-use Rattle.machine.specs.Words.{STAY}
-use Rattle.rows.proofs.LocationLaws.{allowed-look, allowed-go, allowed-flicker, allowed-come, allowed-rest}
+use Rattle.machine.specs.Words.{STAY, COME, FLICKER, GO, LOOK}
+use Rattle.rows.proofs.AllowedLaws.{allowed-with, allowed-plain, allowed-rest}
 use Rattle.rows.proofs.kinds.allowed.Statement.{statement}
 use Rattle.rows.proofs.kinds.allowed.Tie as tie
 
@@ -21,7 +21,7 @@ returns c =
     let s = p .before .before in
     let r = s .args .r in
     ap (λ (b : Bool). b && not (eqb (r .lis) 0)) (m .marked .ensures)
-    ∙ allowed-look (s .args .kind) (p .places .result) r (p .before .if1 .taken) (p .places .ensures)
+    ∙ allowed-with (s .args .kind) LOOK (p .places .result) r (p .before .if1 .taken) refl (p .places .ensures)
 
 places-requires-2 : tie.Need-places-requires-2
 places-requires-2 c κs = search needs
@@ -36,7 +36,7 @@ returns-2 c =
     let s = p .before .before .before in
     let r = s .args .r in
     ap (λ (b : Bool). b && (not (eqb (r .location) 22) || eqb (r .lis) 0)) (m .marked2 .ensures)
-    ∙ allowed-go (s .args .kind) (p .places2 .result) r (p .before .if2 .taken) (p .places2 .ensures)
+    ∙ allowed-with (s .args .kind) GO (p .places2 .result) r (p .before .if2 .taken) refl (p .places2 .ensures)
 
 places-requires-3 : tie.Need-places-requires-3
 places-requires-3 c κs = search needs
@@ -49,7 +49,8 @@ returns-3 c =
     let p = c .before in
     let s = p .before .before .before .before in
     c .marked3 .ensures
-    ∙ allowed-flicker (s .args .kind) (p .places3 .result) (s .args .r) (p .before .if3 .taken) (p .places3 .ensures)
+    ∙ allowed-plain (s .args .kind) FLICKER (p .places3 .result) (s .args .r) (p .before .if3 .taken) refl
+    (p .places3 .ensures) refl
 
 places-requires-4 : tie.Need-places-requires-4
 places-requires-4 c κs = search needs
@@ -62,7 +63,8 @@ returns-4 c =
     let p = c .before in
     let s = p .before .before .before .before .before in
     c .marked4 .ensures
-    ∙ allowed-come (s .args .kind) (p .places4 .result) (s .args .r) (p .before .if4 .taken) (p .places4 .ensures)
+    ∙ allowed-plain (s .args .kind) COME (p .places4 .result) (s .args .r) (p .before .if4 .taken) refl
+    (p .places4 .ensures) refl
 
 places-requires-5 : tie.Need-places-requires-5
 places-requires-5 c κs = search needs

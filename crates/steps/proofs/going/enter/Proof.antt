@@ -1,15 +1,10 @@
 -- `going::enter` meets its contract: GO at 20. Assumes nothing.
-use mathlib.Core.Path.{_∙_}
-use Rattle.steps.proofs.MoveLaws.{put-entered}
+use mathlib.Core.Path.{refl}
+use Rattle.steps.proofs.MoveLaws.{becomes-as, put-entered}
+use Rattle.steps.proofs.ToldLaws.{goes-quiet}
 use borrow.Author.Needs.{needs}
 use Rattle.steps.proofs.going.enter.Statement.{statement}
 use Rattle.steps.proofs.going.enter.Tie as tie
-use Rattle.steps.proofs.going.enter.Reads as reads
-use Rattle.steps.proofs.going.enter.Lts as lts
-use Rattle.cells.proofs.access.put_row.Reads as put-row-reads
-use Rattle.cells.proofs.access.row_at.Reads as row-at-reads
-use Rattle.cells.proofs.sweeps.competitors.Reads as competitors-reads
-use Rattle.rows.proofs.moves.entered.Reads as entered-reads
 
 cast-n : tie.Need-cast-n
 cast-n c = search needs
@@ -31,17 +26,13 @@ same-length c = search needs
 
 returns : tie.Need-returns
 returns c =
-    let s = c .before .before .before .before .before .before .before .before in
-    let x = s .args .cells .now in
-    let p = s .args .p in
-    let competing = c .before .before .before .before .before .before .competitors .ensures in
-    let own = c .before .before .before .before .row-at .ensures in
-    let made = c .before .before .entered .ensures in
-    let put = c .before .put-row .ensures in
-    record {
-      rows-are = put .rows-are ∙ put-entered x p _ _ own _ (s .pre .there) competing made;
-      size-is = put .size-is;
-    }
+    let r = c .before .before .before .before in
+    let s = r .before .before .before .before in
+    let competing = r .before .before .competitors .ensures in
+    goes-quiet 20 (s .pre .there) refl
+    (becomes-as (c .before .put-row .ensures)
+    (put-entered (s .args .cells .now) (s .args .p) _ _ (r .row-at .ensures) _ (s .pre .there) competing
+    (c .before .before .entered .ensures)))
 
 pub enter-spec : {M : Type 1} → statement M
 enter-spec =

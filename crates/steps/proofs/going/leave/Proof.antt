@@ -1,16 +1,13 @@
 -- `going::leave` meets its contract: GO at 30. Assumes nothing.
-use mathlib.Core.Path.{sym, ap, _∙_}
+use mathlib.Core.Path.{refl, sym, ap, _∙_}
 use mathlib.Core.List.{map}
 use Rattle.machine.specs.Steps.{forgets}
 use Rattle.machine.proofs.Forms.{gone-30}
 use Rattle.cells.specs.View.{rowsOf}
+use Rattle.steps.proofs.ToldLaws.{goes-quiet}
 use borrow.Author.Needs.{needs}
 use Rattle.steps.proofs.going.leave.Statement.{statement}
 use Rattle.steps.proofs.going.leave.Tie as tie
-use Rattle.steps.proofs.going.leave.Reads as reads
-use Rattle.steps.proofs.going.leave.Lts as lts
-use Rattle.cells.proofs.sweeps.forget.Reads as forget-reads
-use Rattle.steps.proofs.going.go_to.Reads as go-to-reads
 
 go-to-requires : tie.Need-go-to-requires
 go-to-requires c κs = search needs
@@ -26,13 +23,14 @@ returns c =
     let s = c .before .before .before .before .before .before in
     let put = c .before .before .before .before .go-to .ensures in
     let left = c .before .forget .ensures in
-    record {
+    goes-quiet 30 (s .pre .there) refl
+    (record {
       rows-are =
           left .rows-are
           ∙ ap (map (forgets (s .args .p))) (put .rows-are)
           ∙ sym (gone-30 (rowsOf (s .args .cells .now)) (s .args .p) (s .pre .there));
       size-is = left .size-is ∙ put .size-is;
-    }
+    })
 
 pub leave-spec : {M : Type 1} → statement M
 leave-spec = tie.close (tie.spec go-to-requires forget-requires same-length returns)

@@ -1,19 +1,13 @@
 -- `going::push` meets its contract: GO at 24, the turn cell after the row. Assumes nothing.
-use mathlib.Core.Path.{ap, _∙_}
+use mathlib.Core.Path.{refl, ap, _∙_}
 use native.Mathlib.Omega.{arith}
 use Rattle.machine.specs.Steps.{turned}
 use Rattle.machine.specs.declared.Row.{Row}
 use Rattle.steps.proofs.MoveLaws.{put-pushed}
+use Rattle.steps.proofs.ToldLaws.{goes-quiet}
 use borrow.Author.Needs.{needs}
 use Rattle.steps.proofs.going.push.Statement.{statement}
 use Rattle.steps.proofs.going.push.Tie as tie
-use Rattle.steps.proofs.going.push.Reads as reads
-use Rattle.steps.proofs.going.push.Lts as lts
-use Rattle.cells.proofs.access.put_row.Reads as put-row-reads
-use Rattle.cells.proofs.access.row_at.Reads as row-at-reads
-use Rattle.cells.proofs.access.turn_to.Reads as turn-to-reads
-use Rattle.cells.proofs.sweeps.competitors.Reads as competitors-reads
-use Rattle.rows.proofs.moves.pushed.Reads as pushed-reads
 
 cast-n : tie.Need-cast-n
 cast-n c = search needs
@@ -45,22 +39,20 @@ same-length c = search needs
 
 returns : tie.Need-returns
 returns c =
-    let first = c .before .before .before .before .before .before .before .before .before .before in
-    let s = first .before .before in
-    let x = s .args .cells .now in
-    let p = s .args .p in
-    let competing = first .competitors .ensures in
-    let gathered = c .before .before .before .before .before .before .before .before .row-at in
-    let made = c .before .before .before .before .before .before .pushed .ensures in
+    let r = c .before .before .before .before .before .before .before .before in
+    let s = r .before .before .before .before in
+    let competing = r .before .before .competitors .ensures in
     let put = c .before .before .before .before .before .put-row .ensures in
     let turn = c .before .turn-to .ensures in
-    record {
+    goes-quiet 24 (s .pre .there) refl
+    (record {
       rows-are =
           turn .rows-are
-          ∙ ap (turned (gathered .result .level) p) (put .rows-are)
-          ∙ put-pushed x p _ _ (gathered .ensures) _ (s .pre .there) competing made;
+          ∙ ap (turned (r .row-at .result .level) (s .args .p)) (put .rows-are)
+          ∙ put-pushed (s .args .cells .now) (s .args .p) _ _ (r .row-at .ensures) _ (s .pre .there) competing
+          (c .before .before .before .before .before .before .pushed .ensures);
       size-is = turn .size-is ∙ put .size-is;
-    }
+    })
 
 pub push-spec : {M : Type 1} → statement M
 push-spec =

@@ -1,17 +1,13 @@
 -- `going::reconsider` meets its contract: GO at 23. Assumes nothing.
 use Prim.Native.Nat.{_<_}
-use mathlib.Core.Path.{sym, ap, subst, _∙_}
+use mathlib.Core.Path.{refl, sym, ap, subst}
 use lib.ListN.{length}
 use Rattle.machine.specs.declared.Row.{Row}
-use Rattle.steps.proofs.MoveLaws.{put-reconsidered}
+use Rattle.steps.proofs.MoveLaws.{becomes-as, put-reconsidered}
+use Rattle.steps.proofs.ToldLaws.{goes-quiet}
 use borrow.Author.Needs.{needs}
 use Rattle.steps.proofs.going.reconsider.Statement.{statement}
 use Rattle.steps.proofs.going.reconsider.Tie as tie
-use Rattle.steps.proofs.going.reconsider.Reads as reads
-use Rattle.steps.proofs.going.reconsider.Lts as lts
-use Rattle.cells.proofs.access.put_row.Reads as put-row-reads
-use Rattle.cells.proofs.access.row_at.Reads as row-at-reads
-use Rattle.rows.proofs.moves.reconsidered.Reads as reconsidered-reads
 
 row-at-requires : tie.Need-row-at-requires
 row-at-requires c κs = search needs
@@ -37,16 +33,12 @@ same-length c = search needs
 returns : tie.Need-returns
 returns c =
     let s = c .before .before .before .before .before .before .before .before .before in
-    let x = s .args .cells .now in
-    let p = s .args .p in
     let own = c .before .before .before .before .before .before .before .row-at .ensures in
     let turn = ap (λ (q : Row). q .turn) (c .before .before .before .before .row-at2 .ensures) in
-    let made = c .before .before .reconsidered .ensures in
-    let put = c .before .put-row .ensures in
-    record {
-      rows-are = put .rows-are ∙ put-reconsidered x p _ _ own _ (s .pre .there) turn made;
-      size-is = put .size-is;
-    }
+    goes-quiet 23 (s .pre .there) refl
+    (becomes-as (c .before .put-row .ensures)
+    (put-reconsidered (s .args .cells .now) (s .args .p) _ _ own _ (s .pre .there) turn
+    (c .before .before .reconsidered .ensures)))
 
 pub reconsider-spec : {M : Type 1} → statement M
 reconsider-spec =

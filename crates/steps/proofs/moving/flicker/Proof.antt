@@ -1,5 +1,5 @@
 -- `moving::flicker` meets its contract. Assumes nothing.
-use mathlib.Core.Path.{sym, ap, _∙_}
+use mathlib.Core.Path.{refl, sym, ap, _∙_}
 use native.Mathlib.Omega.{arith}
 use lib.ListN.{set}
 use Rattle.machine.specs.Rows.{withAct}
@@ -7,15 +7,10 @@ use Rattle.machine.specs.Steps.{turned}
 use Rattle.machine.specs.declared.Row.{Row}
 use Rattle.machine.proofs.Forms.{flickered-act, flickered-turn}
 use Rattle.cells.specs.View.{rowsOf}
+use Rattle.steps.proofs.MoveLaws.{becomes-as, moved-flicker}
 use borrow.Author.Needs.{needs}
 use Rattle.steps.proofs.moving.flicker.Statement.{statement}
 use Rattle.steps.proofs.moving.flicker.Tie as tie
-use Rattle.steps.proofs.moving.flicker.Reads as reads
-use Rattle.steps.proofs.moving.flicker.Lts as lts
-use Rattle.cells.proofs.access.put_row.Reads as put-row-reads
-use Rattle.cells.proofs.access.row_at.Reads as row-at-reads
-use Rattle.cells.proofs.access.turn_to.Reads as turn-to-reads
-use Rattle.rows.proofs.moves.flicker_act.Reads as flicker-act-reads
 
 row-at-requires : tie.Need-row-at-requires
 row-at-requires c κs = search needs
@@ -35,17 +30,17 @@ same-length c = search needs
 returns : tie.Need-returns
 unfolding turned
 returns c =
-    let t = rowsOf (c .before .before .before .before .before .before .before .before .args .cells .now) in
-    let p = c .before .before .before .before .before .before .before .before .args .p in
-    let a = c .before .before .before .before .before .before .before .before .args .a in
+    let s = c .before .before .before .before .before .before .before .before in
+    let t = rowsOf (s .args .cells .now) in
     let own = c .before .before .before .before .before .before .row-at .ensures in
     let at = ap (λ (q : Row). q .location) own in
     record {
-      rows-are =
-          c .before .turn-to .ensures .rows-are
-          ∙ ap (λ (q : Row). turned (q .level) a t) own
-          ∙ sym (flickered-turn t p a (sym at ∙ c .before .before .before .before .if1 .taken));
-      size-is = c .before .turn-to .ensures .size-is;
+      told-is = refl;
+      becomes =
+          becomes-as (c .before .turn-to .ensures)
+          (ap (λ (q : Row). turned (q .level) (s .args .a) t) own
+          ∙ sym (flickered-turn t (s .args .p) (s .args .a) (sym at ∙ c .before .before .before .before .if1 .taken))
+          ∙ sym (moved-flicker t (s .args .p) (s .args .a)));
     }
 
 flicker-act-requires : tie.Need-flicker-act-requires
@@ -59,17 +54,17 @@ same-length-2 c = search needs
 
 returns-2 : tie.Need-returns-2
 returns-2 c =
-    let t = rowsOf (c .before .before .before .before .before .before .before .before .args .cells .now) in
-    let p = c .before .before .before .before .before .before .before .before .args .p in
-    let a = c .before .before .before .before .before .before .before .before .args .a in
+    let s = c .before .before .before .before .before .before .before .before in
+    let t = rowsOf (s .args .cells .now) in
     let own = c .before .before .before .before .before .before .row-at .ensures in
     let at = ap (λ (q : Row). q .location) own in
     record {
-      rows-are =
-          c .before .put-row .ensures .rows-are
-          ∙ ap (set t p) (c .before .before .flicker-act .ensures ∙ ap (withAct a) own)
-          ∙ sym (flickered-act t p a (λ z. c .before .before .before .before .if1 .left (at ∙ z)));
-      size-is = c .before .put-row .ensures .size-is;
+      told-is = refl;
+      becomes =
+          becomes-as (c .before .put-row .ensures)
+          (ap (set t (s .args .p)) (c .before .before .flicker-act .ensures ∙ ap (withAct (s .args .a)) own)
+          ∙ sym (flickered-act t (s .args .p) (s .args .a) (λ z. c .before .before .before .before .if1 .left (at ∙ z)))
+          ∙ sym (moved-flicker t (s .args .p) (s .args .a)));
     }
 
 pub flicker-spec : {M : Type 1} → statement M

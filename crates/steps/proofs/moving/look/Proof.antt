@@ -1,19 +1,15 @@
 -- `moving::look` meets its contract. Assumes nothing.
 use Prim.Native.Nat.{ℕ}
-use mathlib.Core.Path.{ap, _∙_}
+use mathlib.Core.Path.{refl, sym, ap, _∙_}
 use lib.ListN.{set}
 use Rattle.machine.specs.Tables.{row}
 use Rattle.machine.specs.Steps.{looked}
 use Rattle.machine.specs.declared.Row.{Row}
 use Rattle.cells.specs.View.{rowsOf}
+use Rattle.steps.proofs.MoveLaws.{becomes-as, moved-look}
 use borrow.Author.Needs.{needs}
 use Rattle.steps.proofs.moving.look.Statement.{statement}
 use Rattle.steps.proofs.moving.look.Tie as tie
-use Rattle.steps.proofs.moving.look.Reads as reads
-use Rattle.steps.proofs.moving.look.Lts as lts
-use Rattle.cells.proofs.access.put_row.Reads as put-row-reads
-use Rattle.cells.proofs.access.row_at.Reads as row-at-reads
-use Rattle.rows.proofs.moves.looked.Reads as looked-reads
 
 row-at-requires : tie.Need-row-at-requires
 row-at-requires c κs = search needs
@@ -32,18 +28,20 @@ same-length c = search needs
 
 returns : tie.Need-returns
 returns c =
-    let t = rowsOf (c .before .before .before .before .before .before .before .before .args .cells .now) in
-    let p = c .before .before .before .before .before .before .before .before .args .p in
-    let q = c .before .before .before .before .before .before .before .before .args .q in
+    let own = c .before .before .before .before .before .before .row-at in
+    let s = c .before .before .before .before .before .before .before .before in
+    let t = rowsOf (s .args .cells .now) in
+    let q = s .args .q in
     let act = ap (λ (r : Row). r .act) (c .before .before .before .before .row-at2 .ensures) in
     record {
-      rows-are =
-          c .before .put-row .ensures .rows-are
-          ∙ ap (set t p)
+      told-is = refl;
+      becomes =
+          becomes-as (c .before .put-row .ensures)
+          (ap (set t (s .args .p))
           (c .before .before .looked .ensures
-          ∙ ap (λ (v : ℕ). looked q v (c .before .before .before .before .before .before .row-at .result)) act
-          ∙ ap (looked q (row t q .act)) (c .before .before .before .before .before .before .row-at .ensures));
-      size-is = c .before .put-row .ensures .size-is;
+          ∙ ap (λ (v : ℕ). looked q v (own .result)) act
+          ∙ ap (looked q (row t q .act)) (own .ensures))
+          ∙ sym (moved-look t (s .args .p) q));
     }
 
 pub look-spec : {M : Type 1} → statement M

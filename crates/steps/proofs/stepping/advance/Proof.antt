@@ -1,27 +1,19 @@
 -- `stepping::advance` meets its contract: a word that names a process is its kind, taken. Assumes nothing.
 use Prim.Native.Nat.{ℕ}
-use mathlib.Core.Path.{_≡_, refl, sym, _∙_}
+use mathlib.Core.Path.{_≡_, refl, sym, subst, _∙_}
 use mathlib.Core.Bool.{true}
 use mathlib.Core.List.{List}
 use native.Mathlib.Omega.{arith}
 use borrow.Author.Tests.{not-true, not-false}
-use Rattle.machine.specs.Words.{formed}
+use Rattle.machine.specs.Words.{isKind, formed}
 use Rattle.machine.specs.declared.Stepped.{Stepped}
-use Rattle.steps.specs.Moves.{Ready, Takes, Steps}
-use Rattle.steps.proofs.StepLaws.{formed-kind, kind-steps, process-steps, ready, as-parts, taken-steps}
+use Rattle.steps.specs.Moves.{Ready, Takes}
+use Rattle.steps.specs.Stepping.{Steps}
+use Rattle.steps.proofs.TakeLaws.{formed-kind, last-kinds}
+use Rattle.steps.proofs.StepLaws.{kind-steps, process-steps, ready, as-parts, taken-steps}
 use borrow.Author.Needs.{needs}
 use Rattle.steps.proofs.stepping.advance.Statement.{statement}
 use Rattle.steps.proofs.stepping.advance.Tie as tie
-use Rattle.steps.proofs.stepping.advance.Reads as reads
-use Rattle.steps.proofs.stepping.advance.Lts as lts
-use Rattle.steps.proofs.taking.take_flicker.Reads as take-flicker-reads
-use Rattle.steps.proofs.taking.take_go.Reads as take-go-reads
-use Rattle.steps.proofs.taking.take_look.Reads as take-look-reads
-use Rattle.steps.proofs.taking.take_resting.Reads as take-resting-reads
-use Rattle.words.proofs.argument_of.Reads as argument-of-reads
-use Rattle.words.proofs.formed.Reads as formed-reads
-use Rattle.words.proofs.kind_of.Reads as kind-of-reads
-use Rattle.words.proofs.process_of.Reads as process-of-reads
 
 process-of-requires : tie.Need-process-of-requires
 process-of-requires c κs = search needs
@@ -117,14 +109,11 @@ returns-5 c =
 take-resting-requires : tie.Need-take-resting-requires
 take-resting-requires c κs =
     let e = c .before .before .before .before .before .before in
-    let b = formed-kind (e .before .before .before .before .args .word) (formed-so e) in
-    let k = c .before .before .before .before .before .kind-of .ensures in
-    let off = c .before .before .before in
-    record {
-      ready = here e;
-      first = omega (arith, b .0, k);
-      last = omega (arith, b .1, k, off .if3 .left, c .before .before .if4 .left, c .before .if5 .left);
-    }
+    let w = e .before .before .before .before .args .word in
+    let is = c .before .before .before .before .before .kind-of .ensures in
+    let kind = subst (λ (k : ℕ). isKind k ≡ true) (sym is) (formed-kind w (formed-so e)) in
+    let looks = c .before .before .before .if3 .left in
+    record { ready = here e; kind = last-kinds _ kind looks (c .before .before .if4 .left) (c .before .if5 .left) }
 
 same-length-4 : tie.Need-same-length-4
 same-length-4 c = search needs

@@ -6,10 +6,6 @@ use Rattle.steps.proofs.StepLaws.{refusal-table, refused-steps}
 use borrow.Author.Needs.{needs}
 use Rattle.steps.proofs.stepping.step.Statement.{statement}
 use Rattle.steps.proofs.stepping.step.Tie as tie
-use Rattle.steps.proofs.stepping.step.Reads as reads
-use Rattle.steps.proofs.stepping.step.Lts as lts
-use Rattle.cells.proofs.checks.check.Reads as check-reads
-use Rattle.steps.proofs.stepping.advance.Reads as advance-reads
 
 check-requires : tie.Need-check-requires
 check-requires c κs = search needs

@@ -8,21 +8,16 @@ use Rattle.machine.specs.Steps.{allowed, argumentFits}
 use Rattle.machine.specs.declared.Row.{Row}
 use Rattle.cells.specs.View.{rowsOf}
 use Rattle.cells.proofs.ViewLaws.{rows-length}
-use Rattle.steps.proofs.TakeLaws.{refused-there, refused-argument, refused-not}
+use Rattle.steps.proofs.TakeLaws.{kind-small, refused-there, refused-argument, refused-not}
 use borrow.Author.Needs.{needs}
 use Rattle.steps.proofs.taking.refusal_at.Statement.{statement}
 use Rattle.steps.proofs.taking.refusal_at.Tie as tie
-use Rattle.steps.proofs.taking.refusal_at.Reads as reads
-use Rattle.steps.proofs.taking.refusal_at.Lts as lts
-use Rattle.cells.proofs.access.row_at.Reads as row-at-reads
-use Rattle.rows.proofs.kinds.allowed.Reads as allowed-reads
-use Rattle.rows.proofs.kinds.argument_fits.Reads as argument-fits-reads
 
 row-at-requires : tie.Need-row-at-requires
 row-at-requires c κs = search needs
 
 allowed-requires : tie.Need-allowed-requires
-allowed-requires c κs = search needs
+allowed-requires c κs = kind-small (c .before .args .kind) (c .before .pre .kind)
 
 cast-argument-fits : tie.Need-cast-argument-fits
 cast-argument-fits c = search needs

@@ -3,8 +3,6 @@ use borrow.Author.Needs.{needs}
 use Rattle.text.proofs.AppendingLaws.{appended-one}
 use Rattle.text.proofs.fields.put_byte.Statement.{statement}
 use Rattle.text.proofs.fields.put_byte.Tie as tie
-use Rattle.text.proofs.fields.put_byte.Reads as reads
-use Rattle.text.proofs.fields.put_byte.Lts as lts
 
 slice-write-out : tie.Need-slice-write-out
 slice-write-out c = search needs

@@ -8,9 +8,6 @@ use Rattle.cells.proofs.ViewLaws.{rows-length}
 use borrow.Author.Needs.{needs}
 use Rattle.text.proofs.running.location_at.Statement.{statement}
 use Rattle.text.proofs.running.location_at.Tie as tie
-use Rattle.text.proofs.running.location_at.Reads as reads
-use Rattle.text.proofs.running.location_at.Lts as lts
-use Rattle.cells.proofs.access.row_at.Reads as row-at-reads
 
 returns : tie.Need-returns
 returns c =

@@ -3,20 +3,18 @@
 use native.Mathlib.Omega.{arith}
 use borrow.Author.Needs.{needs}
 use mathlib.Core.Path.{_≡_, refl, sym, ap, _∙_}
+use mathlib.Core.List.{[], _∷_}
 use Prim.Native.Nat.{_-_, _≤_}
 use lib.ListN.{length}
 use Rattle.machine.specs.Runs.{limit}
 use Rattle.cells.specs.View.{rowsOf}
 use Rattle.text.specs.Running.{goesOn}
-use Rattle.text.proofs.DigitLaws.{length-digits}
-use Rattle.text.proofs.LineLaws.{length-last}
+use Rattle.machine.specs.Text.{doneText}
+use Rattle.text.proofs.LineLaws.{length-line}
+use Rattle.text.proofs.LineLaws.Within.{last}
 use Rattle.text.proofs.ProgressLaws.{Progress, progress-none, progress-taken, progress-stopped, progress-done}
 use Rattle.text.proofs.running.put_run.Statement.{statement}
 use Rattle.text.proofs.running.put_run.Tie as tie
-use Rattle.text.proofs.running.put_run.Reads as reads
-use Rattle.text.proofs.running.put_run.Lts as lts
-use Rattle.text.proofs.running.put_done.Reads as put-done-reads
-use Rattle.text.proofs.running.put_word.Reads as put-word-reads
 
 abbrev Inv-loop : tie.InvT-loop
 Inv-loop out₀ at cells₀ words end₀ i₀ out cells end i =
@@ -125,7 +123,7 @@ put-done-requires c κs =
     let l = c .before .before in
     let p = l .loop .inv .0 in
     let few : l .loop .i ≤ limit = omega (arith, p .within, start l .pre .few) in
-    let long = length-digits 20 3 (l .loop .i) (omega arith) in
+    let long = length-line doneText {ns = l .loop .i ∷ []} (last 3 (omega arith)) in
     omega (
       arith,
       p .room,
@@ -133,7 +131,6 @@ put-done-requires c κs =
       p .appended .end-is,
       l .loop .inv .1,
       start l .pre .room,
-      length-last (l .loop .i),
     )
 
 same-length-3 : tie.Need-same-length-3 Inv-loop μ-loop

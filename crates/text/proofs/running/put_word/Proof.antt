@@ -2,10 +2,9 @@
 use native.Mathlib.Omega.{arith}
 use mathlib.Core.Path.{_≡_, sym, ap, _∙_}
 use mathlib.Core.Bool.{true}
-use mathlib.Core.List.{[], _∷_, _++_}
-use Prim.Native.Nat.{ℕ}
+use mathlib.Core.List.{[], _∷_}
 use lib.ListN.{length}
-use Rattle.machine.specs.Text.{numbers, stopText, wordLine}
+use Rattle.machine.specs.Text.{line, stopLine, wordLine}
 use Rattle.machine.proofs.SoundRows.{sound-few}
 use Rattle.cells.specs.View.{rowsOf}
 use Rattle.cells.proofs.ViewLaws.{rows-length}
@@ -24,14 +23,6 @@ use Rattle.text.proofs.RunLaws.{
 use borrow.Author.Needs.{needs}
 use Rattle.text.proofs.running.put_word.Statement.{statement}
 use Rattle.text.proofs.running.put_word.Tie as tie
-use Rattle.text.proofs.running.put_word.Reads as reads
-use Rattle.text.proofs.running.put_word.Lts as lts
-use Rattle.text.proofs.lines.put_five.Reads as put-five-reads
-use Rattle.text.proofs.lines.put_two.Reads as put-two-reads
-use Rattle.text.proofs.running.count_critical.Reads as count-critical-reads
-use Rattle.text.proofs.running.location_at.Reads as location-at-reads
-use Rattle.steps.proofs.stepping.advance.Reads as advance-reads
-use Rattle.words.proofs.process_of.Reads as process-of-reads
 
 process-of-requires : tie.Need-process-of-requires
 process-of-requires c κs = search needs
@@ -73,19 +64,28 @@ taken c =
     let answer = sym (stepped c .advance .ensures .answer-is) ∙ c .enum-told .given .1 in
     moved-takes (rowsOf (a .cells .now)) (a .word) _ answer
 
-cast-put-five : tie.Need-cast-put-five
-cast-put-five c = search needs
+cast-process : tie.Need-cast-process
+cast-process c = search needs
+
+slice-aggregate-put-line : tie.Need-slice-aggregate-put-line
+slice-aggregate-put-line c = search needs
+
+slice-aggregate-put-line-2 : tie.Need-slice-aggregate-put-line-2
+slice-aggregate-put-line-2 c = search needs
+
+slice-aggregate-put-line-3 : tie.Need-slice-aggregate-put-line-3
+slice-aggregate-put-line-3 c = search needs
 
 -- its five numbers are its line
-line : (c : tie.After-count-critical)
+printed : (c : tie.After-count-critical)
     → let l = c .before .before in
     let step = stepped (l .before .before) in
     let first = step .before .before in
     let a = start step .args in
-    numbers (a .place ∷ first .before .before .process-of .result ∷ first .location-at .result
+    line [] (a .place ∷ first .before .before .process-of .result ∷ first .location-at .result
     ∷ l .location-at2 .result ∷ c .count-critical .result ∷ [])
     ≡ wordLine (rowsOf (a .cells .now)) (a .place) (a .word)
-line c =
+printed c =
     let l = c .before .before in
     let step = stepped (l .before .before) in
     let first = step .before .before in
@@ -97,30 +97,25 @@ line c =
     (l .location-at2 .ensures)
     (c .count-critical .ensures)
 
-put-five-requires : tie.Need-put-five-requires
-put-five-requires c κs =
-    let told = c .before .before .before .before .before in
+put-line-requires : tie.Need-put-line-requires
+put-line-requires c κs =
+    let counted = c .before .before .before .before in
+    let told = counted .before .before .before .before in
     let s = start (stepped told) in
     let t = rowsOf (s .args .cells .now) in
     let long = length-wordLine t (s .args .place) (s .args .word) (s .pre .sound) (s .pre .few) (taken told) in
-    omega (arith, ap length (line (c .before)), s .pre .room)
+    omega (arith, ap length (printed counted), s .pre .room)
 
 -- ---- a refused word
 
 enum-known-why : tie.Need-enum-known-why
 enum-known-why c = search needs
 
-slice-aggregate-put-two : tie.Need-slice-aggregate-put-two
-slice-aggregate-put-two c = search needs
-
-cast-put-two : tie.Need-cast-put-two
-cast-put-two c = search needs
-
-put-two-requires : tie.Need-put-two-requires
-put-two-requires c κs =
-    let s = start (c .before .before .before .before .before .before) in
-    let why = c .before .before .before .why .given .0 .0 in
-    let small = c .before .before .known-told .given in
+put-stop-requires : tie.Need-put-stop-requires
+put-stop-requires c κs =
+    let s = start (c .before .before .before .before .before) in
+    let why = c .before .before .why .given .0 .0 in
+    let small = c .before .known-told .given in
     omega (arith, length-stopLine (s .args .place) why (s .pre .few) (omega arith), s .pre .room)
 
 -- ---- the answers
@@ -133,14 +128,15 @@ same-length-2 c = search needs
 
 returns : tie.Need-returns
 returns c =
-    let told = c .before .before .before .before .before .before .before .before in
+    let counted = c .before .before .before .before .before .before .before in
+    let told = counted .before .before .before .before in
     let step = stepped told in
     let a = start step .args in
     let is = lineOf-taken (rowsOf (a .cells .now)) (a .place) (a .word) (taken told) in
     record {
       becomes = step .advance .ensures .becomes;
       taken-is = sym (taken told);
-      appended = appended-as (line (c .before .before .before .before) ∙ sym is) (c .before .before .put-five .ensures);
+      appended = appended-as (printed counted ∙ sym is) (c .before .before .put-line .ensures);
     }
 
 same-length-3 : tie.Need-same-length-3
@@ -151,20 +147,20 @@ same-length-4 c = search needs
 
 returns-2 : tie.Need-returns-2
 returns-2 c =
-    let told = c .before .before .before .before .before .before .why .given in
-    let step = c .before .before .before .before .before .before .before .before .before in
+    let told = c .before .before .before .before .before .why .given in
+    let step = c .before .before .before .before .before .before .before .before in
     let a = start step .args in
     let t = rowsOf (a .cells .now) in
     let i = a .place in
     let why = told .0 .0 in
     let answer = sym (step .advance .ensures .answer-is) ∙ told .1 in
     let stopped = refused-takes t (a .word) why answer in
-    let same = ap (λ (n : ℕ). stopText ++ numbers (i ∷ n ∷ [])) (refused-number t (a .word) why answer) in
+    let same = ap (stopLine i) (refused-number t (a .word) why answer) in
     let is = sym same ∙ sym (lineOf-stopped t i (a .word) stopped) in
     record {
       becomes = step .advance .ensures .becomes;
       taken-is = sym stopped;
-      appended = appended-as is (c .before .before .put-two .ensures);
+      appended = appended-as is (c .before .before .put-stop .ensures);
     }
 
 pub put-word-spec : {M : Type 1} → statement M
@@ -177,12 +173,13 @@ put-word-spec =
     enum-told
     location-at-requires-2
     count-critical-requires
-    cast-put-five
-    put-five-requires
+    cast-process
+    slice-aggregate-put-line
+    slice-aggregate-put-line-2
+    slice-aggregate-put-line-3
+    put-line-requires
     enum-known-why
-    slice-aggregate-put-two
-    cast-put-two
-    put-two-requires
+    put-stop-requires
     same-length
     same-length-2
     returns

@@ -1,0 +1,2 @@
+-- Laws of whole lists of words.
+pub mod ListLaws

@@ -1,0 +1,73 @@
+-- The promises about an input that holds a table (document 01, "The printed run and the call from C"): what it holds,
+-- that its table is never refused afterwards, and that the number that C gets says what the run answers.
+-- Assumes nothing.
+use Prim.Native.Nat.{ℕ, _≤_, _<_}
+use mathlib.Core.Path.{_≡_, ap, _∙_, sym}
+use mathlib.Core.Bool.{true}
+use mathlib.Core.List.{List}
+use native.Mathlib.Decide.{decLe}
+use native.Mathlib.Omega.{arith}
+use lib.ListN.{length}
+use Rattle.machine.specs.Refusals.{accepted}
+use Rattle.machine.specs.Tables.{Table, tableRefusal}
+use Rattle.machine.specs.Steps.{afterWords}
+use Rattle.machine.specs.Runs.{limit, Outcome, ranOf, runOf}
+use Rattle.machine.specs.Images.{imageRefusal, tableIn}
+use Rattle.machine.specs.Bytes.{wordsIn, bytesFit}
+use Rattle.machine.specs.Inputs.{imagePart, eventPart, Input, inputOf}
+use Rattle.machine.specs.Calls.{Called, numberOf, roomFor, ranCall, callFor, callOf}
+use Rattle.machine.proofs.SoundRows.{sound-accepted, accepted-sound}
+use Rattle.machine.proofs.RunLaws.{runOf-words, runOf-taken}
+use Rattle.machine.proofs.InputLaws.{words-too-many, words-ready, bytes-words, call-ran}
+use Rattle.machine.proofs.WordsAreSteps.{words-keep-sound}
+use Rattle.image_theorems.proofs.Reading.{accepted-facts}
+use Rattle.image_theorems.proofs.RoundTrip.{table-sound}
+
+-- The table of an accepted image is never refused afterwards, whatever words are given to it.
+-- Excludes: an image that is read into a table which the step or the run then answers with 6 or 7.
+pub never-refused : (ws : List ℕ) → imageRefusal ws .refusal ≡ accepted
+    → (vs : List ℕ) → tableRefusal (afterWords (tableIn ws) vs) ≡ accepted
+never-refused ws z vs =
+    let s = accepted-sound (tableIn ws) (table-sound ws _ (accepted-facts ws z)) in
+    sound-accepted (afterWords (tableIn ws) vs) (words-keep-sound (tableIn ws) vs s .0)
+
+-- what a run answers, as one number
+abbrev said : Outcome → ℕ
+said o = numberOf (ranOf o .taken) (ranOf o .refusal)
+
+-- ---- an input whose bytes and whose image are accepted
+
+module _ (bs : List ℕ) (fit : bytesFit bs ≡ true)
+    (read : imageRefusal (imagePart (wordsIn bs)) .refusal ≡ accepted) where
+  -- its table and its event words
+  abbrev pub table : Table
+  table = tableIn (imagePart (wordsIn bs))
+
+  abbrev pub words : List ℕ
+  words = eventPart (wordsIn bs)
+
+  pub table-fits : tableRefusal table ≡ accepted
+  table-fits = table-sound (imagePart (wordsIn bs)) _ (accepted-facts (imagePart (wordsIn bs)) read)
+
+  pub holds-ready : length words ≤ limit → inputOf bs ≡ Input.Ready table words
+  holds-ready h = bytes-words bs fit ∙ words-ready (wordsIn bs) read h
+
+  pub holds-too-many : limit < length words → inputOf bs ≡ Input.TooMany table
+  holds-too-many h = bytes-words bs fit ∙ words-too-many (wordsIn bs) read h
+
+  -- The number that C gets says what the run answers, 12 for too many words included.
+  -- Excludes: a call that counts or refuses otherwise than the run on the same table and words.
+  pub number-is-of-run : (l : List ℕ) → roomFor table ≤ length l
+      → callOf bs l .number ≡ numberOf (ranOf (runOf table words) .taken) (ranOf (runOf table words) .refusal)
+  unfolding callOf callFor ranCall
+  number-is-of-run l room = go (decLe (length words) limit)
+    where
+      go : Dec (length words ≤ limit) → callOf bs l .number ≡ said (runOf table words)
+      go (yes h) =
+          ap (λ (i : Input). callFor i l .number) (holds-ready h)
+          ∙ ap (λ (c : Called). c .number) (call-ran table words l room)
+          ∙ ap said (sym (runOf-taken table words table-fits h))
+      go (no h) =
+          let many : limit < length words = omega (arith, h) in
+          ap (λ (i : Input). callFor i l .number) (holds-too-many many)
+          ∙ ap said (sym (runOf-words table words table-fits many))

@@ -1,0 +1,25 @@
+-- `going::end_pass` meets its contract: GO at 22. Assumes nothing.
+use mathlib.Core.Path.{refl, sym}
+use Rattle.machine.proofs.Forms.{gone-22}
+use Rattle.cells.specs.View.{rowsOf}
+use Rattle.steps.proofs.MoveLaws.{becomes-as}
+use Rattle.steps.proofs.ToldLaws.{goes-quiet}
+use borrow.Author.Needs.{needs}
+use Rattle.steps.proofs.going.end_pass.Statement.{statement}
+use Rattle.steps.proofs.going.end_pass.Tie as tie
+
+go-to-requires : tie.Need-go-to-requires
+go-to-requires c κs = search needs
+
+same-length : tie.Need-same-length
+same-length c = search needs
+
+returns : tie.Need-returns
+returns c =
+    let s = c .before .before .before in
+    goes-quiet 22 (s .pre .there) refl
+    (becomes-as (c .before .go-to .ensures)
+    (sym (gone-22 (rowsOf (s .args .cells .now)) (s .args .p) (s .pre .there))))
+
+pub end-pass-spec : {M : Type 1} → statement M
+end-pass-spec = tie.close (tie.spec go-to-requires same-length returns)
