@@ -1,32 +1,59 @@
-/* Zaguypo from C. Every function is total: it takes any content and any length, ends, and changes no memory but that
-   named here. A lent array is a pointer and a number of elements; of no elements the pointer may be NULL. Lent arrays must not
-   overlap. Nothing checks these declarations against the Rattle source. */
+/* Zaguypo from C and C++. Every function is total: it takes any content and any length, ends, and changes no memory but
+   that named here. It keeps no state, so that calls on different memory may be made from any number of threads at once.
+   A lent array is a pointer and a number of elements; of no elements the pointer may be NULL. Lent arrays must not overlap.
+   Nothing checks these declarations against the Rattle source. */
 #ifndef ZAGUYPO_H
 #define ZAGUYPO_H
 
 #include <stddef.h>
 #include <stdint.h>
 
-/* ---- libzaguypo.a */
+/* The first number rises with a change that a host compiled before would not survive, the second with any other change of
+   an answer or of the interface. CHANGELOG.md says which landing has which version. */
+#define ZAGUYPO_VERSION "1.0.0"
+#define ZAGUYPO_VERSION_MAJOR 1
+#define ZAGUYPO_VERSION_MINOR 0
+#define ZAGUYPO_VERSION_PATCH 0
 
-/* The run that an input holds: words of 4 bytes, lowest byte first, an image and then event words.
+#define ZAGUYPO_MOST_PROCESSES 16
+#define ZAGUYPO_RUN_LIMIT 8192                    /* the most words of a run */
+#define ZAGUYPO_IMAGE_WORDS(n) (5 * (n))          /* the words of an image of n processes */
+#define ZAGUYPO_IMAGE_BYTES(n) (20 * (n))         /* and its bytes */
+#define ZAGUYPO_INPUT_BYTES 33088                 /* the most bytes of an input */
+#define ZAGUYPO_TEXT_BYTES 139300                 /* room for every printed text */
 
-   Answers 256 times the number of words taken, plus the refusal or 0. Refusals, in the order of checking:
-     14  input_len is no multiple of 4, or above 33,088
-     1   no words, or the first is not 80000000 plus 2 to 16
-     2   fewer than 5N words, N being the number in the first word
-     3   a word of the image: kind, number or spare bits wrong
+#ifdef __cplusplus
+extern "C" {
+#endif
+
+/* ---- refusals, in the order of checking; 0 is an accepted answer
+
+     14  bytes in: no multiple of 4, or above 33,088
+     1   an image: no words, or the first is not 80000000 plus 2 to 16
+     2   an image: not 5N words, N being the number in the first word
+     3   a word of an image: kind, number or spare bits wrong
      4   the same word: location code, level, set or turn out of range
      5   the same word: level against location
-     12  more than 8,192 event words
-     13  image_len is below 20N
+     6   a table: not 2 to 16 rows
+     7   a table: a row is unsound
+     12  a run: more than 8,192 words
+     13  too little memory is lent for the answer
      8   an event word: kind not 1 to 5, or a spare bit set
      9   the same word: no such process
      10  the same word: kind not allowed where the process is
-     11  the same word: argument not as listed
-   After 14, 1 to 5, 12 and 13 the count is 0 and the lent bytes are as given. Otherwise, also where a word stopped the run, the
-   image of the table after the words taken fills the first 20N lent bytes, and no others change. */
+     11  the same word: argument not as listed */
+
+/* ---- inputs: bytes that are words of 4 bytes, lowest byte first, an image and then event words */
+
+/* The run that an input holds. Answers 256 times the number of words taken, plus the refusal or 0. After 14, 1 to 5, 12 and
+   13 (image_len is below 20N) the count is 0 and the lent bytes are as given. Otherwise, also where a word stopped the run with
+   8 to 11, the image of the table after the words taken fills the first 20N lent bytes, and no others change. */
 uint64_t zaguypo_run(const uint8_t *input, size_t input_len, uint8_t *image, size_t image_len);
+
+/* The text that zaguypo-replay prints for an input. Answers its length, which is 1 to ZAGUYPO_TEXT_BYTES. Where text_len is at
+   least that, the text fills the first lent bytes, with no zero after it, and no others change; where text_len is less, every
+   lent byte is as given. */
+size_t zaguypo_print(const uint8_t *input, size_t input_len, char *text, size_t text_len);
 
 /* ---- tables of rows */
 
@@ -34,6 +61,18 @@ uint64_t zaguypo_run(const uint8_t *input, size_t input_len, uint8_t *image, siz
 struct zaguypo_row {
     uint16_t location, act, bb, level, est, lis, ahead, turn;
 };
+
+/* The lent rows become the fresh table of that many processes, everything 0 but the locations, which are 10. Answers 0; or 6
+   where there are not 2 to 16 rows, and no row changes. */
+uint16_t zaguypo_fresh(struct zaguypo_row *rows, size_t size);
+
+/* The answer of a step: the refusal or 0. Later versions may add fields. */
+struct zaguypo_stepped {
+    uint16_t refusal;
+};
+
+/* One step by one word. The refusal is 0 and the rows are moved; or it is 6, 7 or 8 to 11, and no row changes. */
+struct zaguypo_stepped zaguypo_step(struct zaguypo_row *rows, size_t size, uint32_t word);
 
 /* What went along with a run. */
 struct zaguypo_tally {
@@ -45,34 +84,60 @@ struct zaguypo_ran {
     uint32_t taken, refusal;
 };
 
-/* The answer of a step: the refusal or 0. Later versions may add fields. */
-struct zaguypo_stepped {
-    uint16_t refusal;
-};
-
-/* ---- liblent.a */
-
-/* One step by one word. The refusal is 0 and the rows are moved; or it is 6 where there are not 2 to 16 rows, 7 where a row is
-   unsound, 8 to 11 as above, and no row changes. */
-struct zaguypo_stepped zaguypo_step(struct zaguypo_row *rows, size_t size, uint32_t word);
-
-/* A run: the words in order, up to the first that is refused. Refusals 6, 7 and then 12 for more than 8,192 words take no word
-   and change no row. The tally, whatever it held, is that of this run: zero after 6, 7 and 12. */
+/* A run: the words in order, up to the first that is refused. Refusals 6, 7 and then 12 take no word and change no row. The
+   tally, whatever it held, is that of this run: zero after 6, 7 and 12. */
 struct zaguypo_ran zaguypo_run_rows(struct zaguypo_row *rows, size_t size, const uint32_t *words, size_t count,
                                     struct zaguypo_tally *tally);
 
-/* ---- libcensus.a */
-
-/* The figures of a table, for each k from 0 to its number of processes, 0 past that. Where the table is refused (6, 7) there
-   are no figures: all are 0. */
-struct zaguypo_census {
-    uint16_t refusal;  /* 0, 6 or 7 */
-    uint16_t critical; /* processes at 30 */
-    uint16_t waiting;  /* processes at 20 to 24 */
+/* The census: the figures of a table, for each k from 0 to its number of processes, 0 past that. Where the table is refused
+   there are no figures: all are 0. */
+struct zaguypo_figures {
+    uint16_t refusal;   /* 0, 6 or 7 */
+    uint16_t critical;  /* processes at 30 */
+    uint16_t waiting;   /* processes at 20 to 24 */
     uint16_t below[17]; /* at k: processes at 21 to 30 with a level under k */
     uint16_t held[17];  /* at k: those, and those at 21 to 30, but not at 24, with fewer than k members in ahead */
 };
 
-struct zaguypo_census zaguypo_census(const struct zaguypo_row *rows, size_t size);
+struct zaguypo_figures zaguypo_census(const struct zaguypo_row *rows, size_t size);
+
+/* ---- images: a table as 5N words */
+
+/* The answer to an image: the refusal or 0, the place of the word that it is about, and the number of processes. Place and size
+   are 0 where they say nothing: the place of an accepted image and of 13, the size of a refused one. */
+struct zaguypo_reading {
+    uint16_t refusal, place, size;
+};
+
+/* Reads an image. The first rows, as many as it has processes, become its table, and no others change; or the refusal is 1 to 5,
+   or 13 where fewer rows are lent, and no row changes. 16 lent rows are room for every image. */
+struct zaguypo_reading zaguypo_read(const uint32_t *words, size_t count, struct zaguypo_row *rows, size_t size);
+
+/* Writes the image of a table into the first 5N lent words, and no others. Answers 0; or 6, 7, or 13 where fewer words are
+   lent, and no word changes. */
+uint16_t zaguypo_write(const struct zaguypo_row *rows, size_t size, uint32_t *words, size_t count);
+
+/* ---- event words, without a table */
+
+/* The parts of a word; all 0 where it is refused. */
+struct zaguypo_parts {
+    uint16_t refusal, kind, process, argument;
+};
+
+/* Takes a word apart: its parts; or 8, then 9 for a process over 15. */
+struct zaguypo_parts zaguypo_apart(uint32_t word);
+
+/* A word; 0 where it is refused. */
+struct zaguypo_word {
+    uint32_t refusal, word;
+};
+
+/* Puts a word together: the word; or 8 for a kind outside 1 to 5, then 9 for a process over 15, then 11 for an argument over
+   255. */
+struct zaguypo_word zaguypo_together(uint32_t kind, uint32_t process, uint32_t argument);
+
+#ifdef __cplusplus
+}
+#endif
 
 #endif

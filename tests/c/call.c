@@ -1,6 +1,6 @@
 /* zaguypo_run from C: every refusal, the lengths of lent memory, guard bytes around it. Expected answers are written out by
    hand from document 01. */
-#include "zaguypo.h"
+#include "layout.h"
 #include "check.h"
 
 #include <stdlib.h>

@@ -1,6 +1,6 @@
 /* The lent forms from C: zaguypo_step and zaguypo_run_rows on tables of every size, beside a model that is
    written here from document 01 ("One step", "Ahead", "Runs", "Refusals") and shares nothing with the engine. */
-#include "zaguypo.h"
+#include "layout.h"
 
 #include <stdio.h>
 #include <stdlib.h>

@@ -1,6 +1,6 @@
-//! Links the libraries named in ZAGUYPO_LIB: one or more `.../libNAME.a`, separated by colons.
+//! Links the library named in ZAGUYPO_LIB, an absolute path of the form `.../libNAME.a`.
 
-use std::path::Path;
+use std::path::PathBuf;
 
 fn main() {
     println!("cargo:rerun-if-changed=build.rs");
@@ -8,14 +8,8 @@ fn main() {
     if std::env::var_os("CARGO_FEATURE_LINKED").is_none() {
         return;
     }
-    let libraries =
-        std::env::var("ZAGUYPO_LIB").expect("feature `linked`: set ZAGUYPO_LIB to the absolute path of libzaguypo.a");
-    for library in libraries.split(':') {
-        link(Path::new(library));
-    }
-}
-
-fn link(library: &Path) {
+    let library = std::env::var_os("ZAGUYPO_LIB").map(PathBuf::from);
+    let library = library.expect("feature `linked`: set ZAGUYPO_LIB to the absolute path of libzaguypo.a");
     let folder = library.parent().expect("a path with a folder");
     let stem = library.file_stem().and_then(|stem| stem.to_str()).expect("a file name");
     let name = stem.strip_prefix("lib").expect("a name of the form libNAME.a");

@@ -244,7 +244,7 @@ pub exampleInput : List ℕ
 unfolding freshTwo two threeWords bytesOf
 exampleInput = bytesOf (freshTwo ++ threeWords ++ (0x50000001 ∷ 0x40000000 ∷ 0x40000000 ∷ 0x40000000 ∷ []))
 
-pub exampleText : List ℕ
+unfoldable pub exampleText : List ℕ
 exampleText =
     -- posts 2
     112 ∷ 111 ∷ 115 ∷ 116 ∷ 115 ∷ 32 ∷ 50 ∷ 10 ∷

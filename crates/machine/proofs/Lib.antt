@@ -19,3 +19,5 @@ pub mod RunLaws
 pub mod InputLaws
 pub mod WordsAreSteps
 pub mod Benchmarks
+pub mod ExportExamples
+pub mod WholeText

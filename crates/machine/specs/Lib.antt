@@ -12,3 +12,4 @@ pub mod Bytes
 pub mod Inputs
 pub mod Calls
 pub mod Text
+pub mod Exports

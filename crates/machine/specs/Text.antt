@@ -5,15 +5,16 @@
 --   runLines t i ws ==  a line for each taken word, the first of which is word i, and the last line.
 --   textOf i        ==  the text for what an input holds.
 --   printed bs      ==  the same for the input bytes bs.
+--   isWhole s      <=>  a text ends in a line feed, and its last line begins as only the last line of a text does.
 --
 -- Assumes nothing.
 use Prim.Native.Nat.{ℕ, zero, suc, _+_, _/_, _%_}
-use mathlib.Core.Bool.{true, false}
+use mathlib.Core.Bool.{Bool, true, false, cond, _&&_}
 use mathlib.Core.List.{List, [], _∷_, _++_}
 use lib.Dec.{eqb, ltb}
 use lib.ListN.{length}
 use Rattle.machine.specs.Refusals.{accepted, tooManyWords, badBytes}
-use Rattle.machine.specs.Tables.{Table, row}
+use Rattle.machine.specs.Tables.{Table, row, oneOf}
 use Rattle.machine.specs.Words.{processOf}
 use Rattle.machine.specs.Steps.{refusalOf, afterWord}
 use Rattle.machine.specs.Census.{critical}
@@ -105,3 +106,18 @@ textOf (Ready t ws) = postsLine t ++ runLines t 0 ws
 unfoldable pub printed : List ℕ → List ℕ
 unfolding inputOf textOf
 printed bs = textOf (inputOf bs)
+
+-- ---- whether an output was cut
+
+-- the first letters of `done `, `stop `, `image ` and `input `
+abbrev pub beginsLast : ℕ → Bool
+beginsLast b = oneOf b (100 ∷ 115 ∷ 105 ∷ [])
+
+-- what is left of a text is read on; `start` says whether a line begins here, and `last` whether the line that is begun,
+-- or else the one that has just ended, begins as a last line
+unfoldable pub endsWhole : Bool → Bool → List ℕ → Bool
+endsWhole start last [] = start && last
+endsWhole start last (b ∷ s) = endsWhole (eqb b 10) (cond start (beginsLast b) last) s
+
+abbrev pub isWhole : List ℕ → Bool
+isWhole s = endsWhole true false s

@@ -203,6 +203,33 @@ pub struct StepAnswer {
     pub refusal: u16,
 }
 
+// The answer of taking a word apart to C: the refusal or 0, and the parts; these are 0 where the word
+// is refused.
+#[repr(C)]
+pub struct PartsAnswer {
+    pub refusal: u16,
+    pub kind: u16,
+    pub process: u16,
+    pub argument: u16,
+}
+
+// The answer of putting a word together to C: the refusal or 0, and the word, which is 0 where there
+// is none.
+#[repr(C)]
+pub struct WordAnswer {
+    pub refusal: u32,
+    pub word: u32,
+}
+
+// The answer of reading an image into lent rows to C: the refusal or 0, the place of the word that it
+// is about, and how many rows are the table; 0 where it is refused.
+#[repr(C)]
+pub struct ReadAnswer {
+    pub refusal: u16,
+    pub place: u16,
+    pub size: u16,
+}
+
 // The census, the counts of a table, for each k from 0 to N; what stands past N is 0. Where the table is
 // refused there are no figures: all are 0.
 #[repr(C)]

@@ -1,91 +1,88 @@
--- How far the printing of a run has come: what is printed, and what is still to be. Assumes nothing.
+-- How far a run has come that is printed or measured: what its words printed, and what is still to be. Assumes nothing.
 use mathlib.Core.Path.{_≡_, refl, sym, ap, _∙_}
 use mathlib.Core.Bool.{true, false}
 use mathlib.Core.List.{List, [], _++_, append-assoc}
-use Prim.Native.Nat.{ℕ, suc, _+_, _*_, _≤_, _<_}
+use Prim.Native.Nat.{ℕ, suc, _+_, _≤_, _<_}
 use native.Mathlib.Omega.{arith}
 use native.Mathlib.Numerals.{add-one}
 use lib.ListN.{length, getD, drop, length-append}
 use lib.Seq.{drop-cons, drop-length}
 use Rattle.machine.specs.Tables.{Table, tableRefusal}
 use Rattle.machine.specs.Steps.{afterWord}
-use Rattle.machine.specs.Runs.{limit}
 use Rattle.machine.specs.Text.{doneLine, runLines}
 use Rattle.machine.proofs.Soundness.{word-keeps-sound}
 use Rattle.text.specs.Appending.{Appended}
-use Rattle.text.specs.Running.{takes, lineOf, lineRoom}
-use Rattle.text.proofs.AppendingLaws.{appended-none, appended-as, appended-then}
-use Rattle.text.proofs.RunLaws.{lineOf-taken, runLines-taken, runLines-stopped, runLines-done, length-wordLine}
+use Rattle.text.specs.Running.{takes, lineOf}
+use Rattle.text.proofs.RunLaws.{runLines-taken, runLines-stopped, runLines-done}
+use Rattle.text.proofs.RoomLaws.{line-within}
 
--- i words of ws have been taken from table t, which is u now, and `text` is what they printed
-pub record Progress (d : List ℕ) (at : ℕ) (t : Table) (ws y : List ℕ) (u : Table) (e i : ℕ) : Type 0 where
-  pub text : List ℕ
-  pub appended : Appended d at text y e
-  pub goes-on : text ++ runLines u i (drop i ws) ≡ runLines t 0 ws
-  pub room : length text ≤ lineRoom * i
+-- i words of ws have been taken from table t, which is u now, and s is what they printed
+pub record Progress (t : Table) (ws : List ℕ) (u : Table) (i : ℕ) (s : List ℕ) : Type 0 where
+  pub goes-on : s ++ runLines u i (drop i ws) ≡ runLines t 0 ws
   pub sound : tableRefusal u ≡ 0
   pub within : i ≤ length ws
 
--- before the first word
-pub progress-none : (d : List ℕ) (at : ℕ) (t : Table) (ws : List ℕ) → tableRefusal t ≡ 0 → Progress d at t ws d t at 0
-progress-none d at t ws sound =
-    record {
-      text = [];
-      appended = appended-none d at;
-      goes-on = refl;
-      room = omega arith;
-      sound = sound;
-      within = omega arith;
-    }
+-- and this stands in a buffer that was d, from place `at` up to place e
+pub record Printed (d : List ℕ) (at : ℕ) (t : Table) (ws y : List ℕ) (u : Table) (e i : ℕ) : Type 0 where
+  pub text : List ℕ
+  pub progress : Progress t ws u i text
+  pub appended : Appended d at text y e
 
-module _ (d : List ℕ) (at : ℕ) (t : Table) (ws y : List ℕ) (u : Table) (e i : ℕ)
-    (p : Progress d at t ws y u e i) (inside : at ≤ length d) where
+-- and from place `at` on it would end at place e
+pub record Measured (at : ℕ) (t : Table) (ws : List ℕ) (u : Table) (e i : ℕ) : Type 0 where
+  pub text : List ℕ
+  pub progress : Progress t ws u i text
+  pub end-is : e ≡ at + length text
+
+-- before the first word
+pub progress-none : (t : Table) (ws : List ℕ) → tableRefusal t ≡ 0 → Progress t ws t 0 []
+progress-none t ws sound = record { goes-on = refl; sound = sound; within = omega arith }
+
+module _ {t : Table} {ws : List ℕ} {u : Table} {i : ℕ} {s : List ℕ} (p : Progress t ws u i s) where
   abbrev word : ℕ
   word = getD ws i 0
 
   -- a word that is taken
-  pub progress-taken : (z : List ℕ) (v : Table) (f : ℕ) → i < length ws → i < limit → takes u word ≡ true
-      → v ≡ afterWord u word → Appended y e (lineOf u i word) z f → Progress d at t ws z v f (i + 1)
-  progress-taken z v f more few taken next line =
-      let done = p .text in
-      let long = ap length (lineOf-taken u i word taken) in
+  pub progress-taken : {v : Table} → i < length ws → takes u word ≡ true → v ≡ afterWord u word
+      → Progress t ws v (i + 1) (s ++ lineOf u i word)
+  progress-taken {v} more taken next =
       record {
-        text = done ++ lineOf u i word;
-        appended = appended-then inside (p .appended) line;
         goes-on =
-            append-assoc done (lineOf u i word) (runLines v (i + 1) (drop (i + 1) ws))
-            ∙ ap (λ (k : ℕ). done ++ (lineOf u i word ++ runLines v k (drop k ws))) (add-one i)
-            ∙ ap (λ (a : Table). done ++ (lineOf u i word ++ runLines a (suc i) (drop (suc i) ws))) next
-            ∙ ap (λ (l : List ℕ). done ++ l) (sym (runLines-taken u i word (drop (suc i) ws) taken))
-            ∙ ap (λ (l : List ℕ). done ++ runLines u i l) (sym (drop-cons ws i 0 more))
+            append-assoc s (lineOf u i word) (runLines v (i + 1) (drop (i + 1) ws))
+            ∙ ap (λ (k : ℕ). s ++ (lineOf u i word ++ runLines v k (drop k ws))) (add-one i)
+            ∙ ap (λ (a : Table). s ++ (lineOf u i word ++ runLines a (suc i) (drop (suc i) ws))) next
+            ∙ ap (λ (l : List ℕ). s ++ l) (sym (runLines-taken u i word (drop (suc i) ws) taken))
+            ∙ ap (λ (l : List ℕ). s ++ runLines u i l) (sym (drop-cons ws i 0 more))
             ∙ p .goes-on;
-        room =
-            omega (
-              arith,
-              p .room,
-              length-append done (lineOf u i word),
-              length-wordLine u i word (p .sound) few taken,
-            );
         sound = ap tableRefusal next ∙ word-keeps-sound u word (p .sound);
         within = omega arith;
       }
 
   -- a word that is refused
-  pub progress-stopped : (z : List ℕ) (f : ℕ) → i < length ws → takes u word ≡ false
-      → Appended y e (lineOf u i word) z f → Appended d at (runLines t 0 ws) z f
-  progress-stopped z f more stopped line =
-      appended-as
-      (ap (λ (l : List ℕ). p .text ++ l) (sym (runLines-stopped u i word (drop (suc i) ws) stopped))
-      ∙ ap (λ (l : List ℕ). p .text ++ runLines u i l) (sym (drop-cons ws i 0 more))
-      ∙ p .goes-on)
-      (appended-then inside (p .appended) line)
+  pub progress-stopped : i < length ws → takes u word ≡ false → s ++ lineOf u i word ≡ runLines t 0 ws
+  progress-stopped more stopped =
+      ap (λ (l : List ℕ). s ++ l) (sym (runLines-stopped u i word (drop (suc i) ws) stopped))
+      ∙ ap (λ (l : List ℕ). s ++ runLines u i l) (sym (drop-cons ws i 0 more))
+      ∙ p .goes-on
 
   -- no word is left
-  pub progress-done : (z : List ℕ) (f : ℕ) → i ≡ length ws
-      → Appended y e (doneLine i) z f → Appended d at (runLines t 0 ws) z f
-  progress-done z f all line =
-      appended-as
-      (ap (λ (l : List ℕ). p .text ++ l) (sym (runLines-done u i))
-      ∙ ap (λ (l : List ℕ). p .text ++ runLines u i l) (sym (ap (λ (k : ℕ). drop k ws) all ∙ drop-length ws))
-      ∙ p .goes-on)
-      (appended-then inside (p .appended) line)
+  pub progress-done : i ≡ length ws → s ++ doneLine i ≡ runLines t 0 ws
+  progress-done all =
+      ap (λ (l : List ℕ). s ++ l) (sym (runLines-done u i))
+      ∙ ap (λ (l : List ℕ). s ++ runLines u i l) (sym (ap (λ (k : ℕ). drop k ws) all ∙ drop-length ws))
+      ∙ p .goes-on
+
+  -- there is room for the next line where there is room for all
+  pub progress-room : i < length ws → length s + length (lineOf u i word) ≤ length (runLines t 0 ws)
+  progress-room more =
+      omega (
+        arith,
+        ap length (p .goes-on),
+        length-append s (runLines u i (drop i ws)),
+        ap (λ (l : List ℕ). length (runLines u i l)) (drop-cons ws i 0 more),
+        line-within u i word (drop (suc i) ws),
+      )
+
+  -- and for the last one
+  pub progress-last : i ≡ length ws → length s + length (doneLine i) ≡ length (runLines t 0 ws)
+  progress-last all = sym (length-append s (doneLine i)) ∙ ap length (progress-done all)

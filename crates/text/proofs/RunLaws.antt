@@ -1,30 +1,19 @@
--- The text of a run, word by word: which line a word gives, and how long it is. Assumes nothing.
+-- The text of a run, word by word: which line a word gives, and what the step's answer says of it. Assumes nothing.
 use mathlib.Core.Path.{_≡_, refl, sym, ap, _∙_}
 use mathlib.Core.Bool.{Bool, true, false}
 use mathlib.Core.List.{List, [], _∷_, _++_}
-use Prim.Native.Nat.{ℕ, suc, _≤_, _<_}
-use native.Mathlib.Omega.{arith}
-use borrow.Author.Tests.{eqb-true, eq-eqb, ne-eqb, leb-true}
-use lib.Dec.{leb}
-use lib.ListN.{length}
-use Rattle.counting.proofs.CountLaws.{count-le}
+use Prim.Native.Nat.{ℕ, suc}
+use borrow.Author.Tests.{eq-eqb, ne-eqb}
 use Rattle.machine.specs.Refusals.{accepted}
-use Rattle.machine.specs.Tables.{Table, row, tableRefusal, locations}
+use Rattle.machine.specs.Tables.{Table, row}
 use Rattle.machine.specs.Words.{processOf}
 use Rattle.machine.specs.Steps.{refusalOf, afterWord, answerOf}
-use Rattle.machine.specs.Census.{critical, isCritical}
-use Rattle.machine.specs.Runs.{limit}
-use Rattle.machine.specs.Text.{stopText, line, wordLine, doneLine, stopLine, runLines}
+use Rattle.machine.specs.Census.{critical}
+use Rattle.machine.specs.Text.{line, wordLine, doneLine, stopLine, runLines}
 use Rattle.machine.specs.declared.Told.{Told}
 use Rattle.machine.specs.declared.Stepped.{Stepped}
-use Rattle.machine.proofs.OneOfLaws.{by-one}
-use Rattle.machine.proofs.SoundRows.{sound-row, sound-few}
 use Rattle.machine.proofs.AnswerLaws.{answer-moved, answer-refused}
-use Rattle.machine.proofs.Accepted.{accepted-says}
-use Rattle.machine.proofs.Soundness.{word-keeps-sound, word-keeps-length}
-use Rattle.text.specs.Running.{takes, lineOf, lineRoom}
-use Rattle.text.proofs.LineLaws.{length-line}
-use Rattle.text.proofs.LineLaws.Within.{last, then}
+use Rattle.text.specs.Running.{takes, lineOf}
 
 -- ---- the line of a word
 
@@ -77,38 +66,3 @@ module _ (t : Table) (w : ℕ) where
 
   pub refused-number : (n : ℕ) → answerOf t w ≡ Stepped.Refused n → refusalOf t w ≡ n
   refused-number n h = sym (answer-refused t w n h .1)
-
--- ---- room
-
--- a sound row's location has two digits
-location-low : (t : Table) (p : ℕ) → tableRefusal t ≡ 0 → p < length t → row t p .location < 100
-location-low t p sound h =
-    let l = row t p .location in
-    let low : (v : ℕ) → leb v 99 ≡ true → l ≡ v → l < 100 = λ v small e. omega (arith, leb-true v 99 small) in
-    by-one l locations
-    (low _ refl, (low _ refl, (low _ refl, (low _ refl, (low _ refl, (low _ refl, (low _ refl, (low _ refl, tt))))))))
-    (sound-row t sound p h .location-known)
-
--- the line of a taken word
-pub length-wordLine : (t : Table) (i w : ℕ) → tableRefusal t ≡ 0 → i < limit → takes t w ≡ true
-    → length (wordLine t i w) ≤ lineRoom
-length-wordLine t i w sound few e =
-    let p = processOf w in
-    let u = afterWord t w in
-    let says = accepted-says t w (eqb-true (refusalOf t w) 0 e) in
-    let same = word-keeps-length t w in
-    let before = location-low t p sound (says .process-in) in
-    let after = location-low u p (word-keeps-sound t w sound) (omega (arith, says .process-in)) in
-    let inside = count-le (λ q. isCritical (row u q)) (length u) in
-    let most = sound-few t sound in
-    length-line []
-    (then 3 (omega arith)
-    (then 1 (omega (arith, says .process-in))
-    (then 1 (omega arith)
-    (then 1 (omega arith)
-    (last 1 (omega arith))))))
-
--- the last line, with a number of 16 bits
-pub length-stopLine : (i n : ℕ) → i < limit → n < 65536 → length (stopLine i n) ≤ lineRoom
-length-stopLine i n few small =
-    let long = length-line stopText {ns = i ∷ n ∷ []} (then 3 (omega arith) (last 4 (omega arith))) in omega arith

@@ -1,12 +1,13 @@
 -- What the functions that print a run require and promise.
 --
---   lineOf t i w        ==   what is printed for word w, which is word i, at table t: its line, or the last line.
---   WordReady x d at i  <=>  the cells x hold a sound table, and the buffer d has room from `at` on for a line.
---   WordPrinted ..      <=>  the line of a word is in the buffer, and the cells are as the step leaves them.
---   RunReady x d at n   <=>  the cells x hold a sound table, and the buffer d has room from `at` on for n words.
+--   lineOf t i w          ==   what is printed for word w, which is word i, at table t: its line, or the last line.
+--   WordReady x d at i w  <=>  the cells x hold a sound table, and the buffer d has room from `at` on for that line.
+--   WordPrinted ..        <=>  the line of a word is in the buffer, and the cells are as the step leaves them.
+--   RunReady x d at ws    <=>  the cells x hold a sound table, and the buffer d has room from `at` on for its lines.
+--   LinesReady x at ws    <=>  the cells x hold a sound table, and its lines are to start at place `at`.
 --
 -- Assumes nothing.
-use Prim.Native.Nat.{ℕ, _+_, _*_, _≤_, _<_}
+use Prim.Native.Nat.{ℕ, _+_, _≤_}
 use mathlib.Core.Path.{_≡_}
 use mathlib.Core.Bool.{Bool, true, false}
 use mathlib.Core.List.{List}
@@ -16,7 +17,7 @@ use Rattle.machine.specs.Refusals.{accepted}
 use Rattle.machine.specs.Tables.{Table, tableRefusal}
 use Rattle.machine.specs.Steps.{refusalOf, afterWord}
 use Rattle.machine.specs.Runs.{limit}
-use Rattle.machine.specs.Text.{wordLine, stopLine}
+use Rattle.machine.specs.Text.{wordLine, stopLine, runLines}
 use Rattle.cells.specs.View.{rowsOf, Becomes}
 use Rattle.text.specs.Appending.{Appended}
 use Rattle.text.specs.declared.running.Line.{Line}
@@ -41,17 +42,19 @@ endOf (Stopped e) = e
 
 -- ---- contracts
 
--- the most bytes of a word's line, and of the last line
+-- the most bytes of a word's line, of the last line, and of all that stands before the lines of a run
 abbrev pub lineRoom : ℕ
 lineRoom = 17
 
 abbrev pub lastRoom : ℕ
 lastRoom = 13
 
-pub record WordReady (x : List (List ℕ)) (d : List ℕ) (at i : ℕ) : Type 0 where
+abbrev pub headRoom : ℕ
+headRoom = 22
+
+pub record WordReady (x : List (List ℕ)) (d : List ℕ) (at i w : ℕ) : Type 0 where
   pub sound : tableRefusal (rowsOf x) ≡ 0
-  pub room : at + lineRoom ≤ length d
-  pub few : i < limit
+  pub room : at + length (lineOf (rowsOf x) i w) ≤ length d
 
 pub record WordPrinted (x : List (List ℕ)) (d : List ℕ) (at i w : ℕ)
     (y : List (List ℕ)) (e : List ℕ) (r : Line) : Type 0 where
@@ -59,7 +62,12 @@ pub record WordPrinted (x : List (List ℕ)) (d : List ℕ) (at i w : ℕ)
   pub taken-is : goesOn r ≡ takes (rowsOf x) w
   pub appended : Appended d at (lineOf (rowsOf x) i w) e (endOf r)
 
-pub record RunReady (x : List (List ℕ)) (d : List ℕ) (at n : ℕ) : Type 0 where
+pub record RunReady (x : List (List ℕ)) (d : List ℕ) (at : ℕ) (ws : List ℕ) : Type 0 where
   pub sound : tableRefusal (rowsOf x) ≡ 0
-  pub room : at + lineRoom * n + lastRoom ≤ length d
-  pub few : n ≤ limit
+  pub room : at + length (runLines (rowsOf x) 0 ws) ≤ length d
+  pub few : length ws ≤ limit
+
+pub record LinesReady (x : List (List ℕ)) (at : ℕ) (ws : List ℕ) : Type 0 where
+  pub sound : tableRefusal (rowsOf x) ≡ 0
+  pub few : length ws ≤ limit
+  pub start : at ≤ headRoom

@@ -41,8 +41,14 @@ fn count_critical(cells: &[[u16; 8]]) -> u32
 
 // The step of a word, which is the word at `place`, and its line; or the last line where the word
 // is refused.
-fn put_word(out: &mut [u8], at: usize, cells: &mut [[u16; 8]], place: u32, word: u32) -> Line
-    requires { ⌜ WordReady (now cells) (now out) at place ⌝ }
+pub(crate) fn put_word(
+    out: &mut [u8],
+    at: usize,
+    cells: &mut [[u16; 8]],
+    place: u32,
+    word: u32,
+) -> Line
+    requires { ⌜ WordReady (now cells) (now out) at place word ⌝ }
     ensures { λ r. ⌜
         WordPrinted (now (cells .entry)) (now (out .entry)) at place word (now (cells .exit)) (now (out .exit)) r
         ⌝ }
@@ -63,7 +69,7 @@ fn put_word(out: &mut [u8], at: usize, cells: &mut [[u16; 8]], place: u32, word:
 
 // A line for each word up to the first that is refused, and the last line.
 pub(crate) fn put_run(out: &mut [u8], at: usize, cells: &mut [[u16; 8]], words: &[u32]) -> usize
-    requires { ⌜ RunReady (now cells) (now out) at (length (now words)) ⌝ }
+    requires { ⌜ RunReady (now cells) (now out) at (now words) ⌝ }
     ensures { λ r. ⌜
         Appended (now (out .entry)) at (runLines (rowsOf (now (cells .entry))) 0 (now (words .entry)))
         (now (out .exit)) r

@@ -21,11 +21,29 @@ pub(crate) fn header(word: u32) -> Option<usize> {
     (FEWEST..=MOST).contains(&n).then_some(n)
 }
 
-/// The table of an image, or the refusal and the place of the word that met it.
-pub fn read_image(words: &[u32]) -> Result<Table, (u16, usize)> {
-    read(words.iter().copied())
+/// The answer to an image: the refusal and the place that it is about, or the number of processes; 0 what says nothing.
+#[repr(C)]
+#[derive(Clone, Copy, Debug, Default, PartialEq, Eq)]
+pub struct Reading {
+    pub refusal: u16,
+    pub place: u16,
+    pub size: u16,
 }
 
+/// Reads an image into the first lent rows and touches no other: 1 to 5, then 13.
+pub fn read_into(words: &[u32], lent: &mut [Row]) -> Reading {
+    let table = match read(words.iter().copied()) {
+        Ok(table) => table,
+        Err((refusal, place)) => return Reading { refusal, place: place as u16, size: 0 },
+    };
+    let Some(lent) = lent.get_mut(..table.len()) else {
+        return Reading { refusal: refusal::LENT_TOO_FEW, place: 0, size: 0 };
+    };
+    lent.copy_from_slice(&table);
+    Reading { refusal: refusal::NONE, place: 0, size: table.len() as u16 }
+}
+
+/// The table of an image, or the refusal and the place of the word that met it.
 pub(crate) fn read(mut words: impl ExactSizeIterator<Item = u32>) -> Result<Table, (u16, usize)> {
     let count = words.len();
     let n = words.next().and_then(header).ok_or((refusal::NO_HEADER, 0))?;

@@ -17,12 +17,12 @@ pub mod generate;
 
 pub use bytes::c_call;
 pub use census::{census, Census};
-pub use image::{read_image, write_image};
-pub use row::{check, fresh, Row, Table};
+pub use image::{read_into, write_image, Reading};
+pub use row::{check, fresh_in, Row, Table};
 pub use run::{run, Ran, Tally};
 pub use step::{step, Event, StepAnswer};
-pub use text::text;
-pub use word::{put_together, take_apart};
+pub use text::{print_into, text};
+pub use word::{put_together, take_apart, PartsAnswer, WordAnswer};
 
 /// The refusals of document 01 by number; 0 is none.
 pub mod refusal {

@@ -118,7 +118,7 @@ pub(crate) fn at_30(rows: &[Row]) -> u16 {
     rows.iter().filter(|row| row.loc == 30).count() as u16
 }
 
-/// A table of its own, as a fresh table or an image gives it; it reads as a slice of its rows.
+/// A table of its own, as an image gives it; it reads as a slice of its rows.
 #[derive(Clone, Copy, Debug)]
 pub struct Table {
     rows: [Row; MOST],
@@ -148,11 +148,11 @@ impl DerefMut for Table {
     }
 }
 
-/// The fresh table of n processes, or 6.
-pub fn fresh(n: usize) -> Result<Table, u16> {
-    if (FEWEST..=MOST).contains(&n) {
-        Ok(Table::idle(n))
-    } else {
-        Err(refusal::ROW_COUNT)
+/// Makes the lent rows the fresh table of that many processes, or answers 6 and changes none.
+pub fn fresh_in(rows: &mut [Row]) -> u16 {
+    if !(FEWEST..=MOST).contains(&rows.len()) {
+        return refusal::ROW_COUNT;
     }
+    rows.fill(Row::IDLE);
+    refusal::NONE
 }

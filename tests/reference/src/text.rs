@@ -5,9 +5,22 @@ use crate::refusal;
 use crate::row::at_30;
 use crate::run::{take_all, Ran, MOST_WORDS};
 
+/// Room for every text.
+pub const MOST_TEXT: usize = 139_300;
+
+/// Prints into the first lent bytes and touches no other, or none where the text does not fit. Answers the text's length.
+pub fn print_into(input: &[u8], lent: &mut [u8]) -> usize {
+    let text = text(input);
+    if let Some(lent) = lent.get_mut(..text.len()) {
+        lent.copy_from_slice(&text);
+    }
+    text.len()
+}
+
 /// What the printing program writes for an input.
 pub fn text(input: &[u8]) -> Vec<u8> {
-    let mut out = Vec::new();
+    // a word of 4 bytes has a line of at most 17
+    let mut out = Vec::with_capacity(MOST_TEXT.min(17 * (input.len() / 4) + 36));
     match read_input(input) {
         Ok(input) => print_run(&mut out, input),
         Err(Bad::Bytes) => line(&mut out, b"input ", &[refusal::INPUT_BYTES.into()]),
@@ -36,28 +49,30 @@ fn print_run(out: &mut Vec<u8>, input: Input) {
     }
 }
 
-/// A line: what it begins with, then numbers with single spaces between them.
+/// A line: what it begins with, then numbers with single spaces between them. The numbers are made from the last digit back.
 fn line(out: &mut Vec<u8>, begin: &[u8], numbers: &[u32]) {
-    out.extend_from_slice(begin);
-    for (i, &number) in numbers.iter().enumerate() {
+    let mut made = [b'\n'; 64];
+    let mut from = made.len() - 1;
+    for (i, &number) in numbers.iter().enumerate().rev() {
+        from = decimal(&mut made, from, number);
         if i > 0 {
-            out.push(b' ');
+            from -= 1;
+            made[from] = b' ';
         }
-        decimal(out, number);
     }
-    out.push(b'\n');
+    out.extend_from_slice(begin);
+    out.extend_from_slice(&made[from..]);
 }
 
-fn decimal(out: &mut Vec<u8>, mut number: u32) {
-    let mut digits = [0; 10];
-    let mut from = digits.len();
+/// Puts the digits of a number before place `from`, and answers where they begin.
+#[inline]
+fn decimal(made: &mut [u8; 64], mut from: usize, mut number: u32) -> usize {
     loop {
         from -= 1;
-        digits[from] = b'0' + (number % 10) as u8;
+        made[from] = b'0' + (number % 10) as u8;
         number /= 10;
         if number == 0 {
-            break;
+            return from;
         }
     }
-    out.extend_from_slice(&digits[from..]);
 }

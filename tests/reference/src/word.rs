@@ -34,24 +34,49 @@ pub(crate) fn join(kind: u32, process: u32, argument: u32) -> u32 {
     kind << 28 | process << 16 | argument
 }
 
+/// The answer to a word that is taken apart, as the exported function gives it: the parts are 0 where it is refused.
+#[repr(C)]
+#[derive(Clone, Copy, Debug, Default, PartialEq, Eq)]
+pub struct PartsAnswer {
+    pub refusal: u16,
+    pub kind: u16,
+    pub process: u16,
+    pub argument: u16,
+}
+
+/// The answer to parts that are put together, as the exported function gives it: the word is 0 where they are refused.
+#[repr(C)]
+#[derive(Clone, Copy, Debug, Default, PartialEq, Eq)]
+pub struct WordAnswer {
+    pub refusal: u32,
+    pub word: u32,
+}
+
 /// Takes a word apart without a table: 8, then 9 for a process over 15.
-pub fn take_apart(word: u32) -> Result<Parts, u16> {
-    let parts = split(word)?;
-    if parts.process as usize >= MOST {
-        return Err(refusal::NO_PROCESS);
+pub fn take_apart(word: u32) -> PartsAnswer {
+    let refused = |refusal| PartsAnswer { refusal, ..PartsAnswer::default() };
+    match split(word) {
+        Err(refusal) => refused(refusal),
+        Ok(parts) if parts.process as usize >= MOST => refused(refusal::NO_PROCESS),
+        Ok(Parts { kind, process, argument }) => PartsAnswer {
+            refusal: refusal::NONE,
+            kind: kind as u16,
+            process: process as u16,
+            argument: argument as u16,
+        },
     }
-    Ok(parts)
 }
 
 /// Puts a word together: 8 for the kind, then 9 for a process over 15, then 11 for an argument over 255.
-pub fn put_together(kind: u32, process: u32, argument: u32) -> Result<u32, u16> {
+pub fn put_together(kind: u32, process: u32, argument: u32) -> WordAnswer {
+    let refused = |refusal: u16| WordAnswer { refusal: refusal.into(), word: 0 };
     if !(STAY..=LOOK).contains(&kind) {
-        Err(refusal::WORD_FORM)
+        refused(refusal::WORD_FORM)
     } else if process as usize >= MOST {
-        Err(refusal::NO_PROCESS)
+        refused(refusal::NO_PROCESS)
     } else if argument > 0xFF {
-        Err(refusal::ARGUMENT)
+        refused(refusal::ARGUMENT)
     } else {
-        Ok(join(kind, process, argument))
+        WordAnswer { refusal: 0, word: join(kind, process, argument) }
     }
 }

@@ -1,55 +1,49 @@
--- `replay::main`: what is written is within the buffer. No contract can say what a program reads or writes. Assumes
--- nothing.
-use mathlib.Core.Path.{sym, _∙_}
+-- `main`: what is handed on of the input is within its buffer. No contract can say what a program reads or writes.
+-- Assumes nothing.
+use native.Mathlib.Omega.{arith}
+use mathlib.Core.Path.{sym, ap}
 use Prim.Native.Nat.{_≤_}
 use lib.ListN.{length}
 use lib.Seq.{length-take-le}
-use Rattle.text.proofs.PrintLaws.{bytes-within}
+use Rattle.replay.specs.Streams.{countIn}
 use borrow.Author.Needs.{needs}
 use Rattle.replay.proofs.main.Statement.{statement}
 use Rattle.replay.proofs.main.Tie as tie
 
-slice-aggregate-read-full : tie.Need-slice-aggregate-read-full
-slice-aggregate-read-full c = search needs
+slice-aggregate-read-all : tie.Need-slice-aggregate-read-all
+slice-aggregate-read-all c = search needs
 
-read-full-requires : tie.Need-read-full-requires
-read-full-requires c κs = search needs
+read-all-requires : tie.Need-read-all-requires
+read-all-requires c κs = search needs
+
+enum-known-count : tie.Need-enum-known-count
+enum-known-count c = search needs
+
+-- what was read is within the buffer
+within : (c : tie.After-count) → c .count .given .0 .0 ≤ length (c .before .before .before .read-all .last .1 .0)
+within c =
+    let read = c .before .before .before .read-all in
+    omega (arith, ap countIn (c .count .given .1), read .ensures)
 
 array-share-prefix-input : tie.Need-array-share-prefix-input
-array-share-prefix-input c = search needs
+array-share-prefix-input c = within (c .before)
 
-slice-aggregate-print-run : tie.Need-slice-aggregate-print-run
-slice-aggregate-print-run c = search needs
+slice-aggregate-print : tie.Need-slice-aggregate-print
+slice-aggregate-print c =
+    let k = c .before .before in
+    sym (length-take-le (k .count .given .0 .0) (k .before .before .before .read-all .last .1 .0) (within k))
 
-slice-aggregate-print-run-2 : tie.Need-slice-aggregate-print-run-2
-slice-aggregate-print-run-2 c = search needs
-
-print-run-requires : tie.Need-print-run-requires
-print-run-requires c κs = search needs
-
-enum-known-length : tie.Need-enum-known-length
-enum-known-length c = search needs
-
--- the text is within the buffer
-within : (c : tie.After-length) → c .length .given .0 .0 ≤ length (c .before .before .before .print-run .last .1 .0)
-within c =
-    let print = c .before .before .before .print-run in
-    let told = c .length .given in
-    bytes-within _ _ (print .last .1 .0) (told .0 .0) (sym (told .1) ∙ print .ensures .0) (print .ensures .1)
-
-array-share-prefix-out : tie.Need-array-share-prefix-out
-array-share-prefix-out c = within (c .before)
-
-slice-aggregate-write-all : tie.Need-slice-aggregate-write-all
-slice-aggregate-write-all c =
-    let l = c .before .before in
-    sym (length-take-le (l .length .given .0 .0) (l .before .before .before .print-run .last .1 .0) (within l))
-
-write-all-requires : tie.Need-write-all-requires
-write-all-requires c κs = search needs
+print-requires : tie.Need-print-requires
+print-requires c κs = search needs
 
 enum-told : tie.Need-enum-told
 enum-told c = search needs
+
+slice-aggregate-write-all : tie.Need-slice-aggregate-write-all
+slice-aggregate-write-all c = search needs
+
+write-all-requires : tie.Need-write-all-requires
+write-all-requires c κs = search needs
 
 returns : tie.Need-returns
 returns c = search needs
@@ -61,16 +55,14 @@ pub main-spec : {M : Type 1} → statement M
 main-spec =
     tie.close
     (tie.spec
-    slice-aggregate-read-full
-    read-full-requires
+    slice-aggregate-read-all
+    read-all-requires
+    enum-known-count
     array-share-prefix-input
-    slice-aggregate-print-run
-    slice-aggregate-print-run-2
-    print-run-requires
-    enum-known-length
-    array-share-prefix-out
+    slice-aggregate-print
+    print-requires
+    enum-told
     slice-aggregate-write-all
     write-all-requires
-    enum-told
     returns
     returns-2)

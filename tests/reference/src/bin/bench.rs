@@ -3,9 +3,10 @@
 //!
 //!     bench [REPETITIONS]        (ZAGUYPO_REPLAY names the printing program; the `replay` beside this program is its peer)
 
-use reference::compare::{Engine, Kind, Reference};
+use reference::compare::{Engine, Reference};
 use reference::generate::inputs::{image_of, to_bytes};
 use reference::generate::schedule::deep_run;
+use reference::text::MOST_TEXT;
 use reference::{Row, Tally};
 use std::hint::black_box;
 use std::path::Path;
@@ -54,19 +55,12 @@ fn main() {
     let repetitions = std::env::args().nth(1).map_or(301, |text| text.parse().expect("a number"));
     println!("{:<44}{:>12}{:>12}{:>9}", "nanoseconds", "linked", "reference", "ratio");
     let linked = linked();
-    for n in SIZES {
-        call(&linked, n, repetitions);
-    }
-    for n in SIZES {
-        images(&linked, n, repetitions);
-    }
-    if linked.offers(Kind::Step) {
-        SIZES.into_iter().for_each(|n| steps(&linked, n, repetitions));
-        SIZES.into_iter().for_each(|n| runs(&linked, n, repetitions));
-    }
-    if linked.offers(Kind::Census) {
-        SIZES.into_iter().for_each(|n| census(&linked, n, repetitions));
-    }
+    SIZES.into_iter().for_each(|n| call(&linked, n, repetitions));
+    SIZES.into_iter().for_each(|n| images(&linked, n, repetitions));
+    SIZES.into_iter().for_each(|n| steps(&linked, n, repetitions));
+    SIZES.into_iter().for_each(|n| runs(&linked, n, repetitions));
+    SIZES.into_iter().for_each(|n| census(&linked, n, repetitions));
+    SIZES.into_iter().for_each(|n| prints(&linked, n, repetitions));
     if let Ok(program) = std::env::var("ZAGUYPO_REPLAY") {
         texts(&program, repetitions.min(101));
     }
@@ -135,6 +129,17 @@ fn census(linked: &impl Engine, n: usize, repetitions: usize) {
     reference::run(&mut rows, &words, &mut Tally::default());
     let (mut ours, mut theirs) = (|| many(linked, &rows), || many(&Reference, &rows));
     measure(&format!("census, N = {n}, a call"), repetitions, 1000, &mut ours, &mut theirs);
+}
+
+/// The printed run of a deep run into lent bytes with room for every text, a word.
+fn prints(linked: &impl Engine, n: usize, repetitions: usize) {
+    fn whole(engine: &impl Engine, input: &[u8], text: &mut [u8]) {
+        black_box(engine.print(black_box(input), black_box(text)));
+    }
+    let input = input(n, WORDS);
+    let (mut a, mut b) = (vec![0; MOST_TEXT], vec![0; MOST_TEXT]);
+    let (mut ours, mut theirs) = (|| whole(linked, &input, &mut a), || whole(&Reference, &input, &mut b));
+    measure(&format!("printed run, N = {n}, a word"), repetitions, WORDS, &mut ours, &mut theirs);
 }
 
 /// The printing programs, a process each, on a deep run: a word, with the start of the process in it.

@@ -2,8 +2,9 @@
 //!
 //!     compare [--seed S] [--calls C] [--seconds T] [--case I] [--replay PATH]
 //!
-//! C calls from C (210,000 by default) or T seconds; `--case I` shows one case of a seed. On a difference it prints the case,
-//! made small, and both answers, and exits with 1; if some refusal or location was never met it exits with 2.
+//! C runs on bytes (210,000 by default) with the other kinds in proportion, or T seconds; `--case I` shows one case of a seed. On
+//! a difference it prints the case, made small, and both answers, and exits with 1; if some refusal or location was never met it
+//! exits with 2.
 
 use reference::compare::{make_case, shrink, Case, Counts, Engine, Kind, Reference};
 use reference::generate::Random;
@@ -52,16 +53,21 @@ fn other(_: Option<String>) -> impl Engine {
     reference::compare::Naive(reference::naive::Fault::None)
 }
 
-/// The kind of a case by its number: 16 of 24 are calls from C, the printing program has one in 96.
+/// The kind of a case by its number: 16 of 30 are runs on bytes, each other exported function has one to three of 30, and the
+/// printing program, which is a process each time, one of 120.
 fn kind_of(number: u64) -> Kind {
-    match number % 24 {
+    match number % 30 {
         0..=15 => Kind::Call,
-        16 if number % 96 == 16 => Kind::Text,
+        16 if number % 120 == 16 => Kind::Text,
         16..=18 => Kind::Step,
         19 | 20 => Kind::Run,
         21 => Kind::Census,
-        _ => [Kind::Fresh, Kind::TakeApart, Kind::PutTogether, Kind::ReadImage, Kind::WriteImage]
-            [(number / 24 % 5) as usize],
+        22 | 23 => Kind::Print,
+        24 | 25 => Kind::ReadImage,
+        26 => Kind::WriteImage,
+        27 => Kind::Fresh,
+        28 => Kind::TakeApart,
+        _ => Kind::PutTogether,
     }
 }
 

@@ -21,17 +21,17 @@ impl Counts {
         self.refusals[kind][answer.refusal() as usize] += 1;
         match (case, answer.refusal()) {
             (_, 1..=7 | 12..) => {}
-            (Case::Call { input, .. }, _) => {
-                let Ok(mut parsed) = read_input(&input.bytes) else { return };
-                self.walk(&mut parsed.table, words(parsed.events));
-            }
-            (Case::Text { bytes }, _) => {
-                let Ok(mut parsed) = read_input(bytes) else { return };
-                self.walk(&mut parsed.table, words(parsed.events));
-            }
+            (Case::Call { input, .. } | Case::Print { input, .. }, _) => self.walk_input(&input.bytes),
+            (Case::Text { bytes }, _) => self.walk_input(bytes),
             (Case::Run { rows, words, .. }, _) => self.walk(&mut rows.clone(), words.iter().copied()),
             (Case::Step { rows, word }, _) => self.walk(&mut rows.clone(), [*word].into_iter()),
             _ => {}
+        }
+    }
+
+    fn walk_input(&mut self, bytes: &[u8]) {
+        if let Ok(mut input) = read_input(bytes) {
+            self.walk(&mut input.table, words(input.events));
         }
     }
 
@@ -47,7 +47,7 @@ impl Counts {
     /// The refusals that calls of a kind can meet.
     fn possible(kind: Kind) -> &'static [usize] {
         match kind {
-            Kind::Call => &[0, 1, 2, 3, 4, 5, 8, 9, 10, 11, 12, 13, 14],
+            Kind::Call | Kind::Print => &[0, 1, 2, 3, 4, 5, 8, 9, 10, 11, 12, 13, 14],
             Kind::Text => &[0, 1, 2, 3, 4, 5, 8, 9, 10, 11, 12, 14],
             Kind::Step => &[0, 6, 7, 8, 9, 10, 11],
             Kind::Run => &[0, 6, 7, 8, 9, 10, 11, 12],
@@ -55,7 +55,7 @@ impl Counts {
             Kind::Fresh => &[0, 6],
             Kind::TakeApart => &[0, 8, 9],
             Kind::PutTogether => &[0, 8, 9, 11],
-            Kind::ReadImage => &[0, 1, 2, 3, 4, 5],
+            Kind::ReadImage => &[0, 1, 2, 3, 4, 5, 13],
             Kind::WriteImage => &[0, 6, 7, 13],
         }
     }

@@ -2,23 +2,24 @@
 
 use super::Kind;
 use crate::naive::{self, Fault};
-use crate::word::Parts;
-use crate::{Census, Ran, Row, Tally};
+use crate::{Census, PartsAnswer, Ran, Reading, Row, Tally, WordAnswer};
 
-/// Every callable function of document 01. An engine that lacks a kind of call says so in `offers` and is not asked for it.
+/// Every function of include/zaguypo.h, and the printing program as `text`. An engine that lacks a kind of call says so in
+/// `offers` and is not asked for it.
 pub trait Engine {
     fn name(&self) -> &str;
     fn offers(&self, kind: Kind) -> bool;
     fn call(&self, input: &[u8], image: &mut [u8]) -> u64;
     fn text(&self, input: &[u8]) -> Vec<u8>;
+    fn print(&self, input: &[u8], text: &mut [u8]) -> usize;
     fn step(&self, rows: &mut [Row], word: u32) -> u16;
     fn run(&self, rows: &mut [Row], words: &[u32], tally: &mut Tally) -> Ran;
     fn census(&self, rows: &[Row]) -> Census;
-    fn fresh(&self, n: usize) -> Result<Vec<Row>, u16>;
-    fn take_apart(&self, word: u32) -> Result<Parts, u16>;
-    fn put_together(&self, kind: u32, process: u32, argument: u32) -> Result<u32, u16>;
-    fn read_image(&self, words: &[u32]) -> Result<Vec<Row>, (u16, usize)>;
-    fn write_image(&self, rows: &[Row], lent: &mut [u32]) -> u16;
+    fn fresh(&self, rows: &mut [Row]) -> u16;
+    fn take_apart(&self, word: u32) -> PartsAnswer;
+    fn put_together(&self, kind: u32, process: u32, argument: u32) -> WordAnswer;
+    fn read_image(&self, words: &[u32], rows: &mut [Row]) -> Reading;
+    fn write_image(&self, rows: &[Row], words: &mut [u32]) -> u16;
 }
 
 /// The fast engine of this package.
@@ -37,6 +38,9 @@ impl Engine for Reference {
     fn text(&self, input: &[u8]) -> Vec<u8> {
         crate::text(input)
     }
+    fn print(&self, input: &[u8], text: &mut [u8]) -> usize {
+        crate::print_into(input, text)
+    }
     fn step(&self, rows: &mut [Row], word: u32) -> u16 {
         crate::step(rows, word).err().unwrap_or(0)
     }
@@ -46,20 +50,20 @@ impl Engine for Reference {
     fn census(&self, rows: &[Row]) -> Census {
         crate::census(rows)
     }
-    fn fresh(&self, n: usize) -> Result<Vec<Row>, u16> {
-        crate::fresh(n).map(|table| table.to_vec())
+    fn fresh(&self, rows: &mut [Row]) -> u16 {
+        crate::fresh_in(rows)
     }
-    fn take_apart(&self, word: u32) -> Result<Parts, u16> {
+    fn take_apart(&self, word: u32) -> PartsAnswer {
         crate::take_apart(word)
     }
-    fn put_together(&self, kind: u32, process: u32, argument: u32) -> Result<u32, u16> {
+    fn put_together(&self, kind: u32, process: u32, argument: u32) -> WordAnswer {
         crate::put_together(kind, process, argument)
     }
-    fn read_image(&self, words: &[u32]) -> Result<Vec<Row>, (u16, usize)> {
-        crate::read_image(words).map(|table| table.to_vec())
+    fn read_image(&self, words: &[u32], rows: &mut [Row]) -> Reading {
+        crate::read_into(words, rows)
     }
-    fn write_image(&self, rows: &[Row], lent: &mut [u32]) -> u16 {
-        crate::write_image(rows, lent)
+    fn write_image(&self, rows: &[Row], words: &mut [u32]) -> u16 {
+        crate::write_image(rows, words)
     }
 }
 
@@ -79,6 +83,9 @@ impl Engine for Naive {
     fn text(&self, input: &[u8]) -> Vec<u8> {
         naive::text(input, self.0).into_bytes()
     }
+    fn print(&self, input: &[u8], text: &mut [u8]) -> usize {
+        naive::print(input, text, self.0)
+    }
     fn step(&self, rows: &mut [Row], word: u32) -> u16 {
         naive::step(rows, word, self.0)
     }
@@ -88,19 +95,19 @@ impl Engine for Naive {
     fn census(&self, rows: &[Row]) -> Census {
         naive::census(rows, self.0)
     }
-    fn fresh(&self, n: usize) -> Result<Vec<Row>, u16> {
-        naive::fresh(n)
+    fn fresh(&self, rows: &mut [Row]) -> u16 {
+        naive::fresh(rows, self.0)
     }
-    fn take_apart(&self, word: u32) -> Result<Parts, u16> {
-        naive::take_apart(word)
+    fn take_apart(&self, word: u32) -> PartsAnswer {
+        naive::take_apart(word, self.0)
     }
-    fn put_together(&self, kind: u32, process: u32, argument: u32) -> Result<u32, u16> {
-        naive::put_together(kind, process, argument)
+    fn put_together(&self, kind: u32, process: u32, argument: u32) -> WordAnswer {
+        naive::put_together(kind, process, argument, self.0)
     }
-    fn read_image(&self, words: &[u32]) -> Result<Vec<Row>, (u16, usize)> {
-        naive::read_image(words, self.0)
+    fn read_image(&self, words: &[u32], rows: &mut [Row]) -> Reading {
+        naive::read_image(words, rows, self.0)
     }
-    fn write_image(&self, rows: &[Row], lent: &mut [u32]) -> u16 {
-        naive::write_image(rows, lent, self.0)
+    fn write_image(&self, rows: &[Row], words: &mut [u32]) -> u16 {
+        naive::write_image(rows, words, self.0)
     }
 }

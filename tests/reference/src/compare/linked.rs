@@ -1,31 +1,33 @@
 //! The linked library behind the common face. Everything that depends on its names and types is in the one block below.
 
 use super::{Engine, Kind};
-use crate::word::Parts;
-use crate::{Census, Ran, Row, Tally};
+use crate::{Census, PartsAnswer, Ran, Reading, Row, Tally, WordAnswer};
 use std::io::{Read, Write};
 use std::path::PathBuf;
 use std::process::{Command, Stdio};
 
-/// THE EXPORTED NAMES. Row, StepAnswer, Tally, Ran and Census are `repr(C)` in row.rs, step.rs, run.rs and census.rs.
+/// THE EXPORTED NAMES, as include/zaguypo.h declares them. The records are `repr(C)` in row.rs, step.rs, run.rs, census.rs,
+/// image.rs and word.rs.
 mod exported {
-    use crate::{Census, Ran, Row, StepAnswer, Tally};
+    use crate::{Census, PartsAnswer, Ran, Reading, Row, StepAnswer, Tally, WordAnswer};
+    use std::ffi::c_char;
 
     extern "C" {
         pub fn zaguypo_run(input: *const u8, input_len: usize, image: *mut u8, image_len: usize) -> u64;
+        pub fn zaguypo_print(input: *const u8, input_len: usize, text: *mut c_char, text_len: usize) -> usize;
 
-        #[cfg(feature = "linked-rows")]
-        pub fn zaguypo_step(rows: *mut Row, n: usize, word: u32) -> StepAnswer;
-        #[cfg(feature = "linked-rows")]
-        pub fn zaguypo_run_rows(rows: *mut Row, n: usize, words: *const u32, count: usize, tally: *mut Tally) -> Ran;
+        pub fn zaguypo_fresh(rows: *mut Row, size: usize) -> u16;
+        pub fn zaguypo_step(rows: *mut Row, size: usize, word: u32) -> StepAnswer;
+        pub fn zaguypo_run_rows(rows: *mut Row, size: usize, words: *const u32, count: usize, tally: *mut Tally)
+            -> Ran;
+        pub fn zaguypo_census(rows: *const Row, size: usize) -> Census;
 
-        #[cfg(feature = "linked-census")]
-        pub fn zaguypo_census(rows: *const Row, n: usize) -> Census;
+        pub fn zaguypo_read(words: *const u32, count: usize, rows: *mut Row, size: usize) -> Reading;
+        pub fn zaguypo_write(rows: *const Row, size: usize, words: *mut u32, count: usize) -> u16;
+
+        pub fn zaguypo_apart(word: u32) -> PartsAnswer;
+        pub fn zaguypo_together(kind: u32, process: u32, argument: u32) -> WordAnswer;
     }
-
-    // keeps the imports used whatever the features
-    #[allow(dead_code)]
-    type Crossing = (Row, StepAnswer, Tally, Ran, Census);
 }
 
 /// The library, and the printing program if its path is given.
@@ -33,42 +35,18 @@ pub struct Linked {
     pub replay: Option<PathBuf>,
 }
 
+// SAFETY of every call: the pointers come from slices of the lengths given with them, or from a reference.
 impl Engine for Linked {
     fn name(&self) -> &str {
         "linked"
     }
 
     fn offers(&self, kind: Kind) -> bool {
-        match kind {
-            Kind::Call => true,
-            Kind::Text => self.replay.is_some(),
-            Kind::Step | Kind::Run => cfg!(feature = "linked-rows"),
-            Kind::Census => cfg!(feature = "linked-census"),
-            _ => false,
-        }
+        kind != Kind::Text || self.replay.is_some()
     }
 
     fn call(&self, input: &[u8], image: &mut [u8]) -> u64 {
-        // SAFETY: both pointers come from slices of the lengths given with them.
         unsafe { exported::zaguypo_run(input.as_ptr(), input.len(), image.as_mut_ptr(), image.len()) }
-    }
-
-    #[cfg(feature = "linked-rows")]
-    fn step(&self, rows: &mut [Row], word: u32) -> u16 {
-        // SAFETY: the pointer comes from a slice of the length given with it.
-        unsafe { exported::zaguypo_step(rows.as_mut_ptr(), rows.len(), word) }.refusal
-    }
-
-    #[cfg(feature = "linked-rows")]
-    fn run(&self, rows: &mut [Row], words: &[u32], tally: &mut Tally) -> Ran {
-        // SAFETY: the pointers come from slices of the lengths given with them, and from a reference.
-        unsafe { exported::zaguypo_run_rows(rows.as_mut_ptr(), rows.len(), words.as_ptr(), words.len(), tally) }
-    }
-
-    #[cfg(feature = "linked-census")]
-    fn census(&self, rows: &[Row]) -> Census {
-        // SAFETY: the pointer comes from a slice of the length given with it.
-        unsafe { exported::zaguypo_census(rows.as_ptr(), rows.len()) }
     }
 
     fn text(&self, input: &[u8]) -> Vec<u8> {
@@ -76,32 +54,40 @@ impl Engine for Linked {
         print_with(program, input).unwrap_or_else(|error| format!("{}: {error}", program.display()).into_bytes())
     }
 
-    #[cfg(not(feature = "linked-rows"))]
-    fn step(&self, _: &mut [Row], _: u32) -> u16 {
-        unreachable!("not offered")
+    fn print(&self, input: &[u8], text: &mut [u8]) -> usize {
+        unsafe { exported::zaguypo_print(input.as_ptr(), input.len(), text.as_mut_ptr().cast(), text.len()) }
     }
-    #[cfg(not(feature = "linked-rows"))]
-    fn run(&self, _: &mut [Row], _: &[u32], _: &mut Tally) -> Ran {
-        unreachable!("not offered")
+
+    fn step(&self, rows: &mut [Row], word: u32) -> u16 {
+        unsafe { exported::zaguypo_step(rows.as_mut_ptr(), rows.len(), word) }.refusal
     }
-    #[cfg(not(feature = "linked-census"))]
-    fn census(&self, _: &[Row]) -> Census {
-        unreachable!("not offered")
+
+    fn run(&self, rows: &mut [Row], words: &[u32], tally: &mut Tally) -> Ran {
+        unsafe { exported::zaguypo_run_rows(rows.as_mut_ptr(), rows.len(), words.as_ptr(), words.len(), tally) }
     }
-    fn fresh(&self, _: usize) -> Result<Vec<Row>, u16> {
-        unreachable!("not offered")
+
+    fn census(&self, rows: &[Row]) -> Census {
+        unsafe { exported::zaguypo_census(rows.as_ptr(), rows.len()) }
     }
-    fn take_apart(&self, _: u32) -> Result<Parts, u16> {
-        unreachable!("not offered")
+
+    fn fresh(&self, rows: &mut [Row]) -> u16 {
+        unsafe { exported::zaguypo_fresh(rows.as_mut_ptr(), rows.len()) }
     }
-    fn put_together(&self, _: u32, _: u32, _: u32) -> Result<u32, u16> {
-        unreachable!("not offered")
+
+    fn take_apart(&self, word: u32) -> PartsAnswer {
+        unsafe { exported::zaguypo_apart(word) }
     }
-    fn read_image(&self, _: &[u32]) -> Result<Vec<Row>, (u16, usize)> {
-        unreachable!("not offered")
+
+    fn put_together(&self, kind: u32, process: u32, argument: u32) -> WordAnswer {
+        unsafe { exported::zaguypo_together(kind, process, argument) }
     }
-    fn write_image(&self, _: &[Row], _: &mut [u32]) -> u16 {
-        unreachable!("not offered")
+
+    fn read_image(&self, words: &[u32], rows: &mut [Row]) -> Reading {
+        unsafe { exported::zaguypo_read(words.as_ptr(), words.len(), rows.as_mut_ptr(), rows.len()) }
+    }
+
+    fn write_image(&self, rows: &[Row], words: &mut [u32]) -> u16 {
+        unsafe { exported::zaguypo_write(rows.as_ptr(), rows.len(), words.as_mut_ptr(), words.len()) }
     }
 }
 

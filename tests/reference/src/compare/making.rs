@@ -1,12 +1,14 @@
 //! Makes the case of a number under a seed.
 
 use super::{Case, Kind};
-use crate::generate::inputs::{image_of, input, some_count, some_size, some_table};
+use crate::generate::inputs::{input, lone_image, some_count, some_size, some_table, Input};
 use crate::generate::schedule::{faulty_word, schedule};
-use crate::generate::tables::damage_rows;
+use crate::generate::tables::{damage_rows, old_rows};
 use crate::generate::Random;
-use crate::row::Row;
+use crate::image::{header, image_length};
+use crate::row::{Row, MOST};
 use crate::run::MOST_WORDS;
+use crate::text::MOST_TEXT;
 use crate::Tally;
 
 /// A random case of a kind.
@@ -14,6 +16,7 @@ pub fn make_case(rng: &mut Random, kind: Kind) -> Case {
     match kind {
         Kind::Call => Case::Call { input: input(rng), shift: rng.below(8) },
         Kind::Text => Case::Text { bytes: input(rng).bytes },
+        Kind::Print => make_print(rng),
         Kind::Step => {
             let rows = lent_rows(rng);
             let word = next_word(rng, &rows);
@@ -21,18 +24,16 @@ pub fn make_case(rng: &mut Random, kind: Kind) -> Case {
         }
         Kind::Run => make_run(rng),
         Kind::Census => Case::Census { rows: lent_rows(rng) },
-        Kind::Fresh => Case::Fresh { n: rng.below(40) },
+        Kind::Fresh => {
+            let count = if rng.chance(1, 2) { some_size(rng) } else { rng.pick(&[0, 1, 2, 15, 16, 17, 18, 32, 33]) };
+            Case::Fresh { rows: old_rows(rng, count) }
+        }
         Kind::TakeApart => Case::TakeApart { word: loose_word(rng) },
         Kind::PutTogether => Case::PutTogether { kind: edge(rng, 6), process: edge(rng, 17), argument: edge(rng, 257) },
-        Kind::ReadImage => {
-            let bytes = input(rng).bytes;
-            let words: Vec<u32> = crate::bytes::words(&bytes).collect();
-            let length = if rng.chance(1, 8) { words.len() } else { image_words(&words) };
-            Case::ReadImage { words: words[..length.min(100)].to_vec() }
-        }
+        Kind::ReadImage => make_read(rng),
         Kind::WriteImage => {
             let rows = lent_rows(rng);
-            let exact = 5 * rows.len();
+            let exact = image_length(rows.len());
             let lent = rng.pick(&[exact, exact, exact.saturating_sub(1), exact + 1, exact + 9, 0]);
             Case::WriteImage { rows, lent }
         }
@@ -91,6 +92,38 @@ fn make_run(rng: &mut Random) -> Case {
     Case::Run { rows, words, tally }
 }
 
+/// A printed run with about as many bytes lent as its text has, or as every text may have.
+fn make_print(rng: &mut Random) -> Case {
+    let bytes = input(rng).bytes;
+    let exact = crate::text(&bytes).len();
+    let lent = match rng.below(32) {
+        0..=3 => exact - 1,
+        4..=7 => exact + 1,
+        8 => 0,
+        9 => rng.below(exact),
+        10 => exact + rng.within(2, 100),
+        11 => rng.pick(&[MOST_TEXT, MOST_TEXT, MOST_TEXT - 1, MOST_TEXT + 1, MOST_TEXT + 700]),
+        _ => exact,
+    };
+    Case::Print { input: Input { bytes, lent }, shift: rng.below(8) }
+}
+
+/// An image with about as many rows lent as its header asks for, or as every image may ask for.
+fn make_read(rng: &mut Random) -> Case {
+    let words = lone_image(rng);
+    let exact = words.first().and_then(|&word| header(word)).unwrap_or(2);
+    let count = match rng.below(16) {
+        0 | 1 => exact - 1,
+        2 | 3 => exact + 1,
+        4 => 0,
+        5 => rng.below(exact),
+        6..=9 => MOST,
+        10 => rng.pick(&[MOST + 1, MOST + 4, MOST + 24]),
+        _ => exact,
+    };
+    Case::ReadImage { words, rows: old_rows(rng, count) }
+}
+
 fn loose_word(rng: &mut Random) -> u32 {
     let word = (rng.below(8) as u32) << 28 | (rng.below(20) as u32) << 16 | rng.below(256) as u32;
     match rng.below(4) {
@@ -107,15 +140,4 @@ fn edge(rng: &mut Random, above: usize) -> u32 {
         1 => (1 << 16) + rng.below(above) as u32,
         _ => rng.below(above + 1) as u32,
     }
-}
-
-/// How many of the words are image, by their header.
-fn image_words(words: &[u32]) -> usize {
-    let n = words.first().and_then(|&word| crate::image::header(word)).unwrap_or(0);
-    words.len().min(5 * n)
-}
-
-/// The image of rows as bytes, for the shrinking of inputs.
-pub(super) fn image_bytes(rows: &[Row]) -> Vec<u8> {
-    crate::generate::inputs::to_bytes(&image_of(rows))
 }

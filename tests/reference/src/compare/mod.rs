@@ -1,15 +1,19 @@
 //! Sets two engines side by side on generated cases, and makes a case on which they differ small.
 
+mod answer;
 mod case;
 mod counts;
 mod engine;
+mod lent;
 #[cfg(feature = "linked")]
 mod linked;
 mod making;
+mod pieces;
 mod show;
 mod shrink;
 
-pub use case::{Answer, Case, Kind};
+pub use answer::Answer;
+pub use case::{Case, Kind};
 pub use counts::Counts;
 pub use engine::{Engine, Naive, Reference};
 #[cfg(feature = "linked")]

@@ -1,8 +1,9 @@
 //! Cases and answers as they are printed for a difference.
 
-use super::case::Lent;
+use super::lent::{Lent, FILL};
 use super::{Answer, Case};
-use crate::Row;
+use crate::generate::inputs::Input;
+use crate::{PartsAnswer, Reading, Row, WordAnswer};
 use std::fmt;
 
 /// Words in hexadecimal, ten a line.
@@ -41,48 +42,79 @@ fn show_bytes(f: &mut fmt::Formatter, bytes: &[u8]) -> fmt::Result {
     }
 }
 
+/// A case or an answer with rows after what is said first.
+fn show_with_rows(f: &mut fmt::Formatter, what: String, rows: &[Row]) -> fmt::Result {
+    write!(f, "{what}, {} rows:", rows.len())?;
+    show_rows(f, rows)
+}
+
+fn show_input(f: &mut fmt::Formatter, what: &str, input: &Input, shift: usize) -> fmt::Result {
+    write!(f, "{what}, {} bytes lent, shifted by {shift}, words in:", input.lent)?;
+    show_bytes(f, &input.bytes)
+}
+
 impl fmt::Display for Case {
     fn fmt(&self, f: &mut fmt::Formatter) -> fmt::Result {
         match self {
-            Case::Call { input, shift } => {
-                write!(f, "call, {} bytes lent, shifted by {shift}, words in:", input.lent)?;
-                show_bytes(f, &input.bytes)
-            }
+            Case::Call { input, shift } => show_input(f, "call", input, *shift),
+            Case::Print { input, shift } => show_input(f, "printed run", input, *shift),
             Case::Text { bytes } => {
-                write!(f, "printed run, words in:")?;
+                write!(f, "printing program, words in:")?;
                 show_bytes(f, bytes)
             }
-            Case::Step { rows, word } => {
-                write!(f, "step, word {word:08X}, {} rows:", rows.len())?;
-                show_rows(f, rows)
-            }
+            Case::Step { rows, word } => show_with_rows(f, format!("step, word {word:08X}"), rows),
             Case::Run { rows, words, tally } => {
-                write!(f, "run, {tally:?} before, {} rows:", rows.len())?;
-                show_rows(f, rows)?;
+                show_with_rows(f, format!("run, {tally:?} before"), rows)?;
                 write!(f, "\n  {} words:{}", words.len(), Hex(words))
             }
-            Case::Census { rows } => {
-                write!(f, "census, {} rows:", rows.len())?;
-                show_rows(f, rows)
+            Case::Census { rows } => show_with_rows(f, "census".into(), rows),
+            Case::Fresh { rows } => show_with_rows(f, "fresh table".into(), rows),
+            Case::ReadImage { words, rows } => {
+                show_with_rows(f, "image read".into(), rows)?;
+                write!(f, "\n  {} words:{}", words.len(), Hex(words))
             }
-            Case::ReadImage { words } => write!(f, "image read, {} words:{}", words.len(), Hex(words)),
-            Case::WriteImage { rows, lent } => {
-                write!(f, "image write, {lent} words lent, {} rows:", rows.len())?;
-                show_rows(f, rows)
+            Case::WriteImage { rows, lent } => show_with_rows(f, format!("image write, {lent} words lent"), rows),
+            Case::TakeApart { word } => write!(f, "taken apart: {word:08X}"),
+            Case::PutTogether { kind, process, argument } => {
+                write!(f, "put together: kind {kind}, process {process}, argument {argument}")
             }
-            other => write!(f, "{other:X?}"),
         }
     }
 }
 
 fn show_lent<T>(f: &mut fmt::Formatter, lent: &Lent<T>) -> fmt::Result {
-    if !lent.guards_whole {
+    show_whole(f, lent.guards_whole, lent.input_whole)
+}
+
+fn show_whole(f: &mut fmt::Formatter, guards_whole: bool, input_whole: bool) -> fmt::Result {
+    if !guards_whole {
         write!(f, "\n    WROTE OUTSIDE the lent memory")?;
     }
-    if !lent.input_whole {
-        write!(f, "\n    WROTE INTO memory lent for reading")?;
+    if !input_whole {
+        write!(f, "\n    WROTE INTO memory lent for reading, or about it")?;
     }
     Ok(())
+}
+
+fn show_lent_rows(f: &mut fmt::Formatter, what: String, rows: &Lent<Row>) -> fmt::Result {
+    show_with_rows(f, what, &rows.inside)?;
+    show_lent(f, rows)
+}
+
+/// The text of a printed run, where it fits, and what else happened to the lent bytes.
+fn show_text(f: &mut fmt::Formatter, length: usize, text: &Lent<u8>) -> fmt::Result {
+    let (printed, rest) = text.inside.split_at_checked(length).unwrap_or((&[], &text.inside));
+    write!(f, "length {length}, lent bytes:")?;
+    show_lines(f, printed)?;
+    let changed = rest.iter().filter(|&&byte| byte != FILL).count();
+    if changed > 0 {
+        write!(f, "\n    and {changed} of {} other bytes CHANGED", rest.len())?;
+    }
+    show_lent(f, text)
+}
+
+fn show_lines(f: &mut fmt::Formatter, text: &[u8]) -> fmt::Result {
+    String::from_utf8_lossy(text).lines().try_for_each(|line| write!(f, "\n    {line}"))
 }
 
 impl fmt::Display for Answer {
@@ -95,24 +127,32 @@ impl fmt::Display for Answer {
             }
             Answer::Text(text) => {
                 write!(f, "printed:")?;
-                String::from_utf8_lossy(text).lines().try_for_each(|line| write!(f, "\n    {line}"))
+                show_lines(f, text)
             }
-            Answer::Step { refusal, rows } => {
-                write!(f, "refusal {refusal}, rows:")?;
-                show_rows(f, &rows.inside)?;
-                show_lent(f, rows)
+            Answer::Print { length, text } => show_text(f, *length, text),
+            Answer::Step { refusal, rows } | Answer::Fresh { refusal, rows } => {
+                show_lent_rows(f, format!("refusal {refusal}"), rows)
             }
             Answer::Run { ran, tally, rows } => {
-                write!(f, "taken {} refusal {}, {:?}, rows:", ran.taken, ran.refusal, tally.inside[0])?;
-                show_rows(f, &rows.inside)?;
-                show_lent(f, tally)?;
-                show_lent(f, rows)
+                let what = format!("taken {} refusal {}, {:?}", ran.taken, ran.refusal, tally.inside[0]);
+                show_lent_rows(f, what, rows)?;
+                show_lent(f, tally)
+            }
+            Answer::ReadImage { reading: Reading { refusal, place, size }, rows } => {
+                show_lent_rows(f, format!("refusal {refusal}, place {place}, size {size}"), rows)
             }
             Answer::WriteImage { refusal, words } => {
                 write!(f, "refusal {refusal}, words:{}", Hex(&words.inside))?;
                 show_lent(f, words)
             }
-            other => write!(f, "{other:?}"),
+            Answer::TakeApart(PartsAnswer { refusal, kind, process, argument }) => {
+                write!(f, "refusal {refusal}, kind {kind}, process {process}, argument {argument}")
+            }
+            Answer::PutTogether(WordAnswer { refusal, word }) => write!(f, "refusal {refusal}, word {word:08X}"),
+            Answer::Census { census, input_whole } => {
+                write!(f, "{census:?}")?;
+                show_whole(f, true, *input_whole)
+            }
         }
     }
 }

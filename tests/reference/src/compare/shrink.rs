@@ -1,9 +1,7 @@
-//! Greedy shrinking: words out, bits to 0, rows to idle, as long as the difference stays.
+//! Greedy shrinking: words out, bits to 0, rows to idle, less lent, as long as the difference stays.
 
-use super::making::image_bytes;
+use super::pieces::{lent_of, rows_of, with_lent, with_rows, with_words, word_list};
 use super::Case;
-use crate::bytes::{read_input, words};
-use crate::generate::inputs::{to_bytes, Input};
 use crate::row::Row;
 use crate::Tally;
 
@@ -24,9 +22,9 @@ struct Shrinker<'a> {
 }
 
 impl Shrinker<'_> {
-    /// Keeps a candidate that still differs.
+    /// Keeps another case that still differs.
     fn keep(&mut self, candidate: Case) -> bool {
-        if self.tries == 0 {
+        if self.tries == 0 || candidate == self.best {
             return false;
         }
         self.tries -= 1;
@@ -43,7 +41,8 @@ impl Shrinker<'_> {
         let fewer = self.fewer_words();
         let rows = self.simpler_rows();
         let bits = self.clear_bits();
-        later | fewer | rows | bits
+        let lent = self.less_lent();
+        later | fewer | rows | bits | lent
     }
 
     /// Starts from the rows after the first words, as many of them as can be.
@@ -90,6 +89,21 @@ impl Shrinker<'_> {
                     list[place] ^= 1 << bit;
                     changed |= self.keep(with_words(&self.best, list));
                 }
+            }
+        }
+        changed
+    }
+
+    /// Lends less, by much first, then by one.
+    fn less_lent(&mut self) -> bool {
+        let mut changed = false;
+        let mut stretch = lent_of(&self.best);
+        while stretch > 0 {
+            let less = lent_of(&self.best).checked_sub(stretch);
+            if less.is_some_and(|less| self.keep(with_lent(&self.best, less))) {
+                changed = true;
+            } else {
+                stretch /= 2;
             }
         }
         changed
@@ -153,8 +167,8 @@ fn renumbered(number: u16, r: usize) -> u16 {
 
 /// A set once r is gone from among the processes.
 fn closed_up(set: u16, r: usize) -> u16 {
-    let low = (1u32 << r) - 1;
-    (u32::from(set) & low | (u32::from(set) >> 1) & !low) as u16
+    let low = (1u64 << r) - 1;
+    (u64::from(set) & low | (u64::from(set) >> 1) & !low) as u16
 }
 
 /// The case without process r: those above move down by one, in rows, sets, cells and words.
@@ -173,75 +187,20 @@ fn without_process(case: &Case, r: usize) -> Case {
         row.turn = renumbered(row.turn, r).min(top);
     }
     rows[0].turn = 0;
-    let moved = |word: u32| {
-        let process = renumbered((word >> 16 & 0xFF) as u16, r);
-        let argument = match word >> 28 {
-            3 | 5 => renumbered((word & 0xFF) as u16, r),
-            _ => (word & 0xFF) as u16,
-        };
-        word & !0x00FF_00FF | u32::from(process) << 16 | u32::from(argument)
+    let fewer = with_rows(case, rows);
+    if matches!(case, Case::ReadImage { .. }) {
+        return fewer;
+    }
+    let others = word_list(case).into_iter().filter(|word| (word >> 16 & 0xFF) as usize != r);
+    with_words(&fewer, others.map(|word| moved_down(word, r)).collect())
+}
+
+/// An event word once process r is gone.
+fn moved_down(word: u32, r: usize) -> u32 {
+    let process = renumbered((word >> 16 & 0xFF) as u16, r);
+    let argument = match word >> 28 {
+        3 | 5 => renumbered((word & 0xFF) as u16, r),
+        _ => (word & 0xFF) as u16,
     };
-    let words = word_list(case).into_iter().filter(|word| (word >> 16 & 0xFF) as usize != r).map(moved).collect();
-    with_words(&with_rows(case, rows), words)
-}
-
-/// Where the event words of an input begin: after its image if that can be read, else at the start.
-fn events_from(bytes: &[u8]) -> usize {
-    read_input(bytes).map_or(0, |input| bytes.len() - input.events.len())
-}
-
-/// The words of a case that may be left out or changed.
-fn word_list(case: &Case) -> Vec<u32> {
-    match case {
-        Case::Call { input: Input { bytes, .. }, .. } | Case::Text { bytes } if bytes.len() % 4 == 0 => {
-            words(&bytes[events_from(bytes)..]).collect()
-        }
-        Case::Step { word, .. } | Case::TakeApart { word } => vec![*word],
-        Case::Run { words, .. } | Case::ReadImage { words } => words.clone(),
-        _ => Vec::new(),
-    }
-}
-
-fn with_words(case: &Case, list: Vec<u32>) -> Case {
-    let mut case = case.clone();
-    match &mut case {
-        Case::Call { input: Input { bytes, .. }, .. } | Case::Text { bytes } => {
-            bytes.truncate(events_from(bytes));
-            bytes.extend(to_bytes(&list));
-        }
-        Case::Step { word, .. } | Case::TakeApart { word } => *word = list.first().copied().unwrap_or(*word),
-        Case::Run { words, .. } | Case::ReadImage { words } => *words = list,
-        _ => {}
-    }
-    case
-}
-
-fn rows_of(case: &Case) -> Option<Vec<Row>> {
-    match case {
-        Case::Call { input: Input { bytes, .. }, .. } | Case::Text { bytes } => {
-            read_input(bytes).ok().map(|input| input.table.to_vec())
-        }
-        Case::Step { rows, .. } | Case::Run { rows, .. } => Some(rows.clone()),
-        Case::Census { rows } | Case::WriteImage { rows, .. } => Some(rows.clone()),
-        _ => None,
-    }
-}
-
-/// The case with other rows; an unsound table has no image, and then the case is left as it is.
-fn with_rows(case: &Case, new: Vec<Row>) -> Case {
-    let mut case = case.clone();
-    match &mut case {
-        Case::Call { input, .. } if crate::check(&new) == 0 => {
-            let from = events_from(&input.bytes);
-            input.lent = (input.lent + 20 * new.len()).saturating_sub(from);
-            input.bytes.splice(..from, image_bytes(&new));
-        }
-        Case::Text { bytes } if crate::check(&new) == 0 => {
-            bytes.splice(..events_from(bytes), image_bytes(&new));
-        }
-        Case::Step { rows, .. } | Case::Run { rows, .. } => *rows = new,
-        Case::Census { rows } | Case::WriteImage { rows, .. } => *rows = new,
-        _ => {}
-    }
-    case
+    word & !0x00FF_00FF | u32::from(process) << 16 | u32::from(argument)
 }

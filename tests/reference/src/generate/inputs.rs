@@ -1,4 +1,4 @@
-//! Inputs in bytes for the call from C and the printing program, with the number of lent bytes.
+//! Inputs in bytes for the run and the printed run, with the number of lent bytes, and images by themselves.
 
 use super::schedule::schedule;
 use super::tables::{fresh_table, sound_table};
@@ -7,7 +7,7 @@ use crate::image::{image_length, write};
 use crate::row::{Row, FEWEST, MOST};
 use crate::run::MOST_WORDS;
 
-/// Bytes in, and how many bytes are lent for the image.
+/// Bytes in, and how many bytes are lent for the image or the text.
 #[derive(Clone, Debug, PartialEq, Eq)]
 pub struct Input {
     pub bytes: Vec<u8>,
@@ -88,6 +88,26 @@ pub fn input(rng: &mut Random) -> Input {
         damage_bytes(rng, &mut bytes, n);
     }
     Input { bytes, lent }
+}
+
+/// An image by itself: most can be read, the others are damaged, in two places at times, cut, too long, or no image at all.
+pub fn lone_image(rng: &mut Random) -> Vec<u32> {
+    if rng.chance(1, 24) {
+        return crate::bytes::words(&garbage(rng)).collect();
+    }
+    let n = some_size(rng);
+    let mut words = image_of(&some_table(rng, n));
+    let length = words.len();
+    match rng.below(16) {
+        0 => words.truncate(rng.below(length)),
+        1 => words.extend((0..rng.within(1, 30)).map(|_| 0x1000_0000)),
+        2..=6 => damage_image(rng, &mut words, n),
+        _ => {}
+    }
+    if words.len() == length && rng.chance(1, 8) {
+        damage_image(rng, &mut words, n);
+    }
+    words
 }
 
 /// A number of words about the two limits.

@@ -39,9 +39,9 @@ impl Mood {
         }
     }
 
-    fn choose(&self, rng: &mut Random, rows: &[Row], last: usize) -> usize {
+    /// `away` has the processes that are not at 10.
+    fn choose(&self, rng: &mut Random, rows: &[Row], away: u16, last: usize) -> usize {
         let n = rows.len();
-        let away = (0..n).fold(0, |set, p| set | u16::from(rows[p].loc != 10) << p);
         let ready = away | self.comers;
         if ready == 0 || rng.chance(1, 64) {
             return rng.below(n);
@@ -84,6 +84,7 @@ pub fn schedule(rng: &mut Random, start: &[Row], count: usize, faulty: usize) ->
     let mut wrong_at: Vec<usize> = (0..faulty.min(count)).map(|_| rng.below(count)).collect();
     wrong_at.sort_unstable();
     let n = rows.len();
+    let mut away = (0..n).fold(0, |set, p| set | u16::from(rows[p].loc != 10) << p);
     let mut machine = Machine::new(&mut rows);
     let mut mood = Mood::new(rng, n);
     let mut last = 0;
@@ -92,12 +93,14 @@ pub fn schedule(rng: &mut Random, start: &[Row], count: usize, faulty: usize) ->
             mood = Mood::new(rng, n);
         }
         mood.left -= 1;
-        last = mood.choose(rng, machine.rows(), last);
+        last = mood.choose(rng, machine.rows(), away, last);
         let good = word_for(rng, machine.rows(), last, &mood);
         let wrong = wrong_at.binary_search(&place).is_ok();
         let word = if wrong { faulty_word(rng, machine.rows(), good) } else { good };
         words.push(word);
-        let _ = machine.take(word);
+        if let Ok(event) = machine.take(word) {
+            away = away & !(1 << event.p) | u16::from(event.after != 10) << event.p;
+        }
     }
     words
 }

@@ -1,4 +1,4 @@
-//! Start tables: fresh, random sound, and unsound.
+//! Start tables: fresh, random sound, and unsound; and rows of any content.
 
 use super::Random;
 use crate::row::{everyone, Row, LOCATIONS};
@@ -37,6 +37,23 @@ pub fn sound_table(rng: &mut Random, n: usize) -> Vec<Row> {
                 ahead: some_set(rng, n),
                 turn: if k == 0 { 0 } else { rng.below(n) as u16 },
             }
+        })
+        .collect()
+}
+
+/// Rows of any content, as they may be lent to be written over.
+pub fn old_rows(rng: &mut Random, count: usize) -> Vec<Row> {
+    let mut cell = || rng.next() as u16;
+    (0..count)
+        .map(|_| Row {
+            loc: cell(),
+            act: cell(),
+            bb: cell(),
+            level: cell(),
+            est: cell(),
+            lis: cell(),
+            ahead: cell(),
+            turn: cell(),
         })
         .collect()
 }

@@ -2,16 +2,41 @@
 
 use super::system::{bits_from_set, set_from_bits, System};
 use super::Fault;
-use crate::Row;
+use crate::{Reading, Row};
 
 const CODES: [u32; 8] = [10, 20, 21, 22, 23, 24, 30, 40];
 
-/// The table of an image, or refusal and place.
-pub fn read_image(words: &[u32], fault: Fault) -> Result<Vec<Row>, (u16, usize)> {
-    let system = read(words, fault)?;
-    let mut rows = vec![Row::default(); system.n()];
-    system.to_rows(&mut rows);
-    Ok(rows)
+/// The first lent rows become the table of an image; or refusal and place, 13 last, and no row changes.
+pub fn read_image(words: &[u32], lent: &mut [Row], fault: Fault) -> Reading {
+    if let Some(early) = before_the_words(words, lent, fault) {
+        return early;
+    }
+    let system = match read(words, fault) {
+        Ok(system) => system,
+        Err((refusal, place)) => return Reading { refusal, place: place as u16, size: 0 },
+    };
+    let n = system.n();
+    let needed = if fault == Fault::ReadAsksFor16Rows { 16 } else { n };
+    if lent.len() < needed {
+        let size = if fault == Fault::ReadSizeWith13 { n as u16 } else { 0 };
+        return Reading { refusal: 13, place: 0, size };
+    }
+    system.to_rows(&mut lent[..n]);
+    if fault == Fault::ReadClearsRowsPastTheTable {
+        lent[n..].fill(Row::default());
+    }
+    Reading { refusal: 0, place: 0, size: n as u16 }
+}
+
+/// The faults of looking at the lent rows as soon as the header and the number of words are right.
+fn before_the_words(words: &[u32], lent: &mut [Row], fault: Fault) -> Option<Reading> {
+    let n = header(words).filter(|&n| words.len() == 5 * n)?;
+    if fault == Fault::ReadClearsRowsFirst {
+        let known = n.min(lent.len());
+        System::fresh(n).to_rows(&mut lent[..known]);
+    }
+    let early = fault == Fault::ReadLentBeforeWords && lent.len() < n;
+    early.then_some(Reading { refusal: 13, place: 0, size: 0 })
 }
 
 /// Writes the image into the first 5N lent words: 6, 7, then 13.
@@ -21,11 +46,20 @@ pub fn write_image(rows: &[Row], lent: &mut [u32], fault: Fault) -> u16 {
         Err(refusal) => return refusal,
     };
     let image = write(&system);
-    if lent.len() < image.len() {
-        return 13;
+    let short = lent.len() < image.len();
+    for (place, &word) in image.iter().enumerate() {
+        if !short || (fault == Fault::WritesPartWhenShort && place < lent.len()) {
+            lent[place] = word;
+        }
     }
-    lent[..image.len()].copy_from_slice(&image);
-    0
+    if fault == Fault::WritesOneWordMore && lent.len() > image.len() {
+        lent[image.len()] = 0;
+    }
+    if short {
+        13
+    } else {
+        0
+    }
 }
 
 /// The number of processes that a first word names.

@@ -2,15 +2,20 @@
 //! followed in its own words. It shares with the fast engine only the records that cross the C boundary. A `Fault` makes it
 //! err in one place, to show that the generated cases would see that error.
 
+mod bytes;
 mod calls;
 mod image;
 mod step;
 mod system;
+mod words;
 
-pub use calls::{c_call, census, fresh, put_together, run, step, take_apart, text};
+pub use bytes::{c_call, print, text};
+pub use calls::{census, fresh, run, step};
 pub use image::{read_image, write_image};
+pub use words::{put_together, take_apart};
 
-/// One error put into the model; the first group is that of document 01 and of its readings.
+/// One error put into the model; the first group is that of document 01 and of its readings, the last that of memory lent by C
+/// and of answers in records.
 #[derive(Clone, Copy, Debug, PartialEq, Eq)]
 pub enum Fault {
     None,
@@ -60,10 +65,27 @@ pub enum Fault {
     SpareBitsOfStateIgnored,
     PlaceFromImageStart1,
     RowCountAfterRows,
+
+    FreshOf17Rows,
+    FreshKeepsWhatMayBeAnything,
+    ReadLentBeforeWords,
+    ReadClearsRowsFirst,
+    ReadClearsRowsPastTheTable,
+    ReadAsksFor16Rows,
+    ReadSizeWith13,
+    WritesPartWhenShort,
+    WritesOneWordMore,
+    ApartKeepsPartsOnRefusal,
+    TogetherKeepsWordOnRefusal,
+    TogetherCutsTheArgument,
+    PrintPartWhenShort,
+    PrintZeroAfterText,
+    PrintAnswers0WhenShort,
+    PrintNeedsOneByteMore,
 }
 
 impl Fault {
-    pub const ALL: [Fault; 45] = [
+    pub const ALL: [Fault; 61] = [
         Fault::Counts40With30,
         Fault::EstKeptAtGo24,
         Fault::TurnBeforeSizeOfEst,
@@ -109,5 +131,21 @@ impl Fault {
         Fault::SpareBitsOfStateIgnored,
         Fault::PlaceFromImageStart1,
         Fault::RowCountAfterRows,
+        Fault::FreshOf17Rows,
+        Fault::FreshKeepsWhatMayBeAnything,
+        Fault::ReadLentBeforeWords,
+        Fault::ReadClearsRowsFirst,
+        Fault::ReadClearsRowsPastTheTable,
+        Fault::ReadAsksFor16Rows,
+        Fault::ReadSizeWith13,
+        Fault::WritesPartWhenShort,
+        Fault::WritesOneWordMore,
+        Fault::ApartKeepsPartsOnRefusal,
+        Fault::TogetherKeepsWordOnRefusal,
+        Fault::TogetherCutsTheArgument,
+        Fault::PrintPartWhenShort,
+        Fault::PrintZeroAfterText,
+        Fault::PrintAnswers0WhenShort,
+        Fault::PrintNeedsOneByteMore,
     ];
 }

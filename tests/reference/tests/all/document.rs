@@ -3,22 +3,27 @@
 use reference::compare::{Engine, Naive, Reference};
 use reference::generate::inputs::{image_of, to_bytes};
 use reference::naive::Fault;
-use reference::{Ran, Row, Tally};
+use reference::{Ran, Reading, Row, Tally};
 
-const FRESH: [u32; 10] = [
+pub const FRESH: [u32; 10] = [
     0x80000002, 0x90000000, 0xA0000000, 0xB0000000, 0xC0000000, 0x90010000, 0xA0010000, 0xB0010000, 0xC0010000,
     0xD0010000,
 ];
-const SEVEN: [u32; 7] = [0x20000000, 0x40000000, 0x40000000, 0x50000001, 0x40000000, 0x40000000, 0x40000000];
+pub const SEVEN: [u32; 7] = [0x20000000, 0x40000000, 0x40000000, 0x50000001, 0x40000000, 0x40000000, 0x40000000];
+
+/// What lent rows hold before a call.
+pub const OLD: Row = Row { loc: 9, act: 9, bb: 9, level: 9, est: 9, lis: 9, ahead: 9, turn: 9 };
 
 /// Tries an example on each model.
-fn on_both(example: impl Fn(&dyn Engine)) {
+pub fn on_both(example: impl Fn(&dyn Engine)) {
     example(&Reference);
     example(&Naive(Fault::None));
 }
 
-fn fresh_rows(engine: &dyn Engine, n: usize) -> Vec<Row> {
-    engine.fresh(n).expect("a fresh table")
+pub fn fresh_rows(engine: &dyn Engine, n: usize) -> Vec<Row> {
+    let mut rows = vec![OLD; n];
+    assert_eq!(engine.fresh(&mut rows), 0);
+    rows
 }
 
 /// The rows and the answer after words from a fresh table of two.
@@ -91,21 +96,29 @@ fn look_and_go_at_22() {
     });
 }
 
+/// An image that is refused at a place, whatever number of rows is lent.
+fn image_refused(engine: &dyn Engine, image: &[u32], place: u16, refusal: u16) {
+    for lent in [0, 1, 2, 16] {
+        let mut rows = vec![OLD; lent];
+        assert_eq!(engine.read_image(image, &mut rows), Reading { refusal, place, size: 0 });
+        assert_eq!(rows, vec![OLD; lent]);
+    }
+}
+
 #[test]
 fn refused_images() {
     on_both(|engine| {
-        assert_eq!(engine.read_image(&FRESH[..9]), Err((2, 9)));
-        for header in [0x80000001, 0x80000011] {
+        let changed = |place: usize, word: u32| {
             let mut image = FRESH;
-            image[0] = header;
-            assert_eq!(engine.read_image(&image), Err((1, 0)));
-        }
-        assert_eq!(engine.read_image(&[0x80000010]), Err((2, 1)));
-        assert_eq!(engine.read_image(&[]), Err((1, 0)));
-        let mut image = FRESH;
-        image[1] = 0x90003000;
-        assert_eq!(engine.read_image(&image), Err((5, 1)));
-        assert_eq!(engine.read_image(&FRESH), engine.fresh(2).map_err(|refusal| (refusal, 0)));
+            image[place] = word;
+            image
+        };
+        image_refused(engine, &FRESH[..9], 9, 2);
+        image_refused(engine, &changed(0, 0x80000001), 0, 1);
+        image_refused(engine, &changed(0, 0x80000011), 0, 1);
+        image_refused(engine, &[0x80000010], 1, 2);
+        image_refused(engine, &[], 0, 1);
+        image_refused(engine, &changed(1, 0x90003000), 1, 5);
     });
 }
 
@@ -184,27 +197,5 @@ fn inputs_that_are_refused_at_the_door() {
         assert_eq!(engine.call(&[0; 33_092], &mut []), 14);
         assert_eq!(engine.call(&[0; 33_088], &mut []), 1);
         assert_eq!(engine.call(&to_bytes(&FRESH), &mut [0; 39]), 13);
-        assert_eq!(engine.fresh(1), Err(6));
-        assert_eq!(engine.fresh(17), Err(6));
-    });
-}
-
-#[test]
-fn every_word_that_comes_apart_goes_together_again() {
-    on_both(|engine| {
-        for kind in 1..=5 {
-            for process in 0..16 {
-                for argument in 0..256 {
-                    let word = engine.put_together(kind, process, argument).expect("a word");
-                    let parts = engine.take_apart(word).expect("its parts");
-                    assert_eq!((parts.kind, parts.process, parts.argument), (kind, process, argument));
-                }
-            }
-        }
-        assert_eq!(engine.put_together(6, 16, 256), Err(8));
-        assert_eq!(engine.put_together(5, 16, 256), Err(9));
-        assert_eq!(engine.put_together(5, 15, 256), Err(11));
-        assert_eq!(engine.take_apart(0x0110_0000), Err(8));
-        assert_eq!(engine.take_apart(0x1010_0000), Err(9));
     });
 }

@@ -3,4 +3,5 @@
 mod document;
 mod example;
 mod exclusion;
+mod lent;
 mod models;

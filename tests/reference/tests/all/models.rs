@@ -64,18 +64,34 @@ fn the_call_from_c_sees_wrong_moves() {
     }
 }
 
-#[test]
-fn a_difference_is_made_small() {
-    let fault = Fault::OwnRowStoreLostAtGo24;
+/// The first case of a kind on which a fault shows, made small.
+fn made_small(kind: Kind, fault: Fault) -> Case {
     let differs = |case: &Case| case.answer(&Reference) != case.answer(&Naive(fault));
     let case = (0..20_000)
-        .map(|number| make_case(&mut Random::of_case(7, number), Kind::Call))
+        .map(|number| make_case(&mut Random::of_case(7, number), kind))
         .find(|case| differs(case))
         .expect("a difference");
-    let small = shrink(case, &differs);
+    shrink(case, &differs)
+}
+
+#[test]
+fn a_difference_is_made_small() {
+    let small = made_small(Kind::Call, Fault::OwnRowStoreLostAtGo24);
     let bytes = match &small {
         Case::Call { input, .. } => input.bytes.len(),
         _ => 0,
     };
     assert_eq!(bytes, 4 * 11, "not two processes and one GO: {small}");
+}
+
+#[test]
+fn a_difference_in_what_c_lends_and_gets_is_made_small() {
+    let small = made_small(Kind::ReadImage, Fault::ReadClearsRowsPastTheTable);
+    let rows = matches!(&small, Case::ReadImage { words, rows } if words.len() == 10 && rows.len() == 3);
+    assert!(rows, "not an image of two and one row more: {small}");
+    let small = made_small(Kind::Print, Fault::PrintZeroAfterText);
+    let text = matches!(&small, Case::Print { input, .. } if input.bytes.len() == 40 && input.lent == 16);
+    assert!(text, "not two processes, no words and one byte more: {small}");
+    let small = made_small(Kind::PutTogether, Fault::TogetherKeepsWordOnRefusal);
+    assert_eq!(small, Case::PutTogether { kind: 0, process: 0, argument: 1 });
 }

@@ -3,22 +3,27 @@
 use native.Mathlib.Omega.{arith}
 use borrow.Author.Needs.{needs}
 use mathlib.Core.Path.{_≡_, refl, sym, ap, _∙_}
-use mathlib.Core.List.{[], _∷_}
-use Prim.Native.Nat.{_-_, _≤_}
+use mathlib.Core.List.{[]}
+use Prim.Native.Nat.{_-_}
 use lib.ListN.{length}
-use Rattle.machine.specs.Runs.{limit}
 use Rattle.cells.specs.View.{rowsOf}
 use Rattle.text.specs.Running.{goesOn}
-use Rattle.machine.specs.Text.{doneText}
-use Rattle.text.proofs.LineLaws.{length-line}
-use Rattle.text.proofs.LineLaws.Within.{last}
-use Rattle.text.proofs.ProgressLaws.{Progress, progress-none, progress-taken, progress-stopped, progress-done}
+use Rattle.text.proofs.AppendingLaws.{appended-none, appended-as, appended-then}
+use Rattle.text.proofs.ProgressLaws.{
+  Printed,
+  progress-none,
+  progress-taken,
+  progress-stopped,
+  progress-done,
+  progress-room,
+  progress-last,
+}
 use Rattle.text.proofs.running.put_run.Statement.{statement}
 use Rattle.text.proofs.running.put_run.Tie as tie
 
 abbrev Inv-loop : tie.InvT-loop
 Inv-loop out₀ at cells₀ words end₀ i₀ out cells end i =
-    Progress out₀ at (rowsOf cells₀) words out (rowsOf cells) end i
+    Printed out₀ at (rowsOf cells₀) words out (rowsOf cells) end i
     × (length out ≡ length out₀)
     × (length cells ≡ length cells₀)
 
@@ -32,12 +37,13 @@ loop-holds : tie.Need-loop-holds Inv-loop μ-loop
 loop-holds c =
     let s = c .before .before in
     let a = s .args in
-    (progress-none (a .out .now) (a .at) (rowsOf (a .cells .now)) (a .words .now) (s .pre .sound), refl, refl)
+    let none = progress-none (rowsOf (a .cells .now)) (a .words .now) (s .pre .sound) in
+    (record { text = []; progress = none; appended = appended-none (a .out .now) (a .at) }, refl, refl)
 
 cast-put-word : tie.Need-cast-put-word Inv-loop μ-loop
 cast-put-word c =
     let l = c .before .before .before in
-    omega (arith, l .loop .inv .0 .within, start l .pre .few)
+    omega (arith, l .loop .inv .0 .progress .within, start l .pre .few)
 
 mul-put-word : tie.Need-mul-put-word Inv-loop μ-loop
 mul-put-word c = omega arith
@@ -49,10 +55,10 @@ put-word-requires : tie.Need-put-word-requires Inv-loop μ-loop
 put-word-requires c κs =
     let l = c .before .before .before .before in
     let p = l .loop .inv .0 in
+    let next = progress-room (p .progress) (omega arith) in
     record {
-      sound = p .sound;
-      room = omega (arith, p .room, p .appended .end-is, l .loop .inv .1, start l .pre .room);
-      few = omega (arith, start l .pre .few);
+      sound = p .progress .sound;
+      room = omega (arith, next, p .appended .end-is, l .loop .inv .1, start l .pre .room);
     }
 
 enum-known-next : tie.Need-enum-known-next Inv-loop μ-loop
@@ -85,10 +91,11 @@ returns c =
     let w = c .before .before .before .before .before .before in
     let put = w .put-word in
     let l = loop-of w in
+    let p = l .loop .inv .0 in
     let is = c .before .last .given .1 in
-    progress-stopped _ _ _ _ _ _ _ _ (l .loop .inv .0) (omega (arith, start l .pre .room))
-    (put .last .0) _ (omega arith) (sym (put .ensures .taken-is) ∙ ap goesOn is)
-    (rw is at (put .ensures .appended))
+    let whole = progress-stopped (p .progress) (omega arith) (sym (put .ensures .taken-is) ∙ ap goesOn is) in
+    appended-as whole
+    (appended-then (omega (arith, start l .pre .room)) (p .appended) (rw is at (put .ensures .appended)))
 
 add-i : tie.Need-add-i Inv-loop μ-loop
 add-i c = omega arith
@@ -101,12 +108,15 @@ loop-again c =
     let w = c .before .before .before .before .before .before in
     let put = w .put-word in
     let l = loop-of w in
-    let is = c .before .next .given .1 in (
-      progress-taken _ _ _ _ _ _ _ _ (l .loop .inv .0) (omega (arith, start l .pre .room))
-          (put .last .0) (rowsOf (put .last .1 .1 .0)) _ (omega arith) (omega (arith, start l .pre .few))
-          (sym (put .ensures .taken-is) ∙ ap goesOn is)
-          (put .ensures .becomes .rows-are)
-          (rw is at (put .ensures .appended)),
+    let p = l .loop .inv .0 in
+    let is = c .before .next .given .1 in
+    let taken = sym (put .ensures .taken-is) ∙ ap goesOn is in (
+      record {
+        text = _;
+        progress = progress-taken (p .progress) (omega arith) taken (put .ensures .becomes .rows-are);
+        appended =
+            appended-then (omega (arith, start l .pre .room)) (p .appended) (rw is at (put .ensures .appended));
+      },
       out-kept w,
       cells-kept w,
     )
@@ -116,22 +126,14 @@ loop-again c =
 cast-put-done : tie.Need-cast-put-done Inv-loop μ-loop
 cast-put-done c =
     let l = c .before .before in
-    omega (arith, l .loop .inv .0 .within, start l .pre .few)
+    omega (arith, l .loop .inv .0 .progress .within, start l .pre .few)
 
 put-done-requires : tie.Need-put-done-requires Inv-loop μ-loop
 put-done-requires c κs =
     let l = c .before .before in
     let p = l .loop .inv .0 in
-    let few : l .loop .i ≤ limit = omega (arith, p .within, start l .pre .few) in
-    let long = length-line doneText {ns = l .loop .i ∷ []} (last 3 (omega arith)) in
-    omega (
-      arith,
-      p .room,
-      p .within,
-      p .appended .end-is,
-      l .loop .inv .1,
-      start l .pre .room,
-    )
+    let last = progress-last (p .progress) (omega (arith, p .progress .within)) in
+    omega (arith, p .appended .end-is, l .loop .inv .1, start l .pre .room)
 
 same-length-3 : tie.Need-same-length-3 Inv-loop μ-loop
 same-length-3 c = c .before .before .put-done .kept .0 ∙ c .before .before .before .before .before .loop .inv .1
@@ -142,10 +144,10 @@ same-length-4 c = c .before .before .before .before .before .loop .inv .2
 returns-2 : tie.Need-returns-2 Inv-loop μ-loop
 returns-2 c =
     let l = c .before .before .before .before .before in
-    let s = start l in
-    let all : l .loop .i ≡ length (s .args .words .now) = omega (arith, l .loop .inv .0 .within) in
-    progress-done _ _ _ _ _ _ _ _ (l .loop .inv .0) (omega (arith, s .pre .room)) _ _ all
-    (c .before .before .put-done .ensures)
+    let p = l .loop .inv .0 in
+    let whole = progress-done (p .progress) (omega (arith, p .progress .within)) in
+    appended-as whole
+    (appended-then (omega (arith, start l .pre .room)) (p .appended) (c .before .before .put-done .ensures))
 
 pub put-run-spec : {M : Type 1} → statement M
 put-run-spec =

@@ -1,14 +1,14 @@
 -- `text::running::put_word` meets its contract: one line, of the taken word or of the refused one. Assumes nothing.
 use native.Mathlib.Omega.{arith}
 use mathlib.Core.Path.{_≡_, sym, ap, _∙_}
-use mathlib.Core.Bool.{true}
+use mathlib.Core.Bool.{true, false}
 use mathlib.Core.List.{[], _∷_}
 use lib.ListN.{length}
 use Rattle.machine.specs.Text.{line, stopLine, wordLine}
 use Rattle.machine.proofs.SoundRows.{sound-few}
 use Rattle.cells.specs.View.{rowsOf}
 use Rattle.cells.proofs.ViewLaws.{rows-length}
-use Rattle.text.specs.Running.{takes}
+use Rattle.text.specs.Running.{takes, lineOf}
 use Rattle.text.proofs.AppendingLaws.{appended-as}
 use Rattle.text.proofs.RunLaws.{
   line-is,
@@ -17,8 +17,6 @@ use Rattle.text.proofs.RunLaws.{
   moved-takes,
   refused-takes,
   refused-number,
-  length-wordLine,
-  length-stopLine,
 }
 use borrow.Author.Needs.{needs}
 use Rattle.text.proofs.running.put_word.Statement.{statement}
@@ -102,21 +100,40 @@ put-line-requires c κs =
     let counted = c .before .before .before .before in
     let told = counted .before .before .before .before in
     let s = start (stepped told) in
-    let t = rowsOf (s .args .cells .now) in
-    let long = length-wordLine t (s .args .place) (s .args .word) (s .pre .sound) (s .pre .few) (taken told) in
-    omega (arith, ap length (printed counted), s .pre .room)
+    let is = lineOf-taken (rowsOf (s .args .cells .now)) (s .args .place) (s .args .word) (taken told) in
+    omega (arith, ap length (printed counted), ap length is, s .pre .room)
 
 -- ---- a refused word
 
 enum-known-why : tie.Need-enum-known-why
 enum-known-why c = search needs
 
+abbrev answered : tie.After-why → tie.After-advance
+answered c = c .before .before .before
+
+stopped : (c : tie.After-why)
+    → let a = start (answered c) .args in
+    takes (rowsOf (a .cells .now)) (a .word) ≡ false
+stopped c =
+    let a = start (answered c) .args in
+    let answer = sym (answered c .advance .ensures .answer-is) ∙ c .why .given .1 in
+    refused-takes (rowsOf (a .cells .now)) (a .word) _ answer
+
+-- the last line is its line
+last-is : (c : tie.After-why)
+    → let a = start (answered c) .args in
+    stopLine (a .place) (c .why .given .0 .0) ≡ lineOf (rowsOf (a .cells .now)) (a .place) (a .word)
+last-is c =
+    let a = start (answered c) .args in
+    let t = rowsOf (a .cells .now) in
+    let answer = sym (answered c .advance .ensures .answer-is) ∙ c .why .given .1 in
+    sym (ap (stopLine (a .place)) (refused-number t (a .word) _ answer))
+    ∙ sym (lineOf-stopped t (a .place) (a .word) (stopped c))
+
 put-stop-requires : tie.Need-put-stop-requires
 put-stop-requires c κs =
-    let s = start (c .before .before .before .before .before) in
-    let why = c .before .before .why .given .0 .0 in
-    let small = c .before .known-told .given in
-    omega (arith, length-stopLine (s .args .place) why (s .pre .few) (omega arith), s .pre .room)
+    let why = c .before .before in
+    omega (arith, ap length (last-is why), start (answered why) .pre .room)
 
 -- ---- the answers
 
@@ -147,20 +164,11 @@ same-length-4 c = search needs
 
 returns-2 : tie.Need-returns-2
 returns-2 c =
-    let told = c .before .before .before .before .before .why .given in
-    let step = c .before .before .before .before .before .before .before .before in
-    let a = start step .args in
-    let t = rowsOf (a .cells .now) in
-    let i = a .place in
-    let why = told .0 .0 in
-    let answer = sym (step .advance .ensures .answer-is) ∙ told .1 in
-    let stopped = refused-takes t (a .word) why answer in
-    let same = ap (stopLine i) (refused-number t (a .word) why answer) in
-    let is = sym same ∙ sym (lineOf-stopped t i (a .word) stopped) in
+    let why = c .before .before .before .before .before in
     record {
-      becomes = step .advance .ensures .becomes;
-      taken-is = sym stopped;
-      appended = appended-as is (c .before .before .put-stop .ensures);
+      becomes = answered why .advance .ensures .becomes;
+      taken-is = sym (stopped why);
+      appended = appended-as (last-is why) (c .before .before .put-stop .ensures);
     }
 
 pub put-word-spec : {M : Type 1} → statement M

@@ -1,0 +1,60 @@
+-- What the lent rows hold, by the cases of machine/specs/Exports. Assumes nothing.
+use Prim.Native.Nat.{ℕ, _≤_, _<_}
+use mathlib.Core.Path.{_≡_, refl, sym, ap, _∙_}
+use mathlib.Core.Bool.{Bool, true, false, _||_}
+use mathlib.Core.Logic.{⊎-elim}
+use mathlib.Core.List.{List}
+use native.Mathlib.Omega.{arith}
+use lib.Dec.{eqb, leb, ltb}
+use lib.ListN.{length}
+use borrow.Author.Tests.{ltb-true, le-leb, lt-leb, eq-eqb, ne-eqb}
+use Rattle.counting.specs.Placing.{placed}
+use Rattle.counting.proofs.TestLaws.{or-cases}
+use Rattle.machine.specs.Refusals.{accepted, wrongSize, tooFewLent}
+use Rattle.machine.specs.Tables.{Table, freshTable}
+use Rattle.machine.specs.Images.{imageRefusal, tableIn}
+use Rattle.machine.specs.Exports.{Made, freshIn, Loaded, unread, loaded, readIn}
+
+-- ---- a fresh table
+
+pub made-in : (l : Table) → 2 ≤ length l → length l ≤ 16
+    → freshIn l ≡ record { refusal = accepted; rows = freshTable (length l) }
+made-in l a b = rw (le-leb 2 (length l) a, le-leb (length l) 16 b) refl
+
+pub not-made : (l : Table) → (ltb (length l) 2 || ltb 16 (length l)) ≡ true
+    → freshIn l ≡ record { refusal = wrongSize; rows = l }
+not-made l h = ⊎-elim few many (or-cases (ltb (length l) 2) (ltb 16 (length l)) h)
+  where
+    few : ltb (length l) 2 ≡ true → freshIn l ≡ record { refusal = wrongSize; rows = l }
+    few e = rw (lt-leb 2 (length l) (ltb-true (length l) 2 e)) refl
+
+    many : ltb 16 (length l) ≡ true → freshIn l ≡ record { refusal = wrongSize; rows = l }
+    many e =
+        let m = ltb-true 16 (length l) e in rw (le-leb 2 (length l) (omega arith), lt-leb (length l) 16 m) refl
+
+-- ---- a table read
+
+pub loaded-short : (t l : Table) → length l < length t → loaded t l ≡ unread l tooFewLent 0
+loaded-short t l h = rw (lt-leb (length t) (length l) h) refl
+
+pub loaded-all : (t l : Table) → length t ≤ length l
+    → loaded t l
+    ≡ record { answer = record { refusal = accepted; place = 0; size = length t }; rows = placed l 0 t }
+loaded-all t l h = rw (le-leb (length t) (length l) h) refl
+
+module _ (ws : List ℕ) (l : Table) where
+  abbrev by : Bool → Loaded
+  by b =
+      elim b [
+        | false ↦ unread l (imageRefusal ws .refusal) (imageRefusal ws .place)
+        | true ↦ loaded (tableIn ws) l
+      ]
+
+  pub read-table : imageRefusal ws .refusal ≡ accepted → readIn ws l ≡ loaded (tableIn ws) l
+  unfolding readIn
+  read-table e = ap by (eq-eqb (imageRefusal ws .refusal) accepted e)
+
+  pub read-refused : (imageRefusal ws .refusal ≡ accepted → ⊥)
+      → readIn ws l ≡ unread l (imageRefusal ws .refusal) (imageRefusal ws .place)
+  unfolding readIn
+  read-refused e = ap by (ne-eqb (imageRefusal ws .refusal) accepted e)

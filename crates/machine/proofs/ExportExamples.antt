@@ -1,0 +1,82 @@
+-- What C gets, evaluated: one example for each case of specs/Exports. Assumes nothing.
+use Prim.Native.Nat.{ℕ}
+use mathlib.Core.Path.{_≡_, refl, ap}
+use mathlib.Core.Bool.{true, false}
+use mathlib.Core.List.{List, [], _∷_, _++_}
+use lib.Dec.{leb}
+use lib.ListN.{length, replicate, take}
+use Rattle.counting.specs.Placing.{placed}
+use Rattle.machine.specs.Rows.{idle, blank, withAct}
+use Rattle.machine.specs.Tables.{Table}
+use Rattle.machine.specs.Images
+use Rattle.machine.specs.Calls.{Called}
+use Rattle.machine.specs.Exports.{partsAnswerOf, wordAnswerOf, freshIn, Loaded, unread, readIn, printedIn}
+use Rattle.machine.proofs.Benchmarks.{exampleInput, exampleText, example-printed}
+
+-- ---- event words
+
+pub apart-examples :
+    (partsAnswerOf 0x5003000A ≡ record { refusal = 0; kind = 5; process = 3; argument = 10 })
+    × (partsAnswerOf 0x6003000A ≡ record { refusal = 8; kind = 0; process = 0; argument = 0 })
+    × (partsAnswerOf 0x50100000 ≡ record { refusal = 9; kind = 0; process = 0; argument = 0 })
+apart-examples = (refl, refl, refl)
+
+pub together-examples :
+    (wordAnswerOf 5 3 10 ≡ record { refusal = 0; word = 0x5003000A })
+    × (wordAnswerOf 6 16 256 ≡ record { refusal = 8; word = 0 })
+    × (wordAnswerOf 5 16 256 ≡ record { refusal = 9; word = 0 })
+    × (wordAnswerOf 5 15 256 ≡ record { refusal = 11; word = 0 })
+together-examples = (refl, refl, refl, refl)
+
+-- ---- tables in lent rows, of which each holds something else before
+
+abbrev old : Table
+old = withAct 1 blank ∷ withAct 2 blank ∷ withAct 3 blank ∷ []
+
+pub fresh-examples :
+    (freshIn old ≡ record { refusal = 0; rows = idle ∷ idle ∷ idle ∷ [] })
+    × (freshIn (take 1 old) ≡ record { refusal = 6; rows = take 1 old })
+    × (freshIn (replicate 17 blank) ≡ record { refusal = 6; rows = replicate 17 blank })
+fresh-examples = (refl, refl, refl)
+
+-- process 0 at 30 and process 1 resting
+pub image : List ℕ
+image =
+    0x80000002 ∷ 0x90006200 ∷ 0xA0000000 ∷ 0xB0000000 ∷ 0xC0000000 ∷
+    0x90010000 ∷ 0xA0010000 ∷ 0xB0010000 ∷ 0xC0010000 ∷ 0xD0010000 ∷ []
+
+pub read : List ℕ → Table → Loaded
+unfolding image placed Images.rowSlots Images.turnSlots Images.slots Images.spareBody Images.inRange Images.slotRefusal
+    Images.firstRefusal Images.rowsIn Images.imageRefusal Images.tableIn readIn
+read ws l = readIn ws l
+
+-- the table in the first two rows, the third kept; one row too few; a cut image, for which no row suffices either
+pub read-examples :
+    (read image old
+    ≡ record {
+      answer = record { refusal = 0; place = 0; size = 2 };
+      rows =
+          record { location = 30; act = 1; bb = 0; level = 0; est = 0; lis = 0; ahead = 0; turn = 0 } ∷
+          idle ∷ withAct 3 blank ∷ [];
+    })
+    × (read image (take 1 old) ≡ unread (take 1 old) 13 0)
+    × (read (take 9 image) [] ≡ unread [] 2 9)
+unfolding read image
+read-examples = (refl, refl, refl)
+
+-- ---- the example of document 01 in 99 lent bytes, as many as its text has; in one more; in one fewer
+
+-- the text s in the lent bytes l
+abbrev laid : List ℕ → List ℕ → Called
+laid s l = record { number = length s; lent = elim (leb (length s) (length l)) [ false ↦ l | true ↦ placed l 0 s ] }
+
+printed-in : (l : List ℕ) → printedIn exampleInput l ≡ laid exampleText l
+unfolding printedIn
+printed-in l = ap (λ (s : List ℕ). laid s l) example-printed
+
+pub printed-examples :
+    (printedIn exampleInput (replicate 99 255) ≡ record { number = 99; lent = exampleText })
+    × (printedIn exampleInput (replicate 100 255) ≡ record { number = 99; lent = exampleText ++ (255 ∷ []) })
+    × (printedIn exampleInput (replicate 98 255) ≡ record { number = 99; lent = replicate 98 255 })
+unfolding exampleText placed
+printed-examples = (printed-in (replicate 99 255), printed-in (replicate 100 255), printed-in (replicate 98 255))

@@ -1,0 +1,154 @@
+-- How long the lines of a text are. Assumes nothing.
+use mathlib.Core.Path.{_≡_, refl, ap}
+use mathlib.Core.Bool.{Bool, true, false, not}
+use mathlib.Core.List.{List, [], _∷_, _++_}
+use Prim.Native.Nat.{ℕ, suc, _+_, _*_, _≤_, _<_}
+use native.Mathlib.Omega.{arith}
+use borrow.Author.Tests.{eqb-true, leb-true}
+use lib.Dec.{eqb, ltb, leb}
+use lib.ListN.{length, length-append}
+use Rattle.counting.proofs.CountLaws.{count-le}
+use Rattle.counting.proofs.TestLaws.{cond-le}
+use Rattle.machine.specs.Refusals.{accepted, tooManyWords, badBytes}
+use Rattle.machine.specs.Tables.{Table, row, tableRefusal, locations}
+use Rattle.machine.specs.Words.{kindOf, processOf, argumentOf, formed}
+use Rattle.machine.specs.Steps.{allowed, argumentFits, wordRefusal, refusalOf, afterWord}
+use Rattle.machine.specs.Census.{isCritical}
+use Rattle.machine.specs.Runs.{limit}
+use Rattle.machine.specs.Text.{inputText, imageText, postsText, doneText, stopText, line}
+use Rattle.machine.specs.Text.{wordLine, doneLine, stopLine, runLines}
+use Rattle.machine.proofs.OneOfLaws.{by-one}
+use Rattle.machine.proofs.SoundRows.{sound-row, sound-few}
+use Rattle.machine.proofs.Accepted.{accepted-says}
+use Rattle.machine.proofs.Soundness.{word-keeps-sound, word-keeps-length}
+use Rattle.text.specs.Running.{takes, lineOf, lineRoom, lastRoom, headRoom}
+use Rattle.text.proofs.LineLaws.{length-line}
+use Rattle.text.proofs.LineLaws.Within.{last, then}
+use Rattle.text.proofs.RunLaws.{lineOf-taken, lineOf-stopped, runLines-taken, runLines-stopped, runLines-done}
+
+-- ---- the last line
+
+pub length-doneLine : (i : ℕ) → i ≤ limit → length (doneLine i) ≤ lastRoom
+length-doneLine i few = let long = length-line doneText {ns = i ∷ []} (last 3 (omega arith)) in omega arith
+
+pub length-stopLine : (i n : ℕ) → i < limit → n < 100 → length (stopLine i n) ≤ lastRoom
+length-stopLine i n few small = length-line stopText (then 3 (omega arith) (last 1 (omega arith)))
+
+-- ---- what stands before the lines of a run
+
+pub length-input : length (line inputText (badBytes ∷ [])) ≤ headRoom
+length-input = let long = length-line inputText {ns = badBytes ∷ []} (last 1 (omega arith)) in omega arith
+
+pub length-image : (place why : ℕ) → place < 100 → why < 100 → length (line imageText (place ∷ why ∷ [])) ≤ headRoom
+length-image place why h k =
+    let long = length-line imageText {ns = place ∷ why ∷ []} (then 1 (omega arith) (last 1 (omega arith))) in
+    omega arith
+
+pub length-posts : (n : ℕ) → n ≤ 16 → length (line postsText (n ∷ [])) ≤ 9
+length-posts n few = length-line postsText (last 1 (omega arith))
+
+-- the first line and the last one
+pub length-many : (n : ℕ) → n ≤ 16 → length (line postsText (n ∷ []) ++ stopLine 0 tooManyWords) ≤ headRoom
+length-many n few =
+    omega (
+      arith,
+      length-append (line postsText (n ∷ [])) (stopLine 0 tooManyWords),
+      length-posts n few,
+      length-stopLine 0 tooManyWords (omega arith) (omega arith),
+    )
+
+-- ---- the line of a word
+
+module _ (t : Table) (sound : tableRefusal t ≡ 0) where
+  -- a sound row's location has two digits
+  location-low : (p : ℕ) → p < length t → row t p .location < 100
+  location-low p h =
+      let l = row t p .location in
+      let low : (v : ℕ) → leb v 99 ≡ true → l ≡ v → l < 100 = λ v small e. omega (arith, leb-true v 99 small) in
+      by-one l locations
+      (low _ refl, (low _ refl, (low _ refl, (low _ refl, (low _ refl, (low _ refl, (low _ refl, (low _ refl, tt))))))))
+      (sound-row t sound p h .location-known)
+
+  -- a word's refusal has two digits
+  refusal-low : (w : ℕ) → refusalOf t w ≤ 11
+  unfolding refusalOf wordRefusal
+  refusal-low w =
+      let k = kindOf w in
+      let p = processOf w in
+      let at = cond-le (not (argumentFits (length t) k (row t p) (argumentOf w))) 11 0 11 (omega arith) (omega arith) in
+      let there = cond-le (not (allowed k (row t p))) 10 _ 11 (omega arith) at in
+      let known = cond-le (not (ltb p (length t))) 9 _ 11 (omega arith) there in
+      let word = cond-le (not (formed w)) 8 _ 11 (omega arith) known in
+      cond-le (eqb (tableRefusal t) accepted) _ (tableRefusal t) 11 word (omega (arith, sound))
+
+module _ (t : Table) (i w : ℕ) (sound : tableRefusal t ≡ 0) (few : i < limit) where
+  length-taken : takes t w ≡ true → length (lineOf t i w) ≤ lineRoom
+  length-taken e =
+      let p = processOf w in
+      let u = afterWord t w in
+      let says = accepted-says t w (eqb-true (refusalOf t w) 0 e) in
+      let same = word-keeps-length t w in
+      let before = location-low t sound p (says .process-in) in
+      let after = location-low u (word-keeps-sound t w sound) p (omega (arith, says .process-in)) in
+      let inside = count-le (λ q. isCritical (row u q)) (length u) in
+      let most = sound-few t sound in
+      let long : length (wordLine t i w) ≤ lineRoom =
+      length-line []
+      (then 3 (omega arith)
+      (then 1 (omega (arith, says .process-in))
+      (then 1 (omega arith)
+      (then 1 (omega arith)
+      (last 1 (omega arith)))))) in
+      omega (arith, ap length (lineOf-taken t i w e))
+
+  length-stopped : takes t w ≡ false → length (lineOf t i w) ≤ lastRoom
+  length-stopped e =
+      let why = refusalOf t w in
+      let long = length-stopLine i why few (omega (arith, refusal-low t sound w)) in
+      omega (arith, ap length (lineOf-stopped t i w e))
+
+  -- of either
+  pub length-lineOf : length (lineOf t i w) ≤ lineRoom
+  length-lineOf = go (takes t w) refl where
+    go : (b : Bool) → takes t w ≡ b → length (lineOf t i w) ≤ lineRoom
+    go true e = length-taken e
+    go false e = omega (arith, length-stopped e)
+
+-- ---- the lines of a run
+
+-- the first of them is one of them
+pub line-within : (t : Table) (i w : ℕ) (ws : List ℕ) → length (lineOf t i w) ≤ length (runLines t i (w ∷ ws))
+line-within t i w ws = go (takes t w) refl where
+  go : (b : Bool) → takes t w ≡ b → length (lineOf t i w) ≤ length (runLines t i (w ∷ ws))
+  go true e =
+      omega (
+        arith,
+        ap length (runLines-taken t i w ws e),
+        length-append (lineOf t i w) (runLines (afterWord t w) (suc i) ws),
+      )
+  go false e = omega (arith, ap length (runLines-stopped t i w ws e))
+
+-- a line for each word, and the last one
+pub length-runLines : (t : Table) (i : ℕ) (ws : List ℕ) → tableRefusal t ≡ 0 → i + length ws ≤ limit
+    → length (runLines t i ws) ≤ lineRoom * length ws + lastRoom
+length-runLines t i [] sound few = omega (arith, ap length (runLines-done t i), length-doneLine i (omega arith))
+length-runLines t i (w ∷ ws) sound few =
+    go (length-runLines (afterWord t w) (suc i) ws (word-keeps-sound t w sound) (omega arith)) (takes t w) refl
+  where
+    u : Table
+    u = afterWord t w
+
+    first : i < limit
+    first = omega arith
+
+    go : length (runLines u (suc i) ws) ≤ lineRoom * length ws + lastRoom
+        → (b : Bool) → takes t w ≡ b
+        → length (runLines t i (w ∷ ws)) ≤ lineRoom * suc (length ws) + lastRoom
+    go rest true e =
+        omega (
+          arith,
+          ap length (runLines-taken t i w ws e),
+          length-append (lineOf t i w) (runLines u (suc i) ws),
+          length-lineOf t i w sound first,
+        )
+    go rest false e = omega (arith, ap length (runLines-stopped t i w ws e), length-stopped t i w sound first e)

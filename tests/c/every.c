@@ -1,0 +1,35 @@
+/* Every function of the header from C, on good and on refused arguments, each lent array between guards. Expected answers are
+   written by hand from document 01 and the header. call.c has more of zaguypo_run, rows.c of step and run on rows. */
+#include "layout.h"
+#include "check.h"
+#include "lend.h"
+
+/* its parts, in order */
+#include "every/tables.h"
+#include "every/words.h"
+#include "every/fresh.h"
+#include "every/census.h"
+#include "every/images.h"
+#include "every/read.h"
+#include "every/write.h"
+#include "every/print.h"
+#include "every/runs.h"
+
+/* the version as text and as three numbers */
+static void version(void) {
+    char text[64];
+    sprintf(text, "%d.%d.%d", ZAGUYPO_VERSION_MAJOR, ZAGUYPO_VERSION_MINOR, ZAGUYPO_VERSION_PATCH);
+    check("version", strcmp(text, ZAGUYPO_VERSION) == 0);
+}
+
+int main(void) {
+    version();
+    words();
+    fresh();
+    census();
+    read_images();
+    write_images();
+    print();
+    runs();
+    return done("every");
+}

@@ -1,0 +1,77 @@
+// Every function of the header from C++: each is called, and what it answers is used by the next. The expected answers are
+// document 01's, for a fresh table of three processes and COME and GO of process 1.
+#include "layout.h"
+#include "check.h"
+
+#include <algorithm>
+#include <array>
+#include <string>
+#include <vector>
+
+namespace {
+
+using Table = std::array<zaguypo_row, 3>;
+using Image = std::array<uint32_t, ZAGUYPO_IMAGE_WORDS(3)>;
+
+struct Words {
+    uint32_t come, go;
+};
+
+// together, apart
+Words put_together() {
+    const zaguypo_word come = zaguypo_together(2, 1, 0), go = zaguypo_together(4, 1, 0);
+    check("together", come.refusal == 0 && come.word == 0x20010000 && go.word == 0x40010000);
+    const zaguypo_parts parts = zaguypo_apart(go.word);
+    check("apart", parts.refusal == 0 && parts.kind == 4 && parts.process == 1 && parts.argument == 0);
+    return {come.word, go.word};
+}
+
+// fresh, step, run_rows, census
+void step_rows(const Words &words) {
+    Table rows{};
+    check("fresh", zaguypo_fresh(rows.data(), rows.size()) == 0 && rows[0].location == 10 && rows[2].location == 10);
+    check("step", zaguypo_step(rows.data(), rows.size(), words.come).refusal == 0 && rows[1].location == 20);
+    zaguypo_tally tally{};
+    const zaguypo_ran ran = zaguypo_run_rows(rows.data(), rows.size(), &words.go, 1, &tally);
+    check("run_rows", ran.taken == 1 && ran.refusal == 0 && rows[1].location == 21 && rows[1].est == 5);
+    check("tally", tally.words == 1 && tally.comes == 0 && tally.arrivals == 0);
+    const zaguypo_figures figures = zaguypo_census(rows.data(), rows.size());
+    check("census", figures.refusal == 0 && figures.critical == 0 && figures.waiting == 1);
+    check("census at k", figures.below[2] == 0 && figures.below[3] == 1 && figures.held[0] == 0 && figures.held[1] == 1);
+}
+
+// write, read
+Image images() {
+    Table rows{}, again{};
+    Image image{};
+    zaguypo_fresh(rows.data(), rows.size());
+    check("write", zaguypo_write(rows.data(), rows.size(), image.data(), image.size()) == 0);
+    check("image", image[0] == 0x80000003 && image[5] == 0x90010000 && image[14] == 0xD0020000);
+    const zaguypo_reading reading = zaguypo_read(image.data(), image.size(), again.data(), again.size());
+    check("read", reading.refusal == 0 && reading.place == 0 && reading.size == 3 && again[2].location == 10);
+    return image;
+}
+
+// run, print
+void run_bytes(const Image &image, const Words &words) {
+    std::vector<uint32_t> all(image.begin(), image.end());
+    all.insert(all.end(), {words.come, words.go});
+    std::vector<uint8_t> input, after(ZAGUYPO_IMAGE_BYTES(3));
+    for (uint32_t word : all)
+        for (int shift = 0; shift < 32; shift += 8) input.push_back(static_cast<uint8_t>(word >> shift));
+    check("run", zaguypo_run(input.data(), input.size(), after.data(), after.size()) == 2 * 256);
+    const std::vector<uint8_t> moved{0x02, 0x22, 0x01, 0x90};
+    check("run, process 1 at 21, act 1, level 2", std::equal(moved.begin(), moved.end(), after.begin() + 20));
+    std::string text(zaguypo_print(input.data(), input.size(), nullptr, 0), ' ');
+    zaguypo_print(input.data(), input.size(), text.data(), text.size());
+    check("print", text == "posts 3\n0 1 10 20 0\n1 1 20 21 0\ndone 2\n");
+}
+
+} // namespace
+
+int main() {
+    const Words words = put_together();
+    step_rows(words);
+    run_bytes(images(), words);
+    return done("every.cc");
+}

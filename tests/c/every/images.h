@@ -1,0 +1,36 @@
+/* Images for reading and writing: one written by hand, and those of any table. */
+
+/* three processes, every cell with something in it */
+static const struct zaguypo_row THREE[3] = {{22, 1, 1, 2, 6, 4, 3, 0}, {24, 0, 1, 1, 5, 0, 1, 2}, {30, 1, 0, 0, 1, 2, 7, 1}};
+static const uint32_t THREE_IMAGE[15] = {0x80000003, 0x90003302, 0xA0000006, 0xB0000004, 0xC0000003,
+                                         0x90015101, 0xA0010005, 0xB0010000, 0xC0010001, 0x90026200,
+                                         0xA0020001, 0xB0020002, 0xC0020007, 0xD0010002, 0xD0020001};
+
+static uint32_t code_of(uint16_t location) {
+    uint32_t code = 0;
+    while (LOCATIONS[code] != location) code++;
+    return code;
+}
+
+/* the image of a sound table, from document 01, "Images"; answers its number of words */
+static size_t image_of(uint32_t *words, const struct zaguypo_row *rows, uint32_t n) {
+    size_t count = 0;
+    words[count++] = 0x80000000 + n;
+    for (uint32_t q = 0; q < n; q++) {
+        const struct zaguypo_row *r = &rows[q];
+        uint32_t flags = (uint32_t)r->act << 9 | (uint32_t)r->bb << 8;
+        words[count++] = 0x90000000 | q << 16 | code_of(r->location) << 12 | flags | r->level;
+        words[count++] = 0xA0000000 | q << 16 | r->est;
+        words[count++] = 0xB0000000 | q << 16 | r->lis;
+        words[count++] = 0xC0000000 | q << 16 | r->ahead;
+    }
+    for (uint32_t k = 1; k < n; k++) words[count++] = 0xD0000000 | k << 16 | rows[k].turn;
+    return count;
+}
+
+/* the image of n idle processes */
+static size_t idle_image(uint32_t *words, uint32_t n) {
+    struct zaguypo_row rows[MOST];
+    idle_rows(rows, MOST);
+    return image_of(words, rows, n);
+}

@@ -1,0 +1,143 @@
+/* zaguypo_print: texts written out from document 01, each into exactly enough bytes, one more, one fewer and none. */
+
+enum { LONG_TEXT = 150000 };
+
+static uint8_t print_input[ZAGUYPO_INPUT_BYTES + 8];
+static size_t print_length;
+
+static void print_start(void) { print_length = 0; }
+static void print_word(uint32_t word) {
+    for (int i = 0; i < 4; i++) print_input[print_length++] = (uint8_t)(word >> 8 * i);
+}
+static void print_words(const uint32_t *words, size_t count) {
+    for (size_t i = 0; i < count; i++) print_word(words[i]);
+}
+/* an input that starts with the image of n idle processes */
+static void print_idle(uint32_t n) {
+    uint32_t words[ZAGUYPO_IMAGE_WORDS(16)];
+    print_start();
+    print_words(words, idle_image(words, n));
+}
+
+/* The text fills the first of the lent bytes, or none of them changes; its length is the answer either way. */
+static void prints_into(const char *what, const char *text, size_t length, size_t bytes) {
+    struct lent input = lend(print_input, print_length), lent = lend(NULL, bytes);
+    if (bytes >= length) must_hold(&lent, text, length);
+    size_t answer =
+        zaguypo_print((const uint8_t *)lent_memory(&input), print_length, (char *)lent_memory(&lent), bytes);
+    check(what, answer == length);
+    check(what, given_back(&lent));
+    check(what, given_back(&input));
+}
+
+static void prints(const char *what, const char *text) {
+    size_t length = strlen(text);
+    prints_into(what, text, length, 0);
+    prints_into(what, text, length, 1);
+    prints_into(what, text, length, length - 1);
+    prints_into(what, text, length, length);
+    prints_into(what, text, length, length + 1);
+    prints_into(what, text, length, length + 100);
+}
+
+static void print_example(void) {
+    static const uint32_t seven[7] = {0x20000000, 0x40000000, 0x40000000, 0x50000001, 0x40000000, 0x40000000, 0x40000000};
+    print_idle(2);
+    prints("no words", "posts 2\ndone 0\n");
+    print_words(seven, 7);
+    prints("the example",
+           "posts 2\n"
+           "0 0 10 20 0\n"
+           "1 0 20 21 0\n"
+           "2 0 21 22 0\n"
+           "3 0 22 22 0\n"
+           "4 0 22 23 0\n"
+           "5 0 23 21 0\n"
+           "6 0 21 30 1\n"
+           "done 7\n");
+    for (int more = 0; more < 3; more++) {
+        print_length++;
+        prints("bytes past the last word", "input 14\n");
+    }
+}
+
+/* the image of two idle processes with one word changed */
+static void print_changed(const char *what, size_t place, uint32_t word, const char *text) {
+    uint32_t words[10];
+    idle_image(words, 2);
+    words[place] = word;
+    print_start(), print_words(words, 10), prints(what, text);
+}
+
+static void print_bad_images(void) {
+    print_start(), prints("no bytes", "image 0 1\n");
+    print_length = 3, prints("3 bytes", "input 14\n");
+    print_start(), print_word(0x80000010), prints("a header alone", "image 1 2\n");
+    print_idle(2), print_length -= 4, prints("a cut image of 2", "image 9 2\n");
+    print_idle(16), print_length -= 4, prints("a cut image of 16", "image 79 2\n");
+    print_changed("header of 1", 0, 0x80000001, "image 0 1\n");
+    print_changed("header of 17", 0, 0x80000011, "image 0 1\n");
+    print_changed("number of another process", 6, 0xA0000000, "image 6 3\n");
+    print_changed("turn 2 of 2", 9, 0xD0010002, "image 9 4\n");
+    print_changed("level 0 at 22", 1, 0x90003000, "image 1 5\n");
+}
+
+/* a word that stops a run after two others */
+static void print_stop(const char *what, uint32_t word, const char *last) {
+    char text[64] = "posts 3\n0 2 10 10 0\n1 0 10 20 0\n";
+    print_idle(3);
+    print_word(0x10020000), print_word(0x20000000), print_word(word), print_word(0x10010000);
+    prints(what, strcat(text, last));
+}
+
+static void print_stops(void) {
+    print_stop("kind 0", 0x00000000, "stop 2 8\n");
+    print_stop("kind 6", 0x60000000, "stop 2 8\n");
+    print_stop("spare bit 8", 0x10010100, "stop 2 8\n");
+    print_stop("process 3 of 3", 0x10030000, "stop 2 9\n");
+    print_stop("COME at 20", 0x20000000, "stop 2 10\n");
+    print_stop("COME with an argument", 0x20010001, "stop 2 11\n");
+}
+
+/* Two processes and STAYs: 8,192 are taken, more are not, and past 33,088 bytes there is no input. */
+static void print_limits(void) {
+    static char text[LONG_TEXT];
+    char *at = text + sprintf(text, "posts 2\n");
+    print_idle(2);
+    for (unsigned i = 0; i < 8192; i++) {
+        print_word(0x10010000);
+        at += sprintf(at, "%u 1 10 10 0\n", i);
+    }
+    sprintf(at, "done 8192\n");
+    prints("8,192 words", text);
+    print_word(0x10010000), prints("8,193 words", "posts 2\nstop 0 12\n");
+    while (print_length < ZAGUYPO_INPUT_BYTES) print_word(0x10010000);
+    prints("33,088 bytes", "posts 2\nstop 0 12\n");
+    print_word(0x10010000), prints("33,092 bytes", "input 14\n");
+}
+
+/* The longest text of all, 138,173 bytes: 15 processes are at 30, and the last of 16 stays for the longest run. */
+static void print_longest(void) {
+    static char text[LONG_TEXT];
+    uint32_t words[ZAGUYPO_IMAGE_WORDS(16)];
+    idle_image(words, 16);
+    for (int q = 0; q < 15; q++) words[1 + 4 * q] |= 0x6200;
+    print_start(), print_words(words, 80);
+    char *at = text + sprintf(text, "posts 16\n");
+    for (unsigned i = 0; i < 8192; i++) {
+        print_word(0x100F0000);
+        at += sprintf(at, "%u 15 10 10 15\n", i);
+    }
+    sprintf(at, "done 8192\n");
+    check("the longest input", print_length == ZAGUYPO_INPUT_BYTES);
+    check("room for every text", strlen(text) <= ZAGUYPO_TEXT_BYTES);
+    prints("the longest text", text);
+}
+
+static void print(void) {
+    print_example();
+    print_bad_images();
+    print_stops();
+    print_limits();
+    print_longest();
+}

@@ -1,0 +1,103 @@
+//! The calls on bytes: the run, the printed run, and its text in lent bytes.
+
+use super::calls::{take_words, too_many};
+use super::image::{header, read, write};
+use super::Fault;
+
+/// The words of an input, or 14.
+fn words_in(bytes: &[u8], fault: Fault) -> Result<Vec<u32>, u16> {
+    let odd = bytes.len() % 4 != 0 && fault != Fault::OddBytesDropped;
+    if odd || (bytes.len() > 33_088 && fault != Fault::ByteLimitIgnored) {
+        return Err(14);
+    }
+    let value = |word: &[u8]| (0..4).map(|i| u32::from(word[i]) * 256u32.pow(i as u32)).sum();
+    Ok(bytes.chunks_exact(4).map(value).collect())
+}
+
+/// The image and the event words of an input.
+fn divide(words: &[u32]) -> (&[u32], &[u32]) {
+    match header(words) {
+        Some(n) if words.len() > 5 * n => (&words[..5 * n], &words[5 * n..]),
+        _ => (words, &[]),
+    }
+}
+
+pub fn c_call(input: &[u8], lent: &mut [u8], fault: Fault) -> u64 {
+    let words = match words_in(input, fault) {
+        Ok(words) => words,
+        Err(refusal) => return refusal.into(),
+    };
+    let (image, events) = divide(&words);
+    let mut system = match read(image, fault) {
+        Ok(system) => system,
+        Err((refusal, _)) => return refusal.into(),
+    };
+    let lent_too_few = lent.len() < 20 * system.n() || (fault == Fault::LentMustBeWords && lent.len() % 4 != 0);
+    if lent_too_few && fault == Fault::LentBeforeWordCount {
+        return 13;
+    }
+    if too_many(events.len(), fault) {
+        return 12;
+    }
+    if lent_too_few {
+        return 13;
+    }
+    let ran = take_words(&mut system, events, fault, |_, _| ());
+    if !(fault == Fault::NoImageOnStop && ran.refusal != 0) {
+        for (place, word) in write(&system).iter().enumerate() {
+            for i in 0..4 {
+                lent[4 * place + i] = (word / 256u32.pow(i as u32) % 256) as u8;
+            }
+        }
+        if fault == Fault::ImageFillsAllLent {
+            lent[20 * system.n()..].fill(0);
+        }
+    }
+    256 * u64::from(ran.taken) + u64::from(ran.refusal)
+}
+
+pub fn text(input: &[u8], fault: Fault) -> String {
+    let words = match words_in(input, fault) {
+        Ok(words) => words,
+        Err(refusal) => return format!("input {refusal}\n"),
+    };
+    let (image, events) = divide(&words);
+    let mut system = match read(image, fault) {
+        Ok(system) => system,
+        Err((refusal, place)) => return format!("image {place} {refusal}\n"),
+    };
+    let mut out = format!("posts {}\n", system.n());
+    if too_many(events.len(), fault) {
+        return out + "stop 0 12\n";
+    }
+    let mut place = 0;
+    let ran = take_words(&mut system, events, fault, |system, moved| {
+        let inside = system.at_30(fault);
+        out += &format!("{place} {} {} {} {inside}\n", moved.process, moved.before, moved.after);
+        place += 1;
+    });
+    if ran.refusal == 0 {
+        out + &format!("done {}\n", ran.taken)
+    } else {
+        out + &format!("stop {} {}\n", ran.taken, ran.refusal)
+    }
+}
+
+/// The length of the text; the text stands at the start of the lent bytes where they hold all of it.
+pub fn print(input: &[u8], lent: &mut [u8], fault: Fault) -> usize {
+    let text = text(input, fault).into_bytes();
+    let needed = if fault == Fault::PrintNeedsOneByteMore { text.len() + 1 } else { text.len() };
+    let fits = needed <= lent.len();
+    if !fits && fault == Fault::PrintAnswers0WhenShort {
+        return 0;
+    }
+    for (place, &byte) in text.iter().enumerate() {
+        if fits || (fault == Fault::PrintPartWhenShort && place < lent.len()) {
+            lent[place] = byte;
+        }
+    }
+    if fault == Fault::PrintZeroAfterText && lent.len() > text.len() {
+        lent[text.len()] = 0;
+    }
+    text.len()
+}
