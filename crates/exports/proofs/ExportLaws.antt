@@ -1,11 +1,11 @@
 -- What the lent rows hold, by the cases of machine/specs/Exports. Assumes nothing.
 use Prim.Native.Nat.{ℕ, _≤_, _<_}
-use mathlib.Core.Path.{_≡_, refl, sym, ap, _∙_}
+use mathlib.Core.Path.{_≡_, refl, ap}
 use mathlib.Core.Bool.{Bool, true, false, _||_}
 use mathlib.Core.Logic.{⊎-elim}
 use mathlib.Core.List.{List}
 use native.Mathlib.Omega.{arith}
-use lib.Dec.{eqb, leb, ltb}
+use lib.Dec.{ltb}
 use lib.ListN.{length}
 use borrow.Author.Tests.{ltb-true, le-leb, lt-leb, eq-eqb, ne-eqb}
 use Rattle.counting.specs.Placing.{placed}
@@ -13,7 +13,7 @@ use Rattle.counting.proofs.TestLaws.{or-cases}
 use Rattle.machine.specs.Refusals.{accepted, wrongSize, tooFewLent}
 use Rattle.machine.specs.Tables.{Table, freshTable}
 use Rattle.machine.specs.Images.{imageRefusal, tableIn}
-use Rattle.machine.specs.Exports.{Made, freshIn, Loaded, unread, loaded, readIn}
+use Rattle.machine.specs.Exports.{freshIn, Loaded, unread, loaded, readIn}
 
 -- ---- a fresh table
 

@@ -1,13 +1,13 @@
 -- An output that was cut can be told from a whole one: `isWhole` holds of every text, and of no part of one that lacks its
 -- end. Assumes nothing.
-use Prim.Native.Nat.{ℕ, zero, suc, _+_, _/_, _%_, _≤_, _<_}
+use Prim.Native.Nat.{ℕ, zero, suc, _+_, _/_, _%_, _≤_}
 use mathlib.Core.Path.{_≡_, refl, sym, ap, subst, _∙_}
 use mathlib.Core.Bool.{Bool, true, false, false≢true, cond}
 use mathlib.Core.List.{List, [], _∷_, _++_, append-assoc, append-nil}
 use native.Mathlib.Omega.{arith}
 use lib.Dec.{eqb, ltb}
 use lib.ListN.{length}
-use borrow.Author.Tests.{ne-eqb, ltb-true, ltb-false}
+use borrow.Author.Tests.{ne-eqb, ltb-true}
 use Rattle.machine.specs.Refusals.{accepted, tooManyWords, badBytes}
 use Rattle.machine.specs.Tables.{Table}
 use Rattle.machine.specs.Steps.{refusalOf, afterWord}
@@ -19,7 +19,7 @@ use Rattle.machine.specs.Text
 
 -- no byte is a line feed
 abbrev pub Plain : List ℕ → Type 0
-Plain [] = 0 ≤ 0
+Plain [] = Unit {0}
 Plain (b ∷ l) = (eqb b 10 ≡ false) × Plain l
 
 -- of a fixed text, by one test
@@ -28,7 +28,7 @@ isPlain [] = true
 isPlain (b ∷ l) = cond (eqb b 10) false (isPlain l)
 
 plain-of : (l : List ℕ) → isPlain l ≡ true → Plain l
-plain-of [] e = omega arith
+plain-of [] e = tt
 plain-of (b ∷ l) e = by (eqb b 10) refl e (plain-of l)
   where
     by : (k : Bool) → eqb b 10 ≡ k → cond k false (isPlain l) ≡ true → (isPlain l ≡ true → Plain l)
@@ -97,7 +97,7 @@ sealed-line f l s p after = record { whole = all; cut = part }
 
 -- every byte is a digit
 abbrev Digits : List ℕ → Type 0
-Digits [] = 0 ≤ 0
+Digits [] = Unit {0}
 Digits (b ∷ l) = (48 ≤ b) × (b ≤ 57) × Digits l
 
 digits-append : (l m : List ℕ) → Digits l → Digits m → Digits (l ++ m)
@@ -119,14 +119,14 @@ digit-begins b low high =
 
 number-digits : (k n : ℕ) → Digits (Text.digits k n)
 unfolding Text.digits
-number-digits zero n = omega arith
+number-digits zero n = tt
 number-digits (suc k) n = by (number-digits k (n / 10)) (ltb n 10) refl
   where
     by : Digits (Text.digits k (n / 10)) → (b : Bool) → ltb n 10 ≡ b
         → Digits (elim b [ true ↦ (48 + n) ∷ [] | false ↦ Text.digits k (n / 10) ++ ((48 + n % 10) ∷ []) ])
-    by tenth true e = let small = ltb-true n 10 e in (omega arith, omega arith, omega arith)
+    by tenth true e = let small = ltb-true n 10 e in (omega arith, omega arith, tt)
     by tenth false e =
-        digits-append (Text.digits k (n / 10)) ((48 + n % 10) ∷ []) tenth (omega arith, omega arith, omega arith)
+        digits-append (Text.digits k (n / 10)) ((48 + n % 10) ∷ []) tenth (omega arith, omega arith, tt)
 
 -- a number has a first digit
 record Begins (l : List ℕ) : Type 0 where
@@ -148,7 +148,7 @@ number-begins n = by (ltb n 10)
 
 spaced-plain : (ns : List ℕ) → Plain (Text.spaced ns)
 unfolding Text.spaced
-spaced-plain [] = omega arith
+spaced-plain [] = tt
 spaced-plain (n ∷ []) = digits-plain (Text.decimal n) (number-digits 20 n)
 spaced-plain (n ∷ m ∷ ns) =
     plain-append (Text.decimal n) (32 ∷ Text.spaced (m ∷ ns)) (digits-plain (Text.decimal n) (number-digits 20 n))
@@ -186,7 +186,7 @@ sealed-numbers n m ns r after =
     let d = number-begins n in
     let digit = subst Digits (d .is) (number-digits 20 n) in
     sealed-then [] (n ∷ m ∷ ns) r (d .first) (d .rest ++ (32 ∷ Text.spaced (m ∷ ns)))
-    (ap (λ (l : List ℕ). l ++ (32 ∷ Text.spaced (m ∷ ns))) (d .is)) (omega arith)
+    (ap (λ (l : List ℕ). l ++ (32 ∷ Text.spaced (m ∷ ns))) (d .is)) tt
     (subst (λ (b : Bool). Sealed b r) (sym (digit-begins (d .first) (digit .0) (digit .1))) after)
 
 sealed-stop : (i why : ℕ) → Sealed false (Text.stopLine i why)

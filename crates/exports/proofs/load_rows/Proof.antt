@@ -1,11 +1,9 @@
 -- `load_rows` meets its contract. Assumes nothing.
-use mathlib.Core.Path.{_≡_, sym, ap, _∙_}
+use mathlib.Core.Path.{sym, ap, _∙_}
 use Prim.Native.Nat.{ℕ}
-use lib.ListN.{length}
 use native.Mathlib.Omega.{arith}
 use Rattle.machine.specs.Refusals.{accepted}
 use Rattle.machine.specs.Exports.{Loaded}
-use Rattle.machine.specs.declared.ReadAnswer.{ReadAnswer}
 use Rattle.cells.specs.View.{rowsOf}
 use Rattle.cells.proofs.ViewLaws.{rows-length}
 use Rattle.exports.proofs.ExportLaws.{loaded-short, loaded-all}
