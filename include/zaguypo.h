@@ -50,9 +50,9 @@ extern "C" {
    8 to 11, the image of the table after the words taken fills the first 20N lent bytes, and no others change. */
 uint64_t zaguypo_run(const uint8_t *input, size_t input_len, uint8_t *image, size_t image_len);
 
-/* The text that zaguypo-replay prints for an input. Answers its length, which is 1 to ZAGUYPO_TEXT_BYTES. Where text_len is at
-   least that, the text fills the first lent bytes, with no zero after it, and no others change; where text_len is less, every
-   lent byte is as given. */
+/* The text that the printing program, zaguypo-replay, prints for an input. Answers its length, which is 1 to
+   ZAGUYPO_TEXT_BYTES. Where text_len is at least that, the text fills the first lent bytes, with no zero after it, and no others
+   change; where text_len is less, every lent byte is as given. */
 size_t zaguypo_print(const uint8_t *input, size_t input_len, char *text, size_t text_len);
 
 /* ---- tables of rows */
