@@ -17,7 +17,7 @@ DESTDIR ?=
 .PHONY: run test edits lib install uninstall bench fuzz fmt
 
 run:
-	@tools/run-example $(INPUT)
+	@tools/run-example $(if $(INPUT),"$(INPUT)")
 
 test:
 	@tests/all
