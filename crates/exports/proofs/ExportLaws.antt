@@ -1,36 +1,30 @@
 -- What the lent rows hold, by the cases of machine/specs/Exports. Assumes nothing.
 use Prim.Native.Nat.{ℕ, _≤_, _<_}
 use mathlib.Core.Path.{_≡_, refl, ap}
-use mathlib.Core.Bool.{Bool, true, false, _||_}
-use mathlib.Core.Logic.{⊎-elim}
+use mathlib.Core.Bool.{Bool, true, false, cond, _||_}
 use mathlib.Core.List.{List}
-use native.Mathlib.Omega.{arith}
 use lib.Dec.{ltb}
 use lib.ListN.{length}
-use borrow.Author.Tests.{ltb-true, le-leb, lt-leb, eq-eqb, ne-eqb}
+use borrow.Author.Tests.{le-leb, lt-leb, eq-eqb, ne-eqb}
 use Rattle.counting.specs.Placing.{placed}
-use Rattle.counting.proofs.TestLaws.{or-cases}
 use Rattle.machine.specs.Refusals.{accepted, wrongSize, tooFewLent}
 use Rattle.machine.specs.Tables.{Table, freshTable}
 use Rattle.machine.specs.Images.{imageRefusal, tableIn}
-use Rattle.machine.specs.Exports.{freshIn, Loaded, unread, loaded, readIn}
+use Rattle.cells.proofs.FreshLaws.{size-in, size-out}
+use Rattle.machine.specs.Exports.{Made, freshIn, Loaded, unread, loaded, readIn}
 
 -- ---- a fresh table
 
-pub made-in : (l : Table) → 2 ≤ length l → length l ≤ 16
-    → freshIn l ≡ record { refusal = accepted; rows = freshTable (length l) }
-made-in l a b = rw (le-leb 2 (length l) a, le-leb (length l) 16 b) refl
+module _ (l : Table) where
+  abbrev made : Bool → Made
+  made b =
+      cond b (record { refusal = accepted; rows = freshTable (length l) }) (record { refusal = wrongSize; rows = l })
 
-pub not-made : (l : Table) → (ltb (length l) 2 || ltb 16 (length l)) ≡ true
-    → freshIn l ≡ record { refusal = wrongSize; rows = l }
-not-made l h = ⊎-elim few many (or-cases (ltb (length l) 2) (ltb 16 (length l)) h)
-  where
-    few : ltb (length l) 2 ≡ true → freshIn l ≡ record { refusal = wrongSize; rows = l }
-    few e = rw (lt-leb 2 (length l) (ltb-true (length l) 2 e)) refl
+  pub made-in : 2 ≤ length l → length l ≤ 16 → freshIn l ≡ made true
+  made-in a b = ap made (size-in (length l) a b)
 
-    many : ltb 16 (length l) ≡ true → freshIn l ≡ record { refusal = wrongSize; rows = l }
-    many e =
-        let m = ltb-true 16 (length l) e in rw (le-leb 2 (length l) (omega arith), lt-leb (length l) 16 m) refl
+  pub not-made : (ltb (length l) 2 || ltb 16 (length l)) ≡ true → freshIn l ≡ made false
+  not-made h = ap made (size-out (length l) h)
 
 -- ---- a table read
 

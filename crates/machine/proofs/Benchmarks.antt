@@ -18,6 +18,7 @@ use Rattle.machine.specs.Bytes.{wordsIn, bytesOf, bytesLimit}
 use Rattle.machine.specs.Inputs.{Input, wordsHold, inputOf}
 use Rattle.machine.specs.Calls.{Called, ranCall, callFor, callOf}
 use Rattle.machine.specs.Text.{digits, spaced, runLines, textOf, printed}
+use Rattle.machine.specs.Exports.{printedIn}
 
 -- ---- evaluation
 
@@ -244,7 +245,7 @@ pub exampleInput : List ℕ
 unfolding freshTwo two threeWords bytesOf
 exampleInput = bytesOf (freshTwo ++ threeWords ++ (0x50000001 ∷ 0x40000000 ∷ 0x40000000 ∷ 0x40000000 ∷ []))
 
-unfoldable pub exampleText : List ℕ
+pub exampleText : List ℕ
 exampleText =
     -- posts 2
     112 ∷ 111 ∷ 115 ∷ 116 ∷ 115 ∷ 32 ∷ 50 ∷ 10 ∷
@@ -268,6 +269,15 @@ exampleText =
 pub example-printed : printed exampleInput ≡ exampleText
 unfolding exampleInput exampleText evaluated passes printed digits spaced runLines textOf inputOf wordsHold wordsIn
 example-printed = refl
+
+-- and in 99 lent bytes, as many as it has; in one more; in one fewer
+pub printed-examples :
+    (printedIn exampleInput (replicate 99 255) ≡ record { number = 99; lent = exampleText })
+    × (printedIn exampleInput (replicate 100 255) ≡ record { number = 99; lent = exampleText ++ (255 ∷ []) })
+    × (printedIn exampleInput (replicate 98 255) ≡ record { number = 99; lent = replicate 98 255 })
+unfolding exampleInput exampleText evaluated passes printed digits spaced runLines textOf inputOf wordsHold wordsIn
+    placed printedIn
+printed-examples = (refl, refl, refl)
 
 pub exampleCall : Called
 unfolding exampleInput evaluated passes callOf callFor ranCall placed inputOf wordsHold wordsIn

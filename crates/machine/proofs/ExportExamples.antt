@@ -1,17 +1,14 @@
--- What C gets, evaluated: one example for each case of specs/Exports. Assumes nothing.
+-- What C gets, evaluated: an example for each case of specs/Exports; that of the printed run is in Benchmarks.
+-- Assumes nothing.
 use Prim.Native.Nat.{ℕ}
-use mathlib.Core.Path.{_≡_, refl, ap}
-use mathlib.Core.Bool.{true, false}
-use mathlib.Core.List.{List, [], _∷_, _++_}
-use lib.Dec.{leb}
-use lib.ListN.{length, replicate, take}
+use mathlib.Core.Path.{_≡_, refl}
+use mathlib.Core.List.{List, [], _∷_}
+use lib.ListN.{replicate, take}
 use Rattle.counting.specs.Placing.{placed}
 use Rattle.machine.specs.Rows.{idle, blank, withAct}
 use Rattle.machine.specs.Tables.{Table}
 use Rattle.machine.specs.Images
-use Rattle.machine.specs.Calls.{Called}
-use Rattle.machine.specs.Exports.{partsAnswerOf, wordAnswerOf, freshIn, Loaded, unread, readIn, printedIn}
-use Rattle.machine.proofs.Benchmarks.{exampleInput, exampleText, example-printed}
+use Rattle.machine.specs.Exports.{partsAnswerOf, wordAnswerOf, freshIn, Loaded, unread, readIn}
 
 -- ---- event words
 
@@ -63,20 +60,3 @@ pub read-examples :
     × (read (take 9 image) [] ≡ unread [] 2 9)
 unfolding read image
 read-examples = (refl, refl, refl)
-
--- ---- the example of document 01 in 99 lent bytes, as many as its text has; in one more; in one fewer
-
--- the text s in the lent bytes l
-abbrev laid : List ℕ → List ℕ → Called
-laid s l = record { number = length s; lent = elim (leb (length s) (length l)) [ false ↦ l | true ↦ placed l 0 s ] }
-
-printed-in : (l : List ℕ) → printedIn exampleInput l ≡ laid exampleText l
-unfolding printedIn
-printed-in l = ap (λ (s : List ℕ). laid s l) example-printed
-
-pub printed-examples :
-    (printedIn exampleInput (replicate 99 255) ≡ record { number = 99; lent = exampleText })
-    × (printedIn exampleInput (replicate 100 255) ≡ record { number = 99; lent = exampleText ++ (255 ∷ []) })
-    × (printedIn exampleInput (replicate 98 255) ≡ record { number = 99; lent = replicate 98 255 })
-unfolding exampleText placed
-printed-examples = (printed-in (replicate 99 255), printed-in (replicate 100 255), printed-in (replicate 98 255))

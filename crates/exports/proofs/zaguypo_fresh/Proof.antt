@@ -9,7 +9,7 @@ use Rattle.machine.specs.Tables.{freshTable}
 use Rattle.machine.specs.Exports.{Made}
 use Rattle.cells.specs.View.{rowsOf}
 use Rattle.cells.proofs.ViewLaws.{rows-length}
-use Rattle.cells.proofs.FreshLaws.{made-size}
+use Rattle.cells.proofs.FreshLaws.{size-left}
 use Rattle.exports.proofs.ExportLaws.{made-in, not-made}
 use borrow.Author.Needs.{needs}
 use Rattle.exports.proofs.zaguypo_fresh.Statement.{statement}
@@ -33,7 +33,7 @@ returns-2 c =
     let made = c .before .make-fresh in
     let e = c .before .before .before in
     let x = e .before .args .rows .now in
-    let size = made-size (length x) (e .if1 .left) in
+    let size = size-left (length x) (e .if1 .left) in
     let is = sym (made-in (rowsOf x) (omega (arith, size .0, rows-length x)) (omega (arith, size .1, rows-length x))) in (
       ap (λ (m : Made). m .refusal) is,
       made .ensures .rows-are ∙ ap freshTable (sym (rows-length x)) ∙ ap (λ (m : Made). m .rows) is,

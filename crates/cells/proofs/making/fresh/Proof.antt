@@ -7,7 +7,7 @@ use borrow.Author.Needs.{needs}
 use Rattle.counting.proofs.PlacingLaws.{begun, begun-start, begun-next, begun-end}
 use Rattle.machine.specs.Rows.{idle, blank}
 use Rattle.machine.specs.Tables.{freshTable}
-use Rattle.cells.proofs.FreshLaws.{pad-handed, made-table, made-none, made-size}
+use Rattle.cells.proofs.FreshLaws.{pad-handed, made-table, made-none, size-left}
 use Rattle.cells.proofs.making.fresh.Statement.{statement}
 use Rattle.cells.proofs.making.fresh.Tie as tie
 
@@ -31,7 +31,7 @@ returns c = c .no-table .ensures ∙ made-none (c .before .before .args .n) (c .
 
 loop-holds : tie.Need-loop-holds Inv-loop μ-loop
 loop-holds c =
-    let size = made-size (c .before .args .n) (c .if1 .left) in
+    let size = size-left (c .before .args .n) (c .if1 .left) in
     (search needs, size .0, size .1, refl, refl, begun-start (replicate 16 blank) 0 (freshTable (c .before .args .n)))
 
 mul-rows : tie.Need-mul-rows Inv-loop μ-loop
