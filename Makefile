@@ -6,6 +6,7 @@
 # make uninstall takes them out again
 # make bench     ns a word, a step, an image, .. beside a plain Rust engine, with ratios
 # make fuzz      compare with the Rust engine until SECONDS=600 have passed
+# make spin      search a model of the paper with Spin, which must be installed, and compare with a walk through the compiled step
 # make fmt       lay out every .rt and .antt file
 
 INPUT ?=
@@ -14,7 +15,7 @@ NAMES ?=
 PREFIX ?= /usr/local
 DESTDIR ?=
 
-.PHONY: run test edits lib install uninstall bench fuzz fmt
+.PHONY: run test edits lib install uninstall bench fuzz spin fmt
 
 run:
 	@tools/run-example $(if $(INPUT),"$(INPUT)")
@@ -40,6 +41,9 @@ bench:
 
 fuzz:
 	@tests/compare fuzz $(SECONDS)
+
+spin:
+	@tests/spin/check
 
 fmt:
 	@tools/need rt

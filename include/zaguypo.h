@@ -1,7 +1,8 @@
 /* Zaguypo from C and C++. Every function is total: it takes any content and any length, ends, and changes no memory but
    that named here. It keeps no state, so that calls on different memory may be made from any number of threads at once.
    A lent array is a pointer and a number of elements; of no elements the pointer may be NULL. Lent arrays must not overlap.
-   Nothing checks these declarations against the Rattle source. */
+   Nothing checks these declarations against the Rattle source. The rules are in the manual (docs/MANUAL.md, installed as
+   share/doc/zaguypo/MANUAL.md); names in quotes are its sections. */
 #ifndef ZAGUYPO_H
 #define ZAGUYPO_H
 
@@ -26,7 +27,7 @@
 extern "C" {
 #endif
 
-/* ---- refusals, in the order of checking; 0 is an accepted answer
+/* ---- refusals, in the order of checking; 0 is an accepted answer ("Refusals")
 
      14  bytes in: no multiple of 4, or above 33,088
      1   an image: no words, or the first is not 80000000 plus 2 to 16
@@ -43,19 +44,20 @@ extern "C" {
      10  the same word: kind not allowed where the process is
      11  the same word: argument not as listed */
 
-/* ---- inputs: bytes that are words of 4 bytes, lowest byte first, an image and then event words */
+/* ---- inputs: bytes that are words of 4 bytes, lowest byte first, an image and then event words ("Bytes and inputs", "The call
+   on bytes", "The printed text") */
 
 /* The run that an input holds. Answers 256 times the number of words taken, plus the refusal or 0. After 14, 1 to 5, 12 and
    13 (image_len is below 20N) the count is 0 and the lent bytes are as given. Otherwise, also where a word stopped the run with
    8 to 11, the image of the table after the words taken fills the first 20N lent bytes, and no others change. */
 uint64_t zaguypo_run(const uint8_t *input, size_t input_len, uint8_t *image, size_t image_len);
 
-/* The text that the printing program, zaguypo-replay, prints for an input. Answers its length, which is 1 to
-   ZAGUYPO_TEXT_BYTES. Where text_len is at least that, the text fills the first lent bytes, with no zero after it, and no others
+/* The text that the printing program, zaguypo-replay, prints for an input. Answers its length, which is at
+   most ZAGUYPO_TEXT_BYTES. Where text_len is at least that, the text fills the first lent bytes, with no zero after it, and no others
    change; where text_len is less, every lent byte is as given. */
 size_t zaguypo_print(const uint8_t *input, size_t input_len, char *text, size_t text_len);
 
-/* ---- tables of rows */
+/* ---- tables of rows ("Tables", "Steps", "Ahead sets", "Runs", "Census") */
 
 /* One process; process q is row q. The sets have bit q for process q. Row k holds the cell turn[k]; row 0 holds 0 there. */
 struct zaguypo_row {
@@ -101,7 +103,7 @@ struct zaguypo_figures {
 
 struct zaguypo_figures zaguypo_census(const struct zaguypo_row *rows, size_t size);
 
-/* ---- images: a table as 5N words */
+/* ---- images: a table as 5N words ("Images") */
 
 /* The answer to an image: the refusal or 0, the place of the word that it is about, and the number of processes. Place and size
    are 0 where they say nothing: the place of an accepted image and of 13, the size of a refused one. */
@@ -117,7 +119,7 @@ struct zaguypo_reading zaguypo_read(const uint32_t *words, size_t count, struct 
    lent, and no word changes. */
 uint16_t zaguypo_write(const struct zaguypo_row *rows, size_t size, uint32_t *words, size_t count);
 
-/* ---- event words, without a table */
+/* ---- event words, without a table ("Event words") */
 
 /* The parts of a word; all 0 where it is refused. */
 struct zaguypo_parts {

@@ -1,5 +1,5 @@
 /* zaguypo_run from C: every refusal, the lengths of lent memory, guard bytes around it. Expected answers are written out by
-   hand from document 01. */
+   hand from the manual ("The call on bytes"). */
 #include "layout.h"
 #include "check.h"
 

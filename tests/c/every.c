@@ -1,5 +1,6 @@
-/* Every function of the header from C, on good and on refused arguments, each lent array between guards. Expected answers are
-   written by hand from document 01 and the header. call.c has more of zaguypo_run, rows.c of step and run on rows. */
+/* Every function of the header from C but zaguypo_step and zaguypo_run_rows, which rows.c calls: on good and on refused
+   arguments, each lent array between guards. Expected answers are written by hand from the manual and the header. call.c has
+   more of zaguypo_run. */
 #include "layout.h"
 #include "check.h"
 #include "lend.h"

@@ -1,402 +1,144 @@
-/* The lent forms from C: zaguypo_step and zaguypo_run_rows on tables of every size, beside a model that is
-   written here from document 01 ("One step", "Ahead", "Runs", "Refusals") and shares nothing with the engine. */
-#include "layout.h"
+/* zaguypo_step and zaguypo_run_rows from C: the declarations fit the compiled functions, only the lent rows and the tally are
+   written, and every length has its answer. Expected rows and answers are written out by hand from the manual; what each word
+   does to any row is for the comparison in tests/reference. */
+#include "calls.h"
+#include "check.h"
+#include "lend.h"
+#include "every/tables.h"
 
-#include <stdio.h>
-#include <stdlib.h>
-#include <string.h>
+/* one more than a run may have: STAYs of process 0, and words of kind 0 */
+static uint32_t stays[8193], zeros[8193];
+static const struct zaguypo_tally NONE = {0, 0, 0};
 
-enum { STAY = 1, COME, FLICKER, GO, LOOK };
-enum { MOST = 18, GUARDS = 2, LIMIT = 8192 };
-
-static long checks, failed;
-
-static void check(int good, const char *what, size_t size, unsigned long number)
-{
-    checks++;
-    if (good) return;
-    failed++;
-    if (failed <= 20) printf("failed: %s, %zu rows, %lx\n", what, size, number);
+/* A step on n lent rows. Here and below the pointer is NULL where the length is 0. */
+static void stepped(const struct zaguypo_row *table, size_t n, uint32_t word, unsigned refusal,
+                    const struct zaguypo_row *after) {
+    unsigned long before = failures;
+    struct lent rows = lend(table, n * sizeof *table);
+    must_hold(&rows, after, n * sizeof *after);
+    check("step, answer", zaguypo_step(lent_memory(&rows), n, word).refusal == refusal);
+    check("step, rows", given_back(&rows));
+    if (failures > before && before < 20) printf("    %zu rows, word %08x, refusal %u\n", n, (unsigned)word, refusal);
 }
 
-/* ---- a table between guard rows */
-
-struct lent { struct zaguypo_row before[GUARDS], rows[MOST], after[GUARDS]; };
-
-static const struct zaguypo_row GUARD = {1, 2, 3, 4, 5, 6, 7, 8};
-static const struct zaguypo_row IDLE = {10, 0, 0, 0, 0, 0, 0, 0};
-
-static void fill(struct lent *t, struct zaguypo_row r, size_t size)
-{
-    for (size_t i = 0; i < GUARDS; i++) t->before[i] = t->after[i] = GUARD;
-    for (size_t i = 0; i < MOST; i++) t->rows[i] = i < size ? r : GUARD;
+/* A run of lent words with a lent tally, which holds other numbers before. As many words are taken as the tally must have. */
+static void ran(const struct zaguypo_row *table, size_t n, const uint32_t *words, size_t count, unsigned refusal,
+                struct zaguypo_tally tally, const struct zaguypo_row *after) {
+    unsigned long before = failures;
+    struct lent rows = lend(table, n * sizeof *table), list = lend(words, 4 * count), held = lend(NULL, sizeof tally);
+    must_hold(&rows, after, n * sizeof *after), must_hold(&held, &tally, sizeof tally);
+    struct zaguypo_ran r = zaguypo_run_rows(lent_memory(&rows), n, lent_memory(&list), count, lent_memory(&held));
+    check("run, answer", r.taken == tally.words && r.refusal == refusal);
+    check("run, rows", given_back(&rows));
+    check("run, words", given_back(&list));
+    check("run, tally", given_back(&held));
+    if (failures > before && before < 20) printf("    %zu rows, %zu words, refusal %u\n", n, count, refusal);
 }
 
-static int same(const struct lent *t, const struct lent *u) { return memcmp(t, u, sizeof *t) == 0; }
-
-static uint32_t word(unsigned kind, unsigned p, unsigned a) { return kind << 28 | p << 16 | a; }
-
-/* ---- the model */
-
-static unsigned members(unsigned set)
-{
-    unsigned count = 0;
-    for (; set; set >>= 1) count += set & 1;
-    return count;
+/* A table that is refused, also before 8 and before 12. */
+static void refused_table(const struct zaguypo_row *table, size_t n, unsigned refusal) {
+    stepped(table, n, 0x10000000, refusal, table);
+    stepped(table, n, 0, refusal, table);
+    ran(table, n, stays, 0, refusal, NONE, table);
+    ran(table, n, zeros, 1, refusal, NONE, table);
+    ran(table, n, stays, 8193, refusal, NONE, table);
 }
 
-static int sound_row(const struct zaguypo_row *r, size_t q, size_t n)
-{
-    static const uint16_t locations[] = {10, 20, 21, 22, 23, 24, 30, 40};
-    int known = 0;
-    for (size_t i = 0; i < 8; i++) known |= r->location == locations[i];
-    unsigned sets = r->est | r->lis | r->ahead;
-    if (!known || r->act > 1 || r->bb > 1 || r->level >= n || sets >> n || r->turn >= n) return 0;
-    if (q == 0 && r->turn != 0) return 0;
-    if (r->location >= 22 && r->location <= 24 && r->level == 0) return 0;
-    return r->location != 30 || r->level == 0;
+static void wrong_sizes(void) {
+    static const size_t sizes[4] = {0, 1, 17, 18};
+    static const struct zaguypo_row unsound[18];
+    struct zaguypo_row idle[18];
+    idle_rows(idle, 18);
+    for (int i = 0; i < 4; i++) refused_table(idle, sizes[i], 6), refused_table(unsound, sizes[i], 6);
+    struct lent rows = lend(idle, sizeof idle);
+    check("none of 18 rows, answer", zaguypo_step(lent_memory(&rows), 0, 0x20000000).refusal == 6);
+    check("none of 18 rows, rows", given_back(&rows));
 }
 
-static unsigned table_refusal(const struct zaguypo_row *t, size_t n)
-{
-    if (n < 2 || n > 16) return 6;
-    for (size_t q = 0; q < n; q++)
-        if (!sound_row(&t[q], q, n)) return 7;
-    return 0;
+/* the first row or the last */
+static void unsound_rows(uint32_t n) {
+    struct zaguypo_row table[MOST];
+    for (uint32_t q = 0; q < n; q += n - 1)
+        for (int way = 0; way < SPOILS; way++)
+            sound_rows(table, n), spoil(table, q, n, way), refused_table(table, n, 7);
 }
 
-static int allowed(unsigned kind, const struct zaguypo_row *r)
-{
-    switch (kind) {
-    case STAY: case COME: return r->location == 10;
-    case FLICKER: return r->location == 20 || r->location == 24 || r->location == 40;
-    case GO: return r->location != 10 && (r->location != 22 || r->lis == 0);
-    default: return r->location == 22 && r->lis != 0;
+/* Process 0 is idle, the other rows are any sound ones. Refused are kinds and spare bits, 8 before 9; processes, 9 before 10
+   and before 11; kinds at 10, 10 before 11; arguments: each by itself, and as the third of four words. */
+static void refused_words(uint32_t n) {
+    const uint32_t refused[12][2] = {
+        {0x00000000, 8}, {0x60000000, 8}, {0x11000000, 8},  {0x10008000, 8},  {0x60FF0000, 8},  {0x20000000 | n << 16, 9},
+        {0x40FF0000, 9}, {0x20FF0007, 9}, {0x40000000, 10}, {0x40000001, 10}, {0x10000001, 11}, {0x200000FF, 11}};
+    struct zaguypo_row table[MOST];
+    sound_rows(table, n), table[0] = IDLE;
+    for (int i = 0; i < 12; i++) {
+        const uint32_t word = refused[i][0], refusal = refused[i][1], four[4] = {0x10000000, 0x10000000, word, 0x10000000};
+        stepped(table, n, word, refusal, table);
+        ran(table, n, &word, 1, refusal, NONE, table);
+        ran(table, n, four, 4, refusal, (struct zaguypo_tally){2, 0, 0}, table);
     }
 }
 
-static int argument_fits(unsigned kind, const struct zaguypo_row *r, unsigned a, size_t n)
-{
-    if (kind == FLICKER) return r->location == 24 ? a < n : a < 2;
-    if (kind == LOOK) return a < 16 && (r->lis >> a & 1);
-    return a == 0;
+/* STAYs of process 0, too many of them, 12 before 8, COME of the last process; the other rows are any sound ones */
+static void lists(uint32_t n) {
+    const uint32_t come = 0x20000000 | (n - 1) << 16;
+    struct zaguypo_row table[MOST], after[MOST];
+    sound_rows(table, n), table[0] = table[n - 1] = IDLE;
+    memcpy(after, table, n * sizeof *table), after[n - 1].location = 20;
+    ran(table, n, stays, 0, 0, NONE, table);
+    ran(table, n, stays, 1, 0, (struct zaguypo_tally){1, 0, 0}, table);
+    ran(table, n, stays, 8192, 0, (struct zaguypo_tally){8192, 0, 0}, table);
+    ran(table, n, stays, 8193, 12, NONE, table);
+    ran(table, n, zeros, 8193, 12, NONE, table);
+    ran(table, n, &come, 1, 0, (struct zaguypo_tally){1, 1, 0}, after);
+    stepped(table, n, come, 0, after);
 }
 
-static unsigned word_refusal(const struct zaguypo_row *t, size_t n, uint32_t w)
-{
-    unsigned kind = w >> 28, p = w >> 16 & 255, a = w & 255;
-    if (kind < STAY || kind > LOOK || (w & 0x0f00ff00)) return 8;
-    if (p >= n) return 9;
-    if (!allowed(kind, &t[p])) return 10;
-    return argument_fits(kind, &t[p], a, n) ? 0 : 11;
-}
-
-static unsigned competing(const struct zaguypo_row *t, size_t n)
-{
-    unsigned set = 0;
-    for (size_t q = 0; q < n; q++)
-        if (t[q].location >= 21 && t[q].location <= 30) set |= 1u << q;
-    return set;
-}
-
-static void model_go_23(struct zaguypo_row *t, unsigned p)
-{
-    struct zaguypo_row *r = &t[p];
-    if (members(r->est) < r->level) { r->level = members(r->est); r->bb = 0; r->location = 21; }
-    else if (r->bb == 0) r->location = 24;
-    else { if (t[r->level].turn != p) { r->level--; r->bb = 0; } r->location = 21; }
-}
-
-static void model_go(struct zaguypo_row *t, size_t n, unsigned p)
-{
-    struct zaguypo_row *r = &t[p];
-    unsigned rivals = ((1u << n) - 1) & ~(1u << p), others = competing(t, n);
-    switch (r->location) {
-    case 20: r->act = 1; r->level = n - 1; r->est = rivals; r->ahead = others; r->location = 21; break;
-    case 21: if (r->level) { r->lis = r->est; r->location = 22; } else r->location = 30; break;
-    case 22: r->location = 23; break;
-    case 23: model_go_23(t, p); break;
-    case 24:
-        t[r->level].turn = p;
-        r->bb = 1; r->est = rivals; r->ahead = others & ~(1u << p); r->location = 21;
-        break;
-    case 30:
-        r->location = 40;
-        for (size_t q = 0; q < n; q++) t[q].ahead &= ~(1u << p);
-        break;
-    default: r->act = 0; r->location = 10;
+/* process 0 of two idle ones, and what it becomes with each word of the example */
+static void example(void) {
+    static const struct zaguypo_row r[8] = {{10, 0, 0, 0, 0, 0, 0, 0}, {20, 0, 0, 0, 0, 0, 0, 0}, {21, 1, 0, 1, 2, 0, 0, 0},
+                                            {22, 1, 0, 1, 2, 2, 0, 0}, {22, 1, 0, 1, 0, 0, 0, 0}, {23, 1, 0, 1, 0, 0, 0, 0},
+                                            {21, 1, 0, 0, 0, 0, 0, 0}, {30, 1, 0, 0, 0, 0, 0, 0}};
+    for (uint32_t i = 1; i <= 7; i++) {
+        const struct zaguypo_row idle[2] = {IDLE, IDLE}, before[2] = {r[i - 1], IDLE}, after[2] = {r[i], IDLE};
+        stepped(before, 2, SEVEN[i - 1], 0, after);
+        ran(idle, 2, SEVEN, i, 0, (struct zaguypo_tally){i, 1, i == 7}, after);
     }
 }
 
-static unsigned model_step(struct zaguypo_row *t, size_t n, uint32_t w)
-{
-    unsigned kind = w >> 28, p = w >> 16 & 255, a = w & 255;
-    unsigned refusal = table_refusal(t, n);
-    if (!refusal) refusal = word_refusal(t, n, w);
-    if (refusal || kind == STAY) return refusal;
-    struct zaguypo_row *r = &t[p];
-    if (kind == COME) r->location = 20;
-    else if (kind == GO) model_go(t, n, p);
-    else if (kind == LOOK) { r->lis &= ~(1u << a); if (!t[a].act) r->est &= ~(1u << a); }
-    else if (r->location == 24) t[r->level].turn = a;
-    else r->act = a;
-    return 0;
+/* cells that the example leaves 0: GO of process 1 writes its bb and ahead and the turn in row 2, GO of process 2 each ahead */
+static void crowd(void) {
+    static const uint32_t words[2] = {0x40010000, 0x40020000};
+    static const struct zaguypo_row tables[3][3] = {
+        {{22, 1, 1, 2, 6, 4, 7, 0}, {24, 0, 0, 2, 1, 4, 6, 2}, {30, 1, 1, 0, 1, 2, 7, 0}},
+        {{22, 1, 1, 2, 6, 4, 7, 0}, {21, 0, 1, 2, 5, 4, 5, 2}, {30, 1, 1, 0, 1, 2, 7, 1}},
+        {{22, 1, 1, 2, 6, 4, 3, 0}, {21, 0, 1, 2, 5, 4, 1, 2}, {40, 1, 1, 0, 1, 2, 3, 1}}};
+    for (int i = 0; i < 2; i++) stepped(tables[i], 3, words[i], 0, tables[i + 1]);
+    ran(tables[0], 3, words, 2, 0, (struct zaguypo_tally){2, 0, 0}, tables[2]);
 }
 
-static struct zaguypo_ran model_run(struct zaguypo_row *t, size_t n, const uint32_t *ws, size_t count, struct zaguypo_tally *h)
-{
-    struct zaguypo_ran r = {0, table_refusal(t, n)};
-    memset(h, 0, sizeof *h);
-    if (!r.refusal && count > LIMIT) r.refusal = 12;
-    if (r.refusal) return r;
-    for (size_t i = 0; i < count; i++) {
-        unsigned p = ws[i] >> 16 & 255, before = p < n ? t[p].location : 0;
-        r.refusal = model_step(t, n, ws[i]);
-        if (r.refusal) return r;
-        r.taken++;
-        h->words++;
-        if (ws[i] >> 28 == COME) h->comes++;
-        if (before != 30 && t[p].location == 30) h->arrivals++;
+/* A lone process is at 30 after n + 5 words, and COME stops it there. The longest run: 356 circuits of 23 words, the processes
+   in turn, then COME, GO, GO and a LOOK at 0 of process 4. */
+static void circuits(void) {
+    static struct given g;
+    struct zaguypo_row after[MOST];
+    idle_rows(after, MOST), after[0] = (struct zaguypo_row){30, 1, 0, 0, 0, 0, 0, 0};
+    for (uint32_t n = 2; n <= 16; n++) {
+        give(&g, n, n + 7), g.words[n + 5] = 0x20000000;
+        ran(g.rows, n, g.words, n + 5, 0, (struct zaguypo_tally){n + 5, 1, 1}, after);
+        ran(g.rows, n, g.words, n + 7, 10, (struct zaguypo_tally){n + 5, 1, 1}, after);
     }
-    return r;
+    give(&g, 16, 8192);
+    after[0] = IDLE, after[4] = (struct zaguypo_row){22, 1, 0, 15, 0xFFEE, 0xFFEE, 0, 0};
+    ran(g.rows, 16, g.words, 8192, 0, (struct zaguypo_tally){8192, 357, 356}, after);
 }
 
-/* ---- the engine beside the model */
-
-static unsigned step_both(struct lent *t, size_t n, uint32_t w)
-{
-    struct lent u = *t;
-    unsigned answer = zaguypo_step(t->rows, n, w).refusal, expected = model_step(u.rows, n, w);
-    check(answer == expected, "answer of a step", n, w);
-    check(same(t, &u), "rows after a step", n, w);
-    return answer;
-}
-
-static struct zaguypo_ran run_both(struct lent *t, size_t n, const uint32_t *ws, size_t count)
-{
-    struct lent u = *t;
-    struct zaguypo_tally around[3], expected;
-    memset(around, 0x5a, sizeof around);
-    struct zaguypo_tally guard = around[0];
-    struct zaguypo_ran r = zaguypo_run_rows(t->rows, n, ws, count, &around[1]), s = model_run(u.rows, n, ws, count, &expected);
-    check(r.taken == s.taken && r.refusal == s.refusal, "answer of a run", n, count);
-    check(same(t, &u), "rows after a run", n, count);
-    check(memcmp(&around[1], &expected, sizeof expected) == 0, "tally of a run", n, count);
-    check(!memcmp(&around[0], &guard, sizeof guard) && !memcmp(&around[2], &guard, sizeof guard), "guard", n, count);
-    check(r.refusal < 6 || r.refusal > 7 || (around[1].words | around[1].comes | around[1].arrivals) == 0,
-          "tally of a refused table", n, count);
-    return r;
-}
-
-static uint32_t draw(uint32_t below)
-{
-    static uint32_t x = 2463534242u;
-    x ^= x << 13; x ^= x >> 17; x ^= x << 5;
-    return x % below;
-}
-
-/* a sound row, any of them */
-static struct zaguypo_row draw_row(size_t q, size_t n)
-{
-    static const uint16_t locations[] = {10, 20, 21, 22, 23, 24, 30, 40};
-    unsigned full = (1u << n) - 1;
-    struct zaguypo_row r = {locations[draw(8)], draw(2), draw(2), draw(n), draw(65536) & full, draw(65536) & full,
-                    draw(65536) & full, q ? draw(n) : 0};
-    if (draw(4) == 0) r.lis = 0;
-    if (r.location >= 22 && r.location <= 24 && r.level == 0) r.level = 1;
-    if (r.location == 30) r.level = 0;
-    return r;
-}
-
-/* a word that process p is likely to be allowed */
-static uint32_t draw_word(const struct zaguypo_row *t, size_t n)
-{
-    unsigned p = draw(n), choice = draw(16);
-    const struct zaguypo_row *r = &t[p];
-    if (choice == 0) return word(draw(7), draw(n + 1), draw(4));
-    if (r->location == 10) return word(draw(4) ? COME : STAY, p, 0);
-    if (choice == 1) return word(FLICKER, p, draw(n));
-    if (r->location == 22 && r->lis) {
-        unsigned a = draw(16);
-        while (!(r->lis >> a & 1)) a = (a + 1) % 16;
-        return word(LOOK, p, a);
-    }
-    return word(GO, p, 0);
-}
-
-/* ---- the cases */
-
-static void wrong_sizes(void)
-{
-    static const size_t sizes[] = {0, 1, 17, 18};
-    uint32_t ws[2] = {word(COME, 0, 0), 0};
-    for (size_t i = 0; i < 4; i++) {
-        struct lent t;
-        for (int unsound = 0; unsound < 2; unsound++) {
-            fill(&t, unsound ? GUARD : IDLE, sizes[i]);
-            check(step_both(&t, sizes[i], ws[0]) == 6, "6 for the size", sizes[i], ws[0]);
-            check(step_both(&t, sizes[i], ws[1]) == 6, "6 before 8", sizes[i], ws[1]);
-            check(run_both(&t, sizes[i], ws, 2).refusal == 6, "6 for a run", sizes[i], 2);
-            check(run_both(&t, sizes[i], ws, 0).refusal == 6, "6 for a run of no words", sizes[i], 0);
-        }
-    }
-}
-
-static void unsound_row(size_t n, size_t q, struct zaguypo_row r, const uint32_t *many)
-{
-    struct lent t;
-    fill(&t, IDLE, n);
-    t.rows[q] = r;
-    check(step_both(&t, n, word(STAY, 0, 0)) == 7, "7 for a row", n, q);
-    check(step_both(&t, n, 0) == 7, "7 before 8", n, q);
-    check(run_both(&t, n, many, 0).refusal == 7, "7 for a run of no words", n, q);
-    check(run_both(&t, n, many, LIMIT + 1).refusal == 7, "7 before 12", n, q);
-}
-
-static void unsound_rows(size_t n, const uint32_t *many)
-{
-    for (size_t q = 0; q < n; q += n - 1) {
-        struct zaguypo_row r = IDLE;
-        static const uint16_t wrong[] = {0, 9, 11, 25, 31, 41, 65535};
-        for (size_t i = 0; i < 7; i++) { r.location = wrong[i]; unsound_row(n, q, r, many); }
-        r = IDLE; r.act = 2; unsound_row(n, q, r, many);
-        r = IDLE; r.bb = 2; unsound_row(n, q, r, many);
-        r = IDLE; r.level = n; unsound_row(n, q, r, many);
-        r = IDLE; r.turn = n; unsound_row(n, q, r, many);
-        if (q == 0) { r = IDLE; r.turn = 1; unsound_row(n, q, r, many); }
-        if (n < 16) {
-            r = IDLE; r.est = 1u << n; unsound_row(n, q, r, many);
-            r = IDLE; r.lis = 1u << n; unsound_row(n, q, r, many);
-            r = IDLE; r.ahead = 1u << n; unsound_row(n, q, r, many);
-        }
-        for (r = IDLE, r.location = 22; r.location <= 24; r.location++) unsound_row(n, q, r, many);
-        r = IDLE; r.location = 30; r.level = 1; unsound_row(n, q, r, many);
-    }
-}
-
-/* every kind at every location, with and without members in lis, and arguments about the bounds */
-static void words_at_locations(size_t n)
-{
-    static const uint16_t locations[] = {10, 20, 21, 22, 23, 24, 30, 40};
-    static const uint32_t spare[] = {0x01000000, 0x08000000, 0x00000100, 0x00008000};
-    for (int at = 0; at < 8; at++)
-        for (unsigned kind = 0; kind < 16; kind++)
-            for (unsigned a = 0; a < 18; a++)
-                for (int empty = 0; empty < 2; empty++) {
-                    struct lent t;
-                    fill(&t, IDLE, n);
-                    t.rows[n - 1].location = locations[at];
-                    t.rows[n - 1].level = locations[at] == 30 ? 0 : 1;
-                    t.rows[n - 1].lis = empty ? 0 : 1;
-                    step_both(&t, n, word(kind, n - 1, a));
-                }
-    struct lent t;
-    fill(&t, IDLE, n);
-    for (int i = 0; i < 4; i++) check(step_both(&t, n, word(STAY, 0, 0) | spare[i]) == 8, "8", n, spare[i]);
-    check(step_both(&t, n, word(6, 0, 0)) == 8, "8 for the kind", n, 6);
-    check(step_both(&t, n, word(COME, n, 0)) == 9, "9", n, n);
-    check(step_both(&t, n, word(COME, 16, 0)) == 9, "9 for 16", n, 16);
-    check(step_both(&t, n, word(COME, 255, 7)) == 9, "9 before 11", n, 255);
-    check(step_both(&t, n, word(GO, 0, 1)) == 10, "10 before 11", n, 0);
-    check(step_both(&t, n, word(COME, 0, 1)) == 11, "11", n, 1);
-    check(step_both(&t, n, word(STAY, 1, 0)) == 0, "STAY", n, 0);
-}
-
-/* sound rows of any kind, and then words that mostly move them */
-static void any_rows(size_t n)
-{
-    for (int round = 0; round < 300; round++) {
-        struct lent t;
-        fill(&t, IDLE, n);
-        for (size_t q = 0; q < n; q++) t.rows[q] = draw_row(q, n);
-        for (int i = 0; i < 20; i++) step_both(&t, n, draw_word(t.rows, n));
-    }
-}
-
-/* runs from a fresh table: words that are allowed one after the other, most runs to their end */
-static void any_runs(size_t n)
-{
-    static uint32_t ws[LIMIT];
-    for (int round = 0; round < 40; round++) {
-        size_t count = round < 2 ? LIMIT : draw(200);
-        struct lent t, u;
-        fill(&t, IDLE, n);
-        u = t;
-        for (size_t i = 0; i < count; i++) {
-            do ws[i] = draw_word(u.rows, n); while (word_refusal(u.rows, n, ws[i]) && (round % 4 || draw(64)));
-            model_step(u.rows, n, ws[i]);
-        }
-        struct zaguypo_ran r = run_both(&t, n, ws, count);
-        check(round % 4 == 0 || (r.taken == count && r.refusal == 0), "a run to its end", n, count);
-        run_both(&t, n, ws, draw(count + 1));
-    }
-}
-
-static void limits(size_t n, const uint32_t *stays)
-{
-    struct lent t;
-    fill(&t, IDLE, n);
-    struct zaguypo_ran r = run_both(&t, n, stays, 0);
-    check(r.taken == 0 && r.refusal == 0, "no words", n, 0);
-    r = run_both(&t, n, stays, LIMIT);
-    check(r.taken == LIMIT && r.refusal == 0, "8,192 words", n, LIMIT);
-    r = run_both(&t, n, stays, LIMIT + 1);
-    check(r.taken == 0 && r.refusal == 12, "8,193 words", n, LIMIT + 1);
-}
-
-/* a lone process from a fresh table is at 30 after n + 5 accepted words */
-static void lone(size_t n)
-{
-    struct lent t;
-    fill(&t, IDLE, n);
-    size_t taken = 0;
-    check(step_both(&t, n, word(COME, 0, 0)) == 0, "COME", n, 0);
-    for (taken = 1; t.rows[0].location != 30 && taken < 100; taken++) {
-        unsigned lis = t.rows[0].location == 22 ? t.rows[0].lis : 0, a = 0;
-        while (lis && !(lis >> a & 1)) a++;
-        step_both(&t, n, lis ? word(LOOK, 0, a) : word(GO, 0, 0));
-    }
-    check(taken == n + 5, "n + 5 words to 30", n, taken);
-}
-
-/* the run of document 01 on two rows, its figures written out */
-static void printed_run(void)
-{
-    static const uint32_t ws[] = {0x20000000, 0x40000000, 0x40000000, 0x50000001, 0x40000000, 0x40000000, 0x40000000};
-    static const uint16_t after[] = {20, 21, 22, 22, 23, 21, 30};
-    struct lent t, u;
-    struct zaguypo_tally h = {9, 9, 9};
-    fill(&t, IDLE, 2);
-    for (int i = 0; i < 7; i++) {
-        check(zaguypo_step(t.rows, 2, ws[i]).refusal == 0, "taken", 2, ws[i]);
-        check(t.rows[0].location == after[i], "location", 2, ws[i]);
-    }
-    fill(&u, IDLE, 2);
-    u.rows[0] = (struct zaguypo_row){30, 1, 0, 0, 0, 0, 0, 0};
-    check(same(&t, &u), "rows after the seven words", 2, 7);
-    fill(&t, IDLE, 2);
-    struct zaguypo_ran r = zaguypo_run_rows(t.rows, 2, ws, 7, &h);
-    check(r.taken == 7 && r.refusal == 0 && same(&t, &u), "the seven words as a run", 2, 7);
-    check(h.words == 7 && h.comes == 1 && h.arrivals == 1, "their tally", 2, 7);
-    r = zaguypo_run_rows(t.rows, 2, ws, 7, &h);
-    check(r.taken == 0 && r.refusal == 10 && same(&t, &u), "COME at 30", 2, 7);
-    check((h.words | h.comes | h.arrivals) == 0, "the tally starts again", 2, 7);
-}
-
-int main(void)
-{
-    static uint32_t stays[LIMIT + 1];
-    for (size_t i = 0; i <= LIMIT; i++) stays[i] = word(STAY, 0, 0);
-    printed_run();
+int main(void) {
+    for (int i = 0; i < 8193; i++) stays[i] = 0x10000000;
     wrong_sizes();
-    for (size_t n = 2; n <= 16; n++) {
-        unsound_rows(n, stays);
-        words_at_locations(n);
-        any_rows(n);
-        any_runs(n);
-        limits(n, stays);
-        lone(n);
-    }
-    printf("rows: %ld checks, %ld failed\n", checks, failed);
-    return failed != 0;
+    for (uint32_t n = 2; n <= 16; n++) unsound_rows(n), refused_words(n), lists(n);
+    example();
+    crowd();
+    circuits();
+    return done("rows");
 }

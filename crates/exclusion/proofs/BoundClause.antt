@@ -1,4 +1,4 @@
--- Every effect of a step keeps the table bounded at every k (the clause J1 of section 3.5 of document 004).
+-- Every effect of a step keeps the table bounded at every k (the clause J1 of section 3.5 of the paper).
 --
 -- The bound at k comes from the bound at k, but for a step to 24 from level k and for an exit: these use the bound at
 -- k + 1, which is at hand since the clause speaks of every k.

@@ -1,4 +1,4 @@
--- The bound J1 of section 3.5 of document 004 on a table, and how a bound passes from table to table.
+-- The bound J1 of section 3.5 of the paper on a table, and how a bound passes from table to table.
 --
 --   reaching k t    ==   how many processes reach k, the size of B(k).
 --   Stopper t k     <=>  some process stops at k: T(k) is not empty.

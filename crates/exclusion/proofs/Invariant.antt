@@ -1,4 +1,4 @@
--- The invariant, one field a clause, with the labels of sections 3.4 (K) and 3.5 (L, J) of document 004.
+-- The invariant, one field a clause, with the labels of sections 3.4 (K) and 3.5 (L, J) of the paper.
 --
 --   BbInside r      <=>  bb is set only at 21, 22 and 23, above level 0.
 --   AheadInEst r    <=>  who is ahead is in est.

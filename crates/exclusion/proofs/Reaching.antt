@@ -1,4 +1,4 @@
--- The sets of section 3.5 of document 004, as facts and tests of one row.
+-- The sets of section 3.5 of the paper, as facts and tests of one row.
 --
 --   Held k r        <=>  r is in A(k), which the census counts.
 --   Reaches k r     <=>  r is in B(k): held at k, or at level k and, at 24 or with bb, about to leave it downwards.

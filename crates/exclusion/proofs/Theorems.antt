@@ -1,5 +1,5 @@
--- What is proved of lists of words: mutual exclusion and the counts (document 01, "Runs", demand 3; MX and J0 of
--- document 004). The words here are those of the machine's definitions; the argument is in the other files.
+-- What is proved of lists of words: mutual exclusion and the counts (MANUAL, "The three demands", 3; MX and J0 of the
+-- paper). The words here are those of the machine's definitions; the argument is in the other files.
 --
 -- Each theorem is about every list of words, of any length and of any numbers, given to the step one by one: the list
 -- goes on past a refused word, which changes nothing. An engine that moves nobody would satisfy them; that the table

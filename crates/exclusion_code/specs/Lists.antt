@@ -1,4 +1,4 @@
--- What a list of words does to cells (document 01, "Runs", demand 3).
+-- What a list of words does to cells (MANUAL, "Lists of words"; demand 3).
 --
 --   Listed x ws y  <=>  the list ws, given to the step word by word and going on past refused words, made y of the
 --                       cells x; and from a fresh table at most k processes are held at k, for every k, and at most one

@@ -1,4 +1,4 @@
--- The promises about an input that holds a table (document 01, "The printed run and the call from C"): what it holds,
+-- The promises about an input that holds a table (MANUAL, "Bytes and inputs" and "The call on bytes"): what it holds,
 -- that its table is never refused afterwards, and that the number that C gets says what the run answers.
 -- Assumes nothing.
 use Prim.Native.Nat.{ℕ, _≤_, _<_}

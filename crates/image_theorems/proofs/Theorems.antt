@@ -1,4 +1,4 @@
--- The promises about images (document 01, "Images"), for all tables and all lists of words. Assumes nothing.
+-- The promises about images (MANUAL, "Images"), for all tables and all lists of words. Assumes nothing.
 use Prim.Native.Nat.{ℕ}
 use mathlib.Core.Path.{_≡_, sym, ap, _∙_, subst}
 use mathlib.Core.Bool.{true}

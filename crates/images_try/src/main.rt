@@ -1,4 +1,4 @@
-// Tries images both ways on the benchmarks of document 01 and on each refusal at its place. A line
+// Tries images both ways on examples (MANUAL, "Images"), and on each refusal at its place. A line
 // shows what was read with refusal, place and number of processes, or what was written with the
 // refusal, or a count of words.
 use images::decoding::read_cells;

@@ -1,6 +1,6 @@
--- Demand 3 of document 01 for lent rows: `zaguypo_step`, called once for each word of a list on the same rows. The
--- tables are those between the calls: t 0 before the first, t (suc i) after the call with word i of the list, which
--- answered r i. Each call does what its contract, `StepsTo`, says; nobody else writes the rows meanwhile.
+-- Demand 3 (MANUAL, "The three demands") for lent rows: `zaguypo_step`, called once for each word of a list on the
+-- same rows. The tables are those between the calls: t 0 before the first, t (suc i) after the call with word i of the
+-- list, which answered r i. Each call does what its contract, `StepsTo`, says; nobody else writes the rows meanwhile.
 -- Assumes nothing.
 use Prim.Native.Nat.{ℕ, zero, suc, _≤_, _<_}
 use mathlib.Core.Path.{_≡_, refl, sym, ap, _∙_, subst}

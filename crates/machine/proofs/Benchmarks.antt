@@ -1,5 +1,5 @@
--- The starred benchmarks of document 01, and examples with three processes that tell its plausible errors apart: two
--- lists, each evaluated by one theorem. The expected tables are those of a model in another language. Assumes nothing.
+-- Benchmarks of the definitions (`starred`; MANUAL, "Examples", has most of them), and examples with three processes
+-- that tell near errors apart: two lists, each evaluated by one theorem. The expected tables are those of a model in another language. Assumes nothing.
 use Prim.Native.Nat.{ℕ}
 use mathlib.Core.Path.{_≡_, refl}
 use mathlib.Core.Bool.{Bool, true, false, _&&_}
@@ -239,7 +239,7 @@ pub examples-hold : allHold examples ≡ true
 unfolding allHold examples
 examples-hold = refl
 
--- ---- the example of document 01 as bytes: its text, and the call from C with two lent bytes too many
+-- ---- the first example of MANUAL as bytes: its text, and the call from C with two lent bytes too many
 
 pub exampleInput : List ℕ
 unfolding freshTwo two threeWords bytesOf
@@ -289,7 +289,7 @@ pub example-called :
 unfolding exampleCall evaluated pictured passes callOf callFor ranCall placed inputOf wordsHold wordsIn bytesOf two
 example-called = (refl, refl)
 
--- the most bytes of an input, as document 01 has the number
+-- the most bytes of an input, as MANUAL has the number
 pub longest-input : bytesLimit ≡ 33088
 longest-input = refl
 

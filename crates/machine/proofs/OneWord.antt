@@ -1,7 +1,8 @@
--- Every step of a process has one word.
+-- Every step of a process has one word, and every accepted word is that of a step.
 --
 --   same-word    accepted words of one process with the same table after them are the same
---   one-word     a step of a sound table is what exactly one word of its process does
+--   one-word     a step of a sound table is what its word does, and no other word of its process
+--   word-step    an accepted word is the word of a step
 --
 -- Assumes nothing.
 use Prim.Native.Nat.{ℕ, _<_}
@@ -22,7 +23,7 @@ use Rattle.machine.specs.Words.{STAY, COME, FLICKER, GO, LOOK, isKind, k
 use Rattle.machine.specs.Words.{formed, wordOf}
 use Rattle.machine.specs.Steps.{entered, passed, looked, reconsidered, gone, moved, allowed, argumentFits}
 use Rattle.machine.specs.Steps.{refusalOf, afterWord}
-use Rattle.machine.specs.System.{assigned, Step}
+use Rattle.machine.specs.System.{assigned, Step, stepWord}
 use Rattle.machine.specs.System.Step.{rests, comes, flickers-20, enters, starts-pass, wins, discards, keeps}
 use Rattle.machine.specs.System.Step.{ends-pass, lowers, to-push, waits, skips, flickers-24, pushes, exits}
 use Rattle.machine.specs.System.Step.{flickers-40, leaves}
@@ -30,7 +31,8 @@ use Rattle.machine.proofs.OneOfLaws.{oneOf-at}
 use Rattle.machine.proofs.SoundRows.{sound-row, sound-few, sound-accepted}
 use Rattle.machine.proofs.Forms.{gone-20, gone-21, gone-22, gone-23, gone-40, flickered-act, flickered-turn}
 use Rattle.machine.proofs.Forms.{gone-push, gone-exit}
-use Rattle.machine.proofs.Accepted.{Says, accepted-table, accepted-says, accepted-moved, says-accepted}
+use Rattle.machine.proofs.Accepted.{Says, accepted-table, accepted-process, accepted-says, accepted-moved}
+use Rattle.machine.proofs.Accepted.{accepted-step, says-accepted}
 use Rattle.machine.proofs.WordLaws.{kind-wordOf, process-wordOf, argument-wordOf, formed-wordOf, parts-injective}
 use Rattle.machine.proofs.Choices.{kindBy, kind-shows, argument-shows}
 
@@ -86,11 +88,10 @@ same-word t v w x y i e =
 
 -- ---- at least one
 
--- exactly one word of p is accepted and leads to u
-abbrev One : Table → ℕ → Table → Type 0
-One t p u =
-    (w : ℕ)
-    × (processOf w ≡ p)
+-- w is a word of p that is accepted and leads to u, and no other is
+abbrev One : Table → ℕ → Table → ℕ → Type 0
+One t p u w =
+    (processOf w ≡ p)
     × (refusalOf t w ≡ 0)
     × (afterWord t w ≡ u)
     × ((v : ℕ) → processOf v ≡ p → refusalOf t v ≡ 0 → afterWord t v ≡ u → v ≡ w)
@@ -125,7 +126,7 @@ module _ (t : Table) (p : ℕ) (z : tableRefusal t ≡ 0) (l : p < length t) whe
       → argumentFits (length t) k (row t p) a ≡ true
       → a < 256
       → moved t k p a ≡ u
-      → One t p u
+      → One t p u (wordOf k p a)
   chosen {u} k a kind h f small e =
       let few = sound-few t z in
       let hp : p < 256 = omega arith in
@@ -139,7 +140,7 @@ module _ (t : Table) (p : ℕ) (z : tableRefusal t ≡ 0) (l : p < length t) whe
       ∙ ap₂ (λ (x q : ℕ). moved t x q (argumentOf w)) ik ip
       ∙ ap (moved t k p) ia
       ∙ e in
-      (w, ip, y, m, λ v j x i. same-word t v w x y (j ∙ sym ip) (i ∙ sym m))
+      (ip, y, m, λ v j x i. same-word t v w x y (j ∙ sym ip) (i ∙ sym m))
 
   -- where each is allowed
   abbrev flickers : List ℕ
@@ -149,7 +150,8 @@ module _ (t : Table) (p : ℕ) (z : tableRefusal t ≡ 0) (l : p < length t) whe
   goes = 20 ∷ 21 ∷ 23 ∷ 24 ∷ 30 ∷ 40 ∷ []
 
   -- GO at a location where it is always allowed
-  chosen-go : {u : Table} (v : ℕ) → row t p .location ≡ v → oneOf v goes ≡ true → gone t p ≡ u → One t p u
+  chosen-go : {u : Table} (v : ℕ) → row t p .location ≡ v → oneOf v goes ≡ true → gone t p ≡ u
+      → One t p u (wordOf GO p 0)
   unfolding allowed argumentFits moved
   chosen-go v e o m =
       let h = oneOf-at (row t p .location) v goes e o in
@@ -161,7 +163,7 @@ module _ (t : Table) (p : ℕ) (z : tableRefusal t ≡ 0) (l : p < length t) whe
       → oneOf v flickers ≡ true
       → v ≢ 24
       → a < 2
-      → One t p (assigned t p (withAct a))
+      → One t p (assigned t p (withAct a)) (wordOf FLICKER p a)
   unfolding allowed argumentFits moved
   chosen-act v a e o ne h =
       let away : row t p .location ≢ 24 = λ i. ne (sym e ∙ i) in
@@ -174,7 +176,7 @@ module _ (t : Table) (p : ℕ) (z : tableRefusal t ≡ 0) (l : p < length t) whe
       → row t p .location ≡ 22
       → has (row t p .lis) q ≡ true
       → set t p (looked q (row t q .act) (row t p)) ≡ u
-      → One t p u
+      → One t p u (wordOf LOOK p q)
   unfolding allowed argumentFits moved
   chosen-look q e h m =
       let some : row t p .lis ≢ 0 = λ i. false≢true (sym (has-zero q) ∙ ap (λ (s : ℕ). has s q) (sym i) ∙ h) in
@@ -190,7 +192,7 @@ module _ (t : Table) (p : ℕ) (z : tableRefusal t ≡ 0) (l : p < length t) whe
           let none = has-over (row t p .lis) (length t) q (sound-row t z p l .lis-low) (omega (arith, nk)) in
           absurd (false≢true (sym none ∙ h))
 
-  one : {u : Table} → Step t p u → One t p u
+  one : {u : Table} (x : Step t p u) → One t p u (stepWord p x)
   unfolding allowed argumentFits moved entered competitors passed looked reconsidered
   one (rests e) = chosen STAY 0 refl (eq-eqb _ _ e) refl (omega arith) refl
   one (comes e) = chosen COME 0 refl (eq-eqb _ _ e) refl (omega arith) refl
@@ -222,10 +224,17 @@ module _ (t : Table) (p : ℕ) (z : tableRefusal t ≡ 0) (l : p < length t) whe
 pub one-word : (t u : Table) (p : ℕ)
     → sound t ≡ true
     → p < length t
-    → Step t p u
-    → (w : ℕ)
-    × (processOf w ≡ p)
-    × (refusalOf t w ≡ 0)
-    × (afterWord t w ≡ u)
-    × ((v : ℕ) → processOf v ≡ p → refusalOf t v ≡ 0 → afterWord t v ≡ u → v ≡ w)
+    → (x : Step t p u)
+    → (processOf (stepWord p x) ≡ p)
+    × (refusalOf t (stepWord p x) ≡ 0)
+    × (afterWord t (stepWord p x) ≡ u)
+    × ((v : ℕ) → processOf v ≡ p → refusalOf t v ≡ 0 → afterWord t v ≡ u → v ≡ stepWord p x)
 one-word t u p h l x = one t p (sound-accepted t h) l x
+
+pub word-step : (t : Table) (w : ℕ)
+    → refusalOf t w ≡ 0
+    → (x : Step t (processOf w) (afterWord t w)) × (stepWord (processOf w) x ≡ w)
+word-step t w z =
+    let x = accepted-step t w z in
+    let s = one t (processOf w) (accepted-table t w z) (accepted-process t w z) x in
+    (x, sym (s .3 w refl z refl))

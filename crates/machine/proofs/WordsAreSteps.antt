@@ -1,7 +1,8 @@
 -- Demand 2 for the step, as a reader opens it: every statement in full, each proved in the file that is named with it.
 --
--- The system of section 3.2 of document 004 is the relation `Step` of System.antt, which does not use the step of
--- Steps.antt; `afterWord` and `refusalOf` are that step. `sound t` is a well-formed table of 2 to 16 processes.
+-- The system of section 3.2 of the paper is the relation `Step` of System.antt, which does not use the step of
+-- Steps.antt; `afterWord` and `refusalOf` are that step. `stepWord p x` is the word that stands for the step x of p, and
+-- `sound t` is a well-formed table of 2 to 16 processes.
 --
 -- Assumes nothing.
 use Prim.Native.Nat.{ℕ, _<_}
@@ -13,7 +14,7 @@ use lib.ListN.{length}
 use Rattle.machine.specs.Tables.{Table, row, sound}
 use Rattle.machine.specs.Words.{FLICKER, kindOf, processOf, argumentOf, apart, together}
 use Rattle.machine.specs.Steps.{refusalOf, afterWord, afterWords}
-use Rattle.machine.specs.System.{Step}
+use Rattle.machine.specs.System.{Step, stepWord}
 use Rattle.machine.specs.declared.Parts.{Parts}
 use Rattle.machine.specs.declared.Apart.{Apart}
 use Rattle.machine.specs.declared.Together.{Together}
@@ -27,33 +28,37 @@ use Rattle.machine.proofs.WordLaws as WordLaws
 
 -- ---- the step is the system
 
--- An accepted word is a step of the system, by the process that it names, from a sound table.
--- Excludes: est left as it is by GO at 24; turn read before est at 23; ahead cleared at 40; a FLICKER that moves.
--- Not empty: `accepted-word-exists`. Proved in Accepted.antt.
+-- An accepted word is the word of a step of the system, by the process that it names, from a sound table.
+-- Excludes: est left as it is by GO at 24; turn read before est at 23; ahead cleared at 40; a FLICKER that moves, or that
+-- leaves another value than it says.
+-- Not empty: `accepted-word-exists`. Proved in Accepted.antt and OneWord.antt.
 pub word-is-step : (t : Table) (w : ℕ)
     → refusalOf t w ≡ 0
-    → (sound t ≡ true) × (processOf w < length t) × Step t (processOf w) (afterWord t w)
+    → (sound t ≡ true)
+    × (processOf w < length t)
+    × (x : Step t (processOf w) (afterWord t w))
+    × (stepWord (processOf w) x ≡ w)
 word-is-step t w z =
-    (accepted-sound t (Accepted.accepted-table t w z), Accepted.accepted-process t w z, Accepted.accepted-step t w z)
+    let x = OneWord.word-step t w z in
+    (accepted-sound t (Accepted.accepted-table t w z), Accepted.accepted-process t w z, x .0, x .1)
 
 -- A refused word changes nothing, whatever the table.
 -- Excludes: a refused word that moves, or that leaves another table. Proved in Accepted.antt.
 pub refused-word-changes-nothing : (t : Table) (w : ℕ) → refusalOf t w ≢ 0 → afterWord t w ≡ t
 refused-word-changes-nothing = Accepted.refused-same
 
--- Every step of a process of a sound table is what exactly one word of that process does.
--- Excludes: an engine that accepts each word and moves nobody, one that refuses every word, and two words for one
--- choice of a process (an argument or a spare bit that is not looked at).
+-- Every step of a process of a sound table is what its word does, and no other word of that process.
+-- Excludes: an engine that accepts each word and moves nobody, one that refuses every word, one in which two choices of a
+-- process have each other's words, and two words for one choice (an argument or a spare bit that is not looked at).
 -- Not empty: `process-has-step`. Proved in OneWord.antt.
 pub one-word : (t u : Table) (p : ℕ)
     → sound t ≡ true
     → p < length t
-    → Step t p u
-    → (w : ℕ)
-    × (processOf w ≡ p)
-    × (refusalOf t w ≡ 0)
-    × (afterWord t w ≡ u)
-    × ((v : ℕ) → processOf v ≡ p → refusalOf t v ≡ 0 → afterWord t v ≡ u → v ≡ w)
+    → (x : Step t p u)
+    → (processOf (stepWord p x) ≡ p)
+    × (refusalOf t (stepWord p x) ≡ 0)
+    × (afterWord t (stepWord p x) ≡ u)
+    × ((v : ℕ) → processOf v ≡ p → refusalOf t v ≡ 0 → afterWord t v ≡ u → v ≡ stepWord p x)
 one-word = OneWord.one-word
 
 -- How far that goes: different words that are accepted with the same outcome are of different processes, and either
@@ -90,7 +95,7 @@ pub accepted-word-exists : (t : Table) (p : ℕ)
 accepted-word-exists t p h l =
     let x = process-has-step t p h l in
     let w = one-word t (x .0) p h l (x .1) in
-    (w .0, w .1, w .2)
+    (stepWord p (x .1), w .0, w .1)
 
 -- ---- tables stay sound
 

@@ -1,4 +1,4 @@
--- Words as bytes, lowest byte first (document 01, "The printed run and the call from C").
+-- Words as bytes, lowest byte first (MANUAL, "Bytes and inputs").
 --
 --   wordsIn bs       ==  the words that bytes hold.
 --   bytesOf ws       ==  the bytes of words.

@@ -1,4 +1,4 @@
--- The call from C (document 01, "The printed run and the call from C").
+-- The call from C on bytes (MANUAL, "The call on bytes").
 --
 --   numberOf taken refusal  ==  words taken and refusal as one number.
 --   callFor i l      ==  the call's number and the lent bytes l after it, for what the input holds.

@@ -1,4 +1,4 @@
--- The census, the counts of a table (document 01, "Census"; `held` is A(k) of section 3.5 of document 004).
+-- The census, the counts of a table (MANUAL, "Census"; `held` is A(k) of section 3.5 of the paper).
 --
 --   below k t   ==  how many processes compete with a level under k.
 --   held k t    ==  those, and the competing processes not at 24 with fewer than k members in ahead.

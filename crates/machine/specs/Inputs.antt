@@ -1,5 +1,5 @@
--- What an input holds: an image and, in the middle of the same input, the event words (document 01, "The printed run
--- and the call from C"). The order of these checks stands here and nowhere else: call and text are cases over `Input`.
+-- What an input holds: an image, and after it the event words (MANUAL, "Bytes and inputs"). The order of these checks
+-- stands here and nowhere else: call and text are cases over `Input`.
 --
 --   imagePart ws, eventPart ws  ==  the words of the image, and those after it.
 --   Input          ==   what an input can hold.

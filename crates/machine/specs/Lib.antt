@@ -1,4 +1,5 @@
--- The definitions of document 01 in its order, and the system of section 3.2 of document 004 as a relation.
+-- The definitions of the engine, to be read in this order beside MANUAL, which is docs/MANUAL.md here and in every file;
+-- the paper is the one that is named there.
 pub mod Refusals
 pub mod Rows
 pub mod Tables

@@ -1,4 +1,4 @@
--- The refusals by number (document 01, "Refusals by place of checking"). 0 is an accepted answer. Assumes nothing.
+-- The refusals by number (MANUAL, "Refusals"). 0 is an accepted answer. Assumes nothing.
 use Prim.Native.Nat.{ℕ}
 
 -- no refusal
@@ -53,7 +53,7 @@ badArgument = 11
 abbrev pub tooManyWords : ℕ
 tooManyWords = 12
 
--- an image out: fewer lent words than it has
+-- memory for an answer: too little is lent
 abbrev pub tooFewLent : ℕ
 tooFewLent = 13
 

@@ -1,4 +1,4 @@
--- A row, one for each process, and the row with one cell changed (document 01, "A table of posts").
+-- A row, one for each process, and the row with one cell changed (MANUAL, "Tables").
 --
 --   idle    ==  the row of a process that rests, with every variable 0.
 --   blank   ==  what stands past a table's end: all zeros, which is at no location.

@@ -1,5 +1,5 @@
 -- A run, an execution of the system by a list of words up to the first that is refused, and its tally, the counters of
--- its events (document 01, "Runs").
+-- its events (MANUAL, "Runs").
 --
 --   counted e h      ==  the tally h after an accepted word with event e.
 --   runFrom t h ws   ==  the words in order from table t with tally h, up to the first refused one.

@@ -1,4 +1,4 @@
--- One step of one process, with the ahead sets (document 01, "One step" and "Ahead").
+-- One step of one process, with the ahead sets, and lists of words (MANUAL, "Steps", "Ahead sets" and "Lists of words").
 --
 --   goRow n p c v r  ==  row r of process p after GO; c is the set of those that compete, v what turn[level] holds.
 --   moved t k p a    ==  the table after kind k, process p and argument a, where they are allowed.

@@ -1,6 +1,8 @@
--- The system QmxC of section 3.2 of document 004, with the history sets lwb of section 3.4, as a relation on tables.
+-- The system QmxC of section 3.2 of the paper, with the history sets lwb of section 3.4, as a relation on tables (MANUAL,
+-- "Steps" and "Ahead sets").
 --
 --   Step t p u  <=>  process p, by one alternative of the numbered statement at which it is, goes from t to u.
+--   stepWord p x  ==  the event word that stands for the step x of process p, with its choice.
 --
 -- A second reading of the paper: one constructor for each alternative, its guards as premises and its assignments in
 -- the paper's order, by the cell setters and the set operations alone; the step of Steps.antt is not used. pc is
@@ -16,6 +18,7 @@ use lib.ListN.{length, set}
 use Rattle.counting.specs.Sets.{has, setOf, size, without, others}
 use Rattle.machine.specs.Rows.{withLocation, withAct, withBb, withLevel, withEst, withLis, withAhead, withTurn}
 use Rattle.machine.specs.Tables.{Table, row}
+use Rattle.machine.specs.Words.{STAY, COME, FLICKER, GO, LOOK, wordOf}
 use Rattle.machine.specs.declared.Row.{Row}
 
 -- the assignment of private variables of p, and of act[p]
@@ -87,3 +90,24 @@ pub data Step (t : Table) (p : ℕ) : Table → Type 0 where
   -- 40: (flickering) act[p] := false; goto 10
   flickers-40 : (a : ℕ) → row t p .location ≡ 40 → a < 2 → Step t p (assigned t p (withAct a))
   leaves : row t p .location ≡ 40 → Step t p (assigned t p (λ r. withLocation 10 (withAct 0 r)))
+
+-- the word of a step: a FLICKER has the value that the cell gets, a LOOK the process that is looked at
+abbrev pub stepWord : {t u : Table} (p : ℕ) → Step t p u → ℕ
+stepWord p (rests e) = wordOf STAY p 0
+stepWord p (comes e) = wordOf COME p 0
+stepWord p (flickers-20 a e h) = wordOf FLICKER p a
+stepWord p (enters e) = wordOf GO p 0
+stepWord p (starts-pass e h) = wordOf GO p 0
+stepWord p (wins e h) = wordOf GO p 0
+stepWord p (discards q e h a) = wordOf LOOK p q
+stepWord p (keeps q e h a) = wordOf LOOK p q
+stepWord p (ends-pass e h) = wordOf GO p 0
+stepWord p (lowers e h) = wordOf GO p 0
+stepWord p (to-push e h b) = wordOf GO p 0
+stepWord p (waits e h b v) = wordOf GO p 0
+stepWord p (skips e h b v) = wordOf GO p 0
+stepWord p (flickers-24 a e h) = wordOf FLICKER p a
+stepWord p (pushes e) = wordOf GO p 0
+stepWord p (exits e) = wordOf GO p 0
+stepWord p (flickers-40 a e h) = wordOf FLICKER p a
+stepWord p (leaves e) = wordOf GO p 0

@@ -1,4 +1,4 @@
--- Tables: the states of the system (document 01, "A table of posts"; document 004, section 3.2).
+-- Tables: the states of the system (MANUAL, "Tables"; the paper, section 3.2).
 --
 --   row t q        ==   the row of process q; blank past the end.
 --   sound t        <=>  2 to 16 rows, each within its ranges: a well-formed state.

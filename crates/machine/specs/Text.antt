@@ -1,4 +1,4 @@
--- The printed run, byte for byte (document 01, "The printed run and the call from C").
+-- The printed run, byte for byte (MANUAL, "The printed text").
 --
 --   decimal n       ==  the decimal digits of n, as ASCII codes.
 --   line s ns       ==  a line: the text s and the numbers ns, with a space between two.

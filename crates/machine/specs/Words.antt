@@ -1,4 +1,4 @@
--- Event words: the steps that a process may be told to take, with its choice (document 01, "Event words").
+-- Event words: the steps that a process may be told to take, with its choice (MANUAL, "Event words").
 --
 --   kindOf processOf argumentOf  ==  the parts of a word.
 --   wordOf k p a   ==   the word of these parts.

@@ -1,4 +1,4 @@
-// Runs of two processes (document 01, "Runs"): what each answers, a line each.
+// Runs of two processes (MANUAL, "Runs"): what each answers, a line each.
 use libc::STDOUT_FILENO;
 use runs::RunAnswer;
 

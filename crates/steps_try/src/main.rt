@@ -1,4 +1,4 @@
-// Tries the step on the benchmarks of document 01 that need no image, and on each of its refusals.
+// Tries the step on examples that need no image (MANUAL, "Examples"), and on each of its refusals.
 // Words are given in hexadecimal; sets are printed as numbers, bit q for process q.
 use cells::access::row_at;
 use cells::making::make_fresh;

@@ -1,4 +1,4 @@
--- The last printed line says what the run answers (document 01, "The printed run and the call from C").
+-- The last printed line says what the run answers (MANUAL, "The printed text").
 -- Assumes nothing.
 use mathlib.Core.Path.{_≡_, refl, sym, ap, _∙_}
 use mathlib.Core.Bool.{Bool, true, false}

@@ -1,4 +1,4 @@
-// The words of document 01, "Event words", taken apart and put together.
+// Words taken apart and put together (MANUAL, "Event words").
 use machine::Apart;
 use machine::Together;
 ghost use mathlib.Core.Path.{_≡_};

@@ -12,7 +12,7 @@ static uint32_t code_of(uint16_t location) {
     return code;
 }
 
-/* the image of a sound table, from document 01, "Images"; answers its number of words */
+/* the image of a sound table, from the manual, "Images"; answers its number of words */
 static size_t image_of(uint32_t *words, const struct zaguypo_row *rows, uint32_t n) {
     size_t count = 0;
     words[count++] = 0x80000000 + n;

@@ -1,7 +1,10 @@
-/* Tables for the other parts: fresh ones, any sound one, and rows that make a table unsound. */
+/* Tables for the other parts and for rows.c: fresh ones, any sound one, and rows that make a table unsound. And the example. */
 #include "zaguypo.h"
 
 enum { MOST = ZAGUYPO_MOST_PROCESSES };
+
+/* the words of the example, which bring process 0 of two idle ones to 30 */
+static const uint32_t SEVEN[7] = {0x20000000, 0x40000000, 0x40000000, 0x50000001, 0x40000000, 0x40000000, 0x40000000};
 
 static const struct zaguypo_row IDLE = {10, 0, 0, 0, 0, 0, 0, 0};
 static const uint16_t LOCATIONS[8] = {10, 20, 21, 22, 23, 24, 30, 40};

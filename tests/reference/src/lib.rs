@@ -1,5 +1,6 @@
-//! An independent engine for document 01: rows in place, one pass, no allocation in a run. It is what the proved engine is
-//! compared with and measured against. `naive` is a second reading of the same document, slow and obvious, that checks this one.
+//! An independent engine for the rules of docs/MANUAL.md: rows in place, one pass, no allocation in a run. It is what the proved
+//! engine is compared with and measured against. `naive` is a second reading of the same rules, slow and obvious, that checks
+//! this one.
 
 pub mod bytes;
 pub mod census;
@@ -14,6 +15,7 @@ pub mod naive;
 
 pub mod compare;
 pub mod generate;
+pub mod walk;
 
 pub use bytes::c_call;
 pub use census::{census, Census};
@@ -24,7 +26,7 @@ pub use step::{step, Event, StepAnswer};
 pub use text::{print_into, text};
 pub use word::{put_together, take_apart, PartsAnswer, WordAnswer};
 
-/// The refusals of document 01 by number; 0 is none.
+/// The refusals by number (manual, "Refusals"); 0 is none.
 pub mod refusal {
     pub const NONE: u16 = 0;
     pub const NO_HEADER: u16 = 1;

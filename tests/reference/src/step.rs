@@ -1,4 +1,4 @@
-//! One step on rows in place (document 01, "One step" and "Ahead"; document 004, sections 3.2 and 3.4).
+//! One step on rows in place (manual, "Steps" and "Ahead sets"; the paper, sections 3.2 and 3.4).
 
 use crate::refusal;
 use crate::row::{check, code, competing, everyone, only, Row, LOCATIONS};

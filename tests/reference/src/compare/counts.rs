@@ -85,8 +85,8 @@ impl Counts {
         sum
     }
 
-    /// The table of visits, then one line with everything.
-    pub fn report(&self) -> String {
+    /// The table of visits, then one line with everything, by the seed of the cases.
+    pub fn report(&self, seed: u64) -> String {
         let mut out = String::from("visits  N");
         LOCATIONS.iter().for_each(|loc| out += &format!("{loc:>10}"));
         let mut total = [0; LOCATIONS.len()];
@@ -101,7 +101,7 @@ impl Counts {
         let refusals = self.met().into_iter().enumerate().map(|(number, met)| (number.to_string(), met));
         let visits = LOCATIONS.iter().map(|loc| loc.to_string()).zip(total);
         out + &format!(
-            "\nsummary: calls [{}] words {} refusals [{}] visits [{}]",
+            "\nsummary: seed {seed}: calls [{}] words {} refusals [{}] visits [{}]",
             listed(calls),
             self.words,
             listed(refusals),

@@ -19,4 +19,5 @@ pub use engine::{Engine, Naive, Reference};
 #[cfg(feature = "linked")]
 pub use linked::Linked;
 pub use making::make_case;
+pub use show::Hex;
 pub use shrink::shrink;

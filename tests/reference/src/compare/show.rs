@@ -7,7 +7,7 @@ use crate::{PartsAnswer, Reading, Row, WordAnswer};
 use std::fmt;
 
 /// Words in hexadecimal, ten a line.
-struct Hex<'a>(&'a [u32]);
+pub struct Hex<'a>(pub &'a [u32]);
 
 impl fmt::Display for Hex<'_> {
     fn fmt(&self, f: &mut fmt::Formatter) -> fmt::Result {

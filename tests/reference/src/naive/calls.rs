@@ -1,6 +1,6 @@
 //! The calls on lent rows: the fresh table, steps, runs and the census.
 
-use super::step::{take, Moved};
+use super::step::{carry_out, judge, take, Moved};
 use super::system::{size, System};
 use super::Fault;
 use crate::{Census, Ran, Row, Tally};
@@ -24,16 +24,35 @@ pub fn fresh(rows: &mut [Row], fault: Fault) -> u16 {
 
 /// The refusal, or 0 and the rows moved.
 pub fn step(rows: &mut [Row], word: u32, fault: Fault) -> u16 {
-    let mut system = match System::from_rows(rows, fault) {
-        Ok(system) => system,
-        Err(refusal) => return refusal,
-    };
-    match take(&mut system, word, fault) {
-        Ok(_) => {
-            system.to_rows(rows);
-            0
+    Standing::new(rows, fault).step(word, rows)
+}
+
+/// Rows that are read once, to be given any number of words, each as if it were the first.
+pub struct Standing {
+    system: Result<System, u16>,
+    fault: Fault,
+}
+
+impl Standing {
+    pub fn new(rows: &[Row], fault: Fault) -> Standing {
+        Standing { system: System::from_rows(rows, fault), fault }
+    }
+
+    /// The refusal; or 0, and `rows` become those that the word leads to.
+    pub fn step(&self, word: u32, rows: &mut [Row]) -> u16 {
+        let system = match &self.system {
+            Ok(system) => system,
+            Err(refusal) => return *refusal,
+        };
+        match judge(system, word, self.fault) {
+            Ok(event) => {
+                let mut moved = system.clone();
+                carry_out(&mut moved, event, self.fault);
+                moved.to_rows(rows);
+                0
+            }
+            Err(refusal) => refusal,
         }
-        Err(refusal) => refusal,
     }
 }
 

@@ -1,4 +1,4 @@
-//! A second reading of document 01, slow and obvious: sets are arrays of bool, turn is an array of its own, every paragraph is
+//! A second reading of the same rules, slow and obvious: sets are arrays of bool, turn is an array of its own, every paragraph is
 //! followed in its own words. It shares with the fast engine only the records that cross the C boundary. A `Fault` makes it
 //! err in one place, to show that the generated cases would see that error.
 
@@ -10,11 +10,11 @@ mod system;
 mod words;
 
 pub use bytes::{c_call, print, text};
-pub use calls::{census, fresh, run, step};
+pub use calls::{census, fresh, run, step, Standing};
 pub use image::{read_image, write_image};
 pub use words::{put_together, take_apart};
 
-/// One error put into the model; the first group is that of document 01 and of its readings, the last that of memory lent by C
+/// One error put into the model; the first group is of errors that are near, the last that of memory lent by C
 /// and of answers in records.
 #[derive(Clone, Copy, Debug, PartialEq, Eq)]
 pub enum Fault {

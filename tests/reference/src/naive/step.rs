@@ -1,4 +1,4 @@
-//! One step, in the order of document 01.
+//! One step, in the order of the manual, "Steps" and "Ahead sets".
 
 use super::system::{size, Process, System};
 use super::Fault;
@@ -19,6 +19,19 @@ pub struct Moved {
 
 /// Takes one word, or refuses it and changes nothing.
 pub fn take(system: &mut System, word: u32, fault: Fault) -> Result<Moved, u16> {
+    let event = judge(system, word, fault)?;
+    Ok(carry_out(system, event, fault))
+}
+
+/// A word that was not refused, in its parts.
+pub struct Event {
+    kind: u32,
+    p: usize,
+    a: usize,
+}
+
+/// The parts of a word that may be taken, or its refusal.
+pub fn judge(system: &System, word: u32, fault: Fault) -> Result<Event, u16> {
     let n = system.n();
     let kind = word / 0x1000_0000;
     let p = (word / 0x1_0000 % 0x100) as usize;
@@ -46,7 +59,12 @@ pub fn take(system: &mut System, word: u32, fault: Fault) -> Result<Moved, u16> 
     if !listed {
         return Err(11);
     }
-    let before = process.location;
+    Ok(Event { kind, p, a })
+}
+
+/// Moves the system by a word that `judge` let through.
+pub fn carry_out(system: &mut System, Event { kind, p, a }: Event, fault: Fault) -> Moved {
+    let before = system.processes[p].location;
     match kind {
         STAY => {}
         COME => system.processes[p].location = 20,
@@ -55,7 +73,7 @@ pub fn take(system: &mut System, word: u32, fault: Fault) -> Result<Moved, u16> 
         _ => look(system, p, a, fault),
     }
     let come = kind == COME || (kind == STAY && fault == Fault::StayCountsAsCome);
-    Ok(Moved { process: p, before, after: system.processes[p].location, come })
+    Moved { process: p, before, after: system.processes[p].location, come }
 }
 
 fn is_allowed(kind: u32, process: &Process, fault: Fault) -> bool {

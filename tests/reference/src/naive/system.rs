@@ -1,4 +1,4 @@
-//! The state as document 004, section 3.2, has it, and its soundness.
+//! The state as section 3.2 of the paper has it, and its soundness.
 
 use super::Fault;
 use crate::Row;
@@ -30,7 +30,7 @@ pub fn size(set: &Set) -> usize {
 pub fn set_from_bits(bits: u32) -> Set {
     let mut set = [false; 16];
     for (q, member) in set.iter_mut().enumerate() {
-        *member = (bits / 2u32.pow(q as u32)) % 2 == 1;
+        *member = bits >> q & 1 == 1;
     }
     set
 }
@@ -39,7 +39,7 @@ pub fn bits_from_set(set: &Set) -> u32 {
     let mut bits = 0;
     for q in 0..16 {
         if set[q] {
-            bits += 2u32.pow(q as u32);
+            bits += 1 << q;
         }
     }
     bits

@@ -1,4 +1,4 @@
-//! tests/example holds document 01's example input and its output to the byte.
+//! tests/example holds the manual's first example and its output to the byte.
 
 use reference::generate::inputs::to_bytes;
 

@@ -1,6 +1,6 @@
 //! Examples for what C lends and gets beside the runs: fresh tables, images, event words and the printed text.
 
-use crate::document::{fresh_rows, on_both, FRESH, OLD, SEVEN};
+use crate::manual::{fresh_rows, on_both, FRESH, OLD, SEVEN};
 use reference::compare::Engine;
 use reference::generate::inputs::{image_of, to_bytes};
 use reference::{PartsAnswer, Reading, Row, WordAnswer};

@@ -1,7 +1,8 @@
 //! All tests of the reference, in one program.
 
-mod document;
 mod example;
 mod exclusion;
 mod lent;
+mod manual;
 mod models;
+mod walk;

@@ -26,7 +26,7 @@ fn the_two_models_agree() {
         let small = shrink(case, &|case| case.answer(&Reference) != case.answer(&other));
         panic!("{small}\nreference: {}\nnaive: {}", small.answer(&Reference), small.answer(&other));
     }
-    println!("{}", counts.report());
+    println!("{}", counts.report(seed));
     assert_eq!(counts.unseen(), Vec::<String>::new());
     assert!(counts.met()[1..].iter().all(|&met| met > 0));
     // deep for every number of processes: 24, 30 and 40

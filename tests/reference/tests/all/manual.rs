@@ -1,4 +1,4 @@
-//! The examples and benchmarks of document 01, starred and unstarred, on both models.
+//! Examples with their answers, those of the manual among them, on both models.
 
 use reference::compare::{Engine, Naive, Reference};
 use reference::generate::inputs::{image_of, to_bytes};

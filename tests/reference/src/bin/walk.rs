@@ -1,0 +1,101 @@
+//! Walks through every table that two or three processes can reach: the linked library, or the reference where none is linked,
+//! beside the naive model.
+//!
+//!     walk                a line for each walk, with the most memory that the program has had; then `walked: ..`
+//!     walk --control      the naive model alone, which lets two of three processes be at 30 if est is kept at GO 24
+//!
+//! It exits with 1 after a difference, a table that breaks demand 3, or a figure other than the one expected.
+
+use reference::compare::{Case, Engine, Hex, Naive};
+use reference::naive::Fault;
+use reference::walk::{control, Beside, Figures, Finding, Found, Walk};
+use reference::walk::{EVERY_OF_2, SHORTEST, ZEROS_OF_2, ZEROS_OF_3};
+use reference::Tally;
+use std::time::Instant;
+
+#[cfg(feature = "linked")]
+fn engine() -> impl Engine {
+    reference::compare::Linked { replay: None }
+}
+
+#[cfg(not(feature = "linked"))]
+fn engine() -> impl Engine {
+    reference::compare::Reference
+}
+
+fn main() {
+    let arguments: Vec<String> = std::env::args().skip(1).collect();
+    let passed = match arguments.iter().map(String::as_str).collect::<Vec<_>>()[..] {
+        [] => walks(&engine()),
+        ["--control"] => controls(),
+        _ => panic!("walk, or walk --control"),
+    };
+    if !passed {
+        std::process::exit(1);
+    }
+}
+
+fn walks(engine: &dyn Engine) -> bool {
+    let walks = [ZEROS_OF_2, EVERY_OF_2, ZEROS_OF_3];
+    let passed = walks.iter().all(|walk| passes(walk, engine));
+    if passed {
+        println!("walked: {} walks, no difference", walks.len());
+    }
+    passed
+}
+
+fn passes(walk: &Walk, engine: &dyn Engine) -> bool {
+    let start = Instant::now();
+    match (walk.over)(&Beside { engine, fault: Fault::None }) {
+        Ok(figures) => {
+            let seconds = start.elapsed().as_secs_f64();
+            println!("walk {}: {}, {seconds:.1} s, {} MB", walk.name, shown(&figures), most_memory());
+            if figures != walk.expected {
+                println!("EXPECTED: {}", shown(&walk.expected));
+            }
+            figures == walk.expected
+        }
+        Err(found) => {
+            println!("walk {}", walk.name);
+            show(found, engine);
+            false
+        }
+    }
+}
+
+fn shown(Figures { tables, accepted, refused }: &Figures) -> String {
+    format!("{tables} tables, {accepted} accepted words, {refused} refused")
+}
+
+/// The most memory that this program has had so far, in MB.
+fn most_memory() -> u64 {
+    let status = std::fs::read_to_string("/proc/self/status").expect("Linux");
+    let kilobytes = status.lines().find_map(|line| line.strip_prefix("VmHWM:")?.strip_suffix("kB"));
+    kilobytes.and_then(|number| number.trim().parse::<u64>().ok()).expect("a number of kB") / 1024
+}
+
+fn show(found: Found<Finding>, engine: &dyn Engine) {
+    let (what, case) = match found.finding {
+        Finding::Difference(case) => ("DIFFERENCE", case),
+        Finding::Demand3(case) => ("DEMAND 3 BROKEN", case),
+    };
+    println!("{what}: {case}");
+    for engine in [engine, &Naive(Fault::None)] {
+        println!("  {}: {}", engine.name(), case.answer(engine));
+    }
+    println!("  met by: {}", Case::Run { rows: found.start, words: found.words, tally: Tally::default() });
+}
+
+fn controls() -> bool {
+    let (two, three) = (control::<2>(), control::<3>());
+    show_control(2, &two);
+    show_control(3, &three);
+    two.is_ok() && three.is_err_and(|found| found.words.len() == SHORTEST)
+}
+
+fn show_control<F>(n: usize, ended: &Result<Figures, Found<F>>) {
+    match ended {
+        Ok(figures) => println!("control {n}: never two at 30 ({} tables)", figures.tables),
+        Err(found) => println!("control {n}: two at 30 after {} words{}", found.words.len(), Hex(&found.words)),
+    }
+}

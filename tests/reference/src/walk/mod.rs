@@ -1,0 +1,43 @@
+//! Every table that accepted words lead to from fresh tables of two or three processes, with every word given to each: an engine
+//! beside the naive model, or that model alone as a control.
+
+mod beside;
+mod control;
+mod packed;
+mod search;
+mod starts;
+
+pub use beside::{Beside, Finding};
+pub use control::control;
+pub use search::{Figures, Found};
+
+use search::walk;
+use starts::{every_fresh, zeros};
+
+/// A walk of an engine beside the naive model, and what it must count.
+pub struct Walk {
+    pub name: &'static str,
+    pub expected: Figures,
+    pub over: fn(&Beside) -> Result<Figures, Found<Finding>>,
+}
+
+pub const ZEROS_OF_2: Walk = Walk {
+    name: "2 zeros",
+    expected: Figures { tables: 1_116, accepted: 3_884, refused: 29_596 },
+    over: |beside| walk(&[zeros::<2>()], beside),
+};
+
+pub const EVERY_OF_2: Walk = Walk {
+    name: "2 every",
+    expected: Figures { tables: 25_352, accepted: 125_412, refused: 635_148 },
+    over: |beside| walk(&every_fresh::<2>(), beside),
+};
+
+pub const ZEROS_OF_3: Walk = Walk {
+    name: "3 zeros",
+    expected: Figures { tables: 3_426_399, accepted: 18_502_080, refused: 187_081_860 },
+    over: |beside| walk(&[zeros::<3>()], beside),
+};
+
+/// In the control of three processes: the words of a shortest list after which two of them are at 30.
+pub const SHORTEST: usize = 37;

@@ -1,0 +1,161 @@
+//! The walks through every table: their figures, the faults that they see, and the control.
+
+use reference::compare::{Case, Naive, Reference};
+use reference::naive::{self, Fault};
+use reference::walk::{control, Beside, Finding, Found, EVERY_OF_2, SHORTEST, ZEROS_OF_2, ZEROS_OF_3};
+use reference::{Ran, Row, Tally};
+
+/// Seen by a walk of two processes from every fresh table.
+const SEEN: [Fault; 20] = [
+    Fault::Counts40With30,
+    Fault::AheadClearedAtGo40,
+    Fault::OwnRowStoreLostAtGo24,
+    Fault::WaitingFrom21,
+    Fault::HeldAlsoAt24,
+    Fault::OwnRowStoreLostAtFlicker,
+    Fault::CompetingFrom20,
+    Fault::CompetingTo40,
+    Fault::AheadWithSelfAtGo20,
+    Fault::AheadWithSelfAtGo24,
+    Fault::AheadKeptAtGo24,
+    Fault::LookKeepsIdle,
+    Fault::LookDropsBusy,
+    Fault::MoveAtEqualSize,
+    Fault::MoveKeepsBb,
+    Fault::FallKeepsBb,
+    Fault::ActKeptAtGo40,
+    Fault::Go22WithLisIsArgument,
+    Fault::ArgumentBeforeAllowed,
+    Fault::FlickerUpToN,
+];
+
+/// Seen by a walk of three processes only. Of two, the level is at most 1 and est has at most the other one in it.
+const SEEN_OF_3: [Fault; 5] = [
+    // at 24, and at 21 with level 1, est is all others
+    Fault::EstKeptAtGo24,
+    Fault::LisFromEveryone,
+    // at level 1, an empty est and the turn of another both lead to level 0, bb 0 and 21
+    Fault::TurnBeforeSizeOfEst,
+    // no level 2
+    Fault::FallsTwoLevels,
+    Fault::TurnComparedAtLevelBelow,
+];
+
+/// Not seen by a walk of two, nor by one of three.
+const UNSEEN: [Fault; 36] = [
+    // no table that is reached has a process in its own ahead
+    Fault::OwnAheadKeptAtGo30,
+    // every word has a kind, no spare bits, and a process of the table
+    Fault::ProcessBeforeForm,
+    // words go to the step one by one: there is no list of them and no tally
+    Fault::StayCountsAsCome,
+    Fault::TallyKeptOnRefusal,
+    Fault::GoesOnPastRefusal,
+    Fault::OneWordFewer,
+    Fault::OneWordMore,
+    // every table is sound and has two or three rows
+    Fault::FirstTurnUnchecked,
+    Fault::RowCountAfterRows,
+    // the call on bytes is not made
+    Fault::NoImageOnStop,
+    Fault::LentBeforeWordCount,
+    Fault::LentMustBeWords,
+    Fault::ImageFillsAllLent,
+    Fault::ByteLimitIgnored,
+    Fault::OddBytesDropped,
+    // no image is read or written
+    Fault::LengthAfterWords,
+    Fault::RangeBeforeForm,
+    Fault::Level30IsLevel,
+    Fault::SpareBitsOfStateIgnored,
+    Fault::PlaceFromImageStart1,
+    Fault::ReadLentBeforeWords,
+    Fault::ReadClearsRowsFirst,
+    Fault::ReadClearsRowsPastTheTable,
+    Fault::ReadAsksFor16Rows,
+    Fault::ReadSizeWith13,
+    Fault::WritesPartWhenShort,
+    Fault::WritesOneWordMore,
+    // no engine is asked for a fresh table, to take a word apart or to put one together, or to print
+    Fault::FreshOf17Rows,
+    Fault::FreshKeepsWhatMayBeAnything,
+    Fault::ApartKeepsPartsOnRefusal,
+    Fault::TogetherKeepsWordOnRefusal,
+    Fault::TogetherCutsTheArgument,
+    Fault::PrintPartWhenShort,
+    Fault::PrintZeroAfterText,
+    Fault::PrintAnswers0WhenShort,
+    Fault::PrintNeedsOneByteMore,
+];
+
+#[test]
+fn two_processes_from_zeros_and_from_every_fresh_table() {
+    let beside = Beside { engine: &Reference, fault: Fault::None };
+    for walk in [ZEROS_OF_2, EVERY_OF_2] {
+        assert_eq!((walk.over)(&beside).expect("no difference"), walk.expected, "{}", walk.name);
+    }
+}
+
+#[test]
+fn every_fault_is_in_one_list() {
+    for fault in Fault::ALL {
+        let lists = [&SEEN[..], &SEEN_OF_3, &UNSEEN].iter().filter(|list| list.contains(&fault)).count();
+        assert_eq!(lists, 1, "{fault:?}");
+    }
+}
+
+/// The reference and the model with the fault differ where the words lead to, on that very case.
+fn differs(found: Found<Finding>, fault: Fault) {
+    let Finding::Difference(case) = found.finding else { panic!("{fault:?}: {found:?}") };
+    assert_ne!(case.answer(&Reference), case.answer(&Naive(fault)), "{fault:?}");
+    let (Case::Step { rows, .. } | Case::Census { rows }) = case else { panic!("{fault:?}: {case}") };
+    let mut led_to = found.start;
+    let ran = reference::run(&mut led_to, &found.words, &mut Tally::default());
+    assert_eq!((ran.refusal, led_to), (0, rows), "{fault:?}");
+}
+
+#[test]
+fn faults_that_two_processes_show() {
+    for fault in SEEN {
+        let found = (EVERY_OF_2.over)(&Beside { engine: &Reference, fault });
+        differs(found.expect_err(&format!("{fault:?} is seen")), fault);
+    }
+}
+
+#[test]
+fn faults_that_only_three_processes_show() {
+    for fault in SEEN_OF_3 {
+        let found = (ZEROS_OF_3.over)(&Beside { engine: &Reference, fault });
+        differs(found.expect_err(&format!("{fault:?} is seen")), fault);
+    }
+}
+
+#[test]
+fn faults_that_two_processes_do_not_show() {
+    for fault in SEEN_OF_3.into_iter().chain(UNSEEN) {
+        let figures = (EVERY_OF_2.over)(&Beside { engine: &Reference, fault });
+        assert_eq!(figures.expect("no difference"), EVERY_OF_2.expected, "{fault:?}");
+    }
+}
+
+/// The same fault on both sides: they agree, and what is left is demand 3 and the soundness of the tables.
+#[test]
+fn a_fault_on_both_sides_breaks_demand_3() {
+    for fault in [Fault::LookDropsBusy, Fault::Counts40With30, Fault::HeldAlsoAt24, Fault::FlickerUpToN] {
+        let found = (ZEROS_OF_2.over)(&Beside { engine: &Naive(fault), fault });
+        let broken = matches!(&found, Err(Found { finding: Finding::Demand3(_), .. }));
+        assert!(broken, "{fault:?}: {found:?}");
+    }
+}
+
+#[test]
+fn est_kept_at_go_24_lets_two_of_three_be_at_30() {
+    assert_eq!(control::<2>().expect("never two at 30"), ZEROS_OF_2.expected);
+
+    let Found { start, words, .. } = control::<3>().expect_err("two at 30");
+    assert_eq!((&start, words.len()), (&vec![Row::IDLE; 3], SHORTEST));
+    let mut rows = start;
+    let ran = naive::run(&mut rows, &words, &mut Tally::default(), Fault::EstKeptAtGo24);
+    assert_eq!(ran, Ran { taken: SHORTEST as u32, refusal: 0 });
+    assert_eq!(rows.iter().filter(|row| row.loc == 30).count(), 2);
+}
