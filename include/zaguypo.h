@@ -1,6 +1,7 @@
 /* Zaguypo from C and C++. Every function is total: it takes any content and any length, ends, and changes no memory but
    that named here. It keeps no state, so that calls on different memory may be made from any number of threads at once.
-   A lent array is a pointer and a number of elements; of no elements the pointer may be NULL. Lent arrays must not overlap.
+   A lent array is a pointer and a number of elements; of no elements the pointer may be NULL. A tally's pointer may not. What is
+   lent in one call must not overlap.
    Nothing checks these declarations against the Rattle source. The rules are in the manual (docs/MANUAL.md, installed as
    share/doc/zaguypo/MANUAL.md); names in quotes are its sections. */
 #ifndef ZAGUYPO_H
@@ -10,7 +11,7 @@
 #include <stdint.h>
 
 /* The first number rises with a change that a host compiled before would not survive, the second with any other change of
-   an answer or of the interface. CHANGELOG.md says which landing has which version. */
+   an answer or of the interface. CHANGELOG.md says what each version changed. */
 #define ZAGUYPO_VERSION "1.0.0"
 #define ZAGUYPO_VERSION_MAJOR 1
 #define ZAGUYPO_VERSION_MINOR 0
@@ -52,9 +53,9 @@ extern "C" {
    8 to 11, the image of the table after the words taken fills the first 20N lent bytes, and no others change. */
 uint64_t zaguypo_run(const uint8_t *input, size_t input_len, uint8_t *image, size_t image_len);
 
-/* The text that the printing program, zaguypo-replay, prints for an input. Answers its length, which is at
-   most ZAGUYPO_TEXT_BYTES. Where text_len is at least that, the text fills the first lent bytes, with no zero after it, and no others
-   change; where text_len is less, every lent byte is as given. */
+/* The text that the printing program, zaguypo-replay, prints for an input. Answers the length of the text, which is at most
+   ZAGUYPO_TEXT_BYTES. Where text_len is at least this length, the text fills the first lent bytes, with no zero after it, and no
+   others change; where text_len is less, every lent byte is as given. */
 size_t zaguypo_print(const uint8_t *input, size_t input_len, char *text, size_t text_len);
 
 /* ---- tables of rows ("Tables", "Steps", "Ahead sets", "Runs", "Census") */

@@ -1,5 +1,6 @@
 -- Benchmarks of the definitions (`starred`; MANUAL, "Examples", has most of them), and examples with three processes
--- that tell near errors apart: two lists, each evaluated by one theorem. The expected tables are those of a model in another language. Assumes nothing.
+-- that tell near errors apart: two lists, each evaluated by one theorem. The expected tables are those of a separate
+-- model. Assumes nothing.
 use Prim.Native.Nat.{ℕ}
 use mathlib.Core.Path.{_≡_, refl}
 use mathlib.Core.Bool.{Bool, true, false, _&&_}
@@ -71,7 +72,7 @@ unfolding passes
 allPass [] = true
 allPass (b ∷ bs) = passes b && allPass bs
 
--- the fresh image of two processes, with other words in the place of process 0's first and second
+-- the fresh image of two processes, with other words in the place of process 0's first three
 pub two : ℕ → ℕ → ℕ → List ℕ
 two state est lis =
     0x80000002 ∷ state ∷ est ∷ lis ∷ 0xC0000000 ∷ 0x90010000 ∷ 0xA0010000 ∷ 0xB0010000 ∷ 0xC0010000 ∷ 0xD0010000 ∷ []

@@ -1,5 +1,5 @@
--- What C gets of the functions beside step, run, census and call, and what these leave in lent memory
--- (MANUAL, "The functions of C"). Each says in numbers and lent rows what a definition of the files before says.
+-- What C gets of the functions beside step, run, census, writing and call, and what these leave in lent memory (MANUAL,
+-- "The functions of C"). Each says in numbers and lent rows what a definition of the files before says.
 --
 --   partsAnswerOf w      ==  the word w taken apart.
 --   wordAnswerOf k p a   ==  the parts put together.

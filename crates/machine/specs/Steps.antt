@@ -1,4 +1,5 @@
--- One step of one process, with the ahead sets, and lists of words (MANUAL, "Steps", "Ahead sets" and "Lists of words").
+-- One step of one process, with the ahead sets, lists of words, and what a step tells (MANUAL, "Steps", "Ahead sets",
+-- "Lists of words" and "The functions of the crates").
 --
 --   goRow n p c v r  ==  row r of process p after GO; c is the set of those that compete, v what turn[level] holds.
 --   moved t k p a    ==  the table after kind k, process p and argument a, where they are allowed.
@@ -7,6 +8,7 @@
 --   refusalOf t w    ==  the step's refusal: 6, 7, then the word's, or 0.
 --   afterWord t w    ==  the table after the step; the one given where the step refuses.
 --   afterWords t ws  ==  the table after a list of words, given one by one; a refused word is passed over.
+--   eventOf t w      ==  the event of an accepted word: a COME, an arrival at 30, or neither.
 --   toldOf t w       ==  what the step tells of an accepted word; `quiet` is nothing, `withEvent` sets a field.
 --   answerOf t w     ==  the step's answer: what it tells of an accepted word, or the number of the refusal.
 --   stepAnswerOf t w ==  the step's answer to C.

@@ -1,10 +1,11 @@
--- Tables: the states of the system (MANUAL, "Tables"; the paper, section 3.2).
+-- Tables: the states of the system (MANUAL, "Tables" and "The functions of the crates"; the paper, section 3.2).
 --
 --   row t q        ==   the row of process q; blank past the end.
 --   sound t        <=>  2 to 16 rows, each within its ranges: a well-formed state.
 --   tableRefusal t ==   the first of 6 and 7 that applies, or 0.
 --   fresh t        <=>  sound, and every process at 10 with act 0, bb 0 and ahead empty: an initial state.
 --   freshTable n   ==   the fresh table of n processes in which everything else is 0 too.
+--   handed ..      ==   a refusal, a place and a table as they are handed back by value; madeFresh n is a fresh one so.
 --   competes r     <=>  at locations 21 to 30; competitors t is the set of those that compete, the paper's Cp.
 --
 -- Assumes nothing.

@@ -1,5 +1,5 @@
-//! Walks through every table that two or three processes can reach: the linked library, or the reference where none is linked,
-//! beside the naive model.
+//! Walks through every table that two processes reach from a fresh one, and three from zeros: the linked library, or the
+//! reference where none is linked, beside the naive model.
 //!
 //!     walk                a line for each walk, with the most memory that the program has had; then `walked: ..`
 //!     walk --control      the naive model alone, which lets two of three processes be at 30 if est is kept at GO 24

@@ -3,7 +3,7 @@
 use super::Random;
 use crate::row::{everyone, Row, LOCATIONS};
 
-/// Fresh as the document has it: level, est, lis and turn are anything sound.
+/// Fresh (manual, "Tables"): level, est, lis and turn are anything sound.
 pub fn fresh_table(rng: &mut Random, n: usize) -> Vec<Row> {
     if rng.chance(1, 2) {
         return vec![Row::IDLE; n];
