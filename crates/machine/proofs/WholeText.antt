@@ -1,5 +1,5 @@
--- An output that was cut can be told from a whole one: `isWhole` holds of every text, and of no part of one that lacks its
--- end. Assumes nothing.
+-- An output that was cut can be told from a whole one: `isWhole` holds of every text, and of no part of one that lacks
+-- its end. Assumes nothing.
 use Prim.Native.Nat.{ℕ, zero, suc, _+_, _/_, _%_, _≤_}
 use mathlib.Core.Path.{_≡_, refl, sym, ap, subst, _∙_}
 use mathlib.Core.Bool.{Bool, true, false, false≢true, cond}

@@ -6,8 +6,8 @@
 --   imageLength n ==   how many words an image of n processes has; rowPlace, turnPlace say where they stand.
 --   writtenOf t l ==   lent words l after the image of t was written into them: 6, 7, then 13, or the first words set.
 --
--- Of each kind of word: its fields, written (bodyOf) and read (codeIn .. turnIn), the other bits (spareBody), the ranges
--- (inRange). Assumes nothing.
+-- Of each kind of word: its fields, written (bodyOf) and read (codeIn .. turnIn), the other bits (spareBody), the
+-- ranges (inRange). Assumes nothing.
 use Prim.Native.Nat.{ℕ, zero, suc, _+_, _-_, _*_, _/_, _%_, _^_, min}
 use mathlib.Core.Bool.{Bool, true, false, cond, _&&_, not}
 use mathlib.Core.List.{List, [], _∷_, _++_, map}

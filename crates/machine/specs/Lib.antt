@@ -1,5 +1,5 @@
--- The definitions of the engine, to be read in this order beside MANUAL, which is docs/MANUAL.md here and in every file;
--- the paper is the one that is named there.
+-- The definitions of the engine, to be read in this order beside MANUAL, which is docs/MANUAL.md here and in every
+-- file; the paper is the one that is named there.
 pub mod Refusals
 pub mod Rows
 pub mod Tables

@@ -1,8 +1,8 @@
--- The system QmxC of section 3.2 of the paper, with the history sets lwb of section 3.4, as a relation on tables (MANUAL,
--- "Steps" and "Ahead sets").
+-- The system QmxC of section 3.2 of the paper, with the history sets lwb of section 3.4, as a relation on tables
+-- (MANUAL, "Steps" and "Ahead sets").
 --
---   Step t p u  <=>  process p, by one alternative of the numbered statement at which it is, goes from t to u.
---   stepWord p x  ==  the event word that stands for the step x of process p, with its choice.
+--   Step t p u    <=>  process p, by one alternative of the numbered statement at which it is, goes from t to u.
+--   stepWord p x  ==   the event word that stands for the step x of process p, with its choice.
 --
 -- A second reading of the paper: one constructor for each alternative, its guards as premises and its assignments in
 -- the paper's order, by the cell setters and the set operations alone; the step of Steps.antt is not used. pc is

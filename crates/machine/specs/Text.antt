@@ -113,8 +113,8 @@ printed bs = textOf (inputOf bs)
 abbrev pub beginsLast : ℕ → Bool
 beginsLast b = oneOf b (100 ∷ 115 ∷ 105 ∷ [])
 
--- what is left of a text is read on; `start` says whether a line begins here, and `last` whether the line that is begun,
--- or else the one that has just ended, begins as a last line
+-- what is left of a text is read on; `start` says whether a line begins here, and `last` whether the line that is
+-- begun, or else the one that has just ended, begins as a last line
 unfoldable pub endsWhole : Bool → Bool → List ℕ → Bool
 endsWhole start last [] = start && last
 endsWhole start last (b ∷ s) = endsWhole (eqb b 10) (cond start (beginsLast b) last) s

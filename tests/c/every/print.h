@@ -1,4 +1,5 @@
-/* zaguypo_print: texts written out from the manual, "The printed text", each into exactly enough bytes, one more, one fewer and none. */
+/* zaguypo_print: texts written out from the manual, "The printed text", each into exactly enough bytes, one more, one fewer and
+   none. */
 
 enum { LONG_TEXT = 150000 };
 

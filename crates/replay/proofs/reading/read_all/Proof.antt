@@ -1,4 +1,5 @@
--- `reading::read_all` meets its contract. The invariant of its loop: what is read is within the buffer. Assumes nothing.
+-- `reading::read_all` meets its contract. The invariant of its loop: what is read is within the buffer.
+-- Assumes nothing.
 use Prim.Native.Nat.{_-_, _≤_}
 use mathlib.Core.Path.{_≡_}
 use lib.ListN.{length}
