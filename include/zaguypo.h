@@ -12,9 +12,9 @@
 
 /* The first number rises with a change that a host compiled before would not survive, the second with any other change of
    an answer or of the interface. CHANGELOG.md says what each version changed. */
-#define ZAGUYPO_VERSION "1.0.0"
+#define ZAGUYPO_VERSION "1.1.0"
 #define ZAGUYPO_VERSION_MAJOR 1
-#define ZAGUYPO_VERSION_MINOR 0
+#define ZAGUYPO_VERSION_MINOR 1
 #define ZAGUYPO_VERSION_PATCH 0
 
 #define ZAGUYPO_MOST_PROCESSES 16
@@ -40,7 +40,7 @@ extern "C" {
      7   a table: a row is unsound
      12  a run: more than 8,192 words
      13  too little memory is lent for the answer
-     8   an event word: kind not 1 to 5, or a spare bit set
+     8   an event word: kind not 1 to 6, or a spare bit set
      9   the same word: no such process
      10  the same word: kind not allowed where the process is
      11  the same word: argument not as listed */
@@ -120,7 +120,8 @@ struct zaguypo_reading zaguypo_read(const uint32_t *words, size_t count, struct 
    lent, and no word changes. */
 uint16_t zaguypo_write(const struct zaguypo_row *rows, size_t size, uint32_t *words, size_t count);
 
-/* ---- event words, without a table ("Event words") */
+/* ---- event words, without a table ("Event words"). The kinds are 1 STAY, 2 COME, 3 FLICKER, 4 GO, 5 LOOK and, since version
+   1.1.0, 6 CANCEL, which before was refused with 8 */
 
 /* The parts of a word; all 0 where it is refused. */
 struct zaguypo_parts {
@@ -135,7 +136,7 @@ struct zaguypo_word {
     uint32_t refusal, word;
 };
 
-/* Puts a word together: the word; or 8 for a kind outside 1 to 5, then 9 for a process over 15, then 11 for an argument over
+/* Puts a word together: the word; or 8 for a kind outside 1 to 6, then 9 for a process over 15, then 11 for an argument over
    255. */
 struct zaguypo_word zaguypo_together(uint32_t kind, uint32_t process, uint32_t argument);
 

@@ -109,11 +109,15 @@ static void runs(void) {
     called("the example, lent one too few", 4 * count, 39, 13, NULL, 0);
     called("the example, nothing lent", 4 * count, 0, 13, NULL, 0);
     called("a byte more", 4 * count + 1, 40, 14, NULL, 0);
+    after[1] = 0x90007200;
+    start(), put(0x20000000), put(0x30000001), put(0x60000000);
+    called("a CANCEL with act 1", 4 * count, 40, 256 * 3, after, 10);
     stopped("kind 0", 0x00000000, 8);
-    stopped("kind 6", 0x60000000, 8);
+    stopped("kind 7", 0x70000000, 8);
     stopped("spare bit 24", 0x11000000, 8);
     stopped("process 2 of 2", 0x10020000, 9);
     stopped("GO at 10", 0x40000000, 10);
+    stopped("CANCEL at 10", 0x60000000, 10);
     stopped("COME with an argument", 0x20000001, 11);
 }
 

@@ -66,12 +66,13 @@ static void unsound_rows(uint32_t n) {
 /* Process 0 is idle, the other rows are any sound ones. Refused are kinds and spare bits, 8 before 9; processes, 9 before 10
    and before 11; kinds at 10, 10 before 11; arguments: each by itself, and as the third of four words. */
 static void refused_words(uint32_t n) {
-    const uint32_t refused[12][2] = {
-        {0x00000000, 8}, {0x60000000, 8}, {0x11000000, 8},  {0x10008000, 8},  {0x60FF0000, 8},  {0x20000000 | n << 16, 9},
-        {0x40FF0000, 9}, {0x20FF0007, 9}, {0x40000000, 10}, {0x40000001, 10}, {0x10000001, 11}, {0x200000FF, 11}};
+    const uint32_t refused[14][2] = {
+        {0x00000000, 8},  {0x70000000, 8},  {0x11000000, 8},  {0x10008000, 8},  {0x70FF0000, 8},
+        {0x40FF0000, 9},  {0x20FF0007, 9},  {0x60FF0000, 9},  {0x20000000 | n << 16, 9},
+        {0x40000000, 10}, {0x40000001, 10}, {0x60000001, 10}, {0x10000001, 11}, {0x200000FF, 11}};
     struct zaguypo_row table[MOST];
     sound_rows(table, n), table[0] = IDLE;
-    for (int i = 0; i < 12; i++) {
+    for (int i = 0; i < 14; i++) {
         const uint32_t word = refused[i][0], refusal = refused[i][1], four[4] = {0x10000000, 0x10000000, word, 0x10000000};
         stepped(table, n, word, refusal, table);
         ran(table, n, &word, 1, refusal, NONE, table);
@@ -117,6 +118,24 @@ static void crowd(void) {
     ran(tables[0], 3, words, 2, 0, (struct zaguypo_tally){2, 0, 0}, tables[2]);
 }
 
+/* CANCEL of process 0: where it is at 20 its location alone changes, act 0 or 1 and every other cell kept; 11 there, 10 at each
+   other location */
+static void cancelled(void) {
+    static const struct zaguypo_row at[9] = {{20, 0, 1, 1, 3, 2, 2, 0}, {20, 1, 1, 1, 3, 2, 2, 0}, {10, 1, 1, 1, 3, 2, 2, 0},
+                                             {21, 1, 1, 1, 3, 2, 2, 0}, {22, 1, 1, 1, 3, 2, 2, 0}, {23, 1, 1, 1, 3, 2, 2, 0},
+                                             {24, 1, 1, 1, 3, 2, 2, 0}, {30, 1, 1, 0, 3, 2, 2, 0}, {40, 1, 1, 1, 3, 2, 2, 0}};
+    static const struct zaguypo_row other = {21, 1, 0, 1, 1, 0, 1, 1};
+    static const uint32_t cancel = 0x60000000;
+    for (int i = 0; i < 9; i++) {
+        const struct zaguypo_row table[2] = {at[i], other};
+        struct zaguypo_row after[2] = {at[i], other};
+        if (i < 2) after[0].location = 40;
+        stepped(table, 2, cancel, i < 2 ? 0 : 10, after);
+        stepped(table, 2, 0x60000001, i < 2 ? 11 : 10, table);
+        ran(table, 2, &cancel, 1, i < 2 ? 0 : 10, (struct zaguypo_tally){i < 2, 0, 0}, after);
+    }
+}
+
 /* A lone process is at 30 after n + 5 words, and COME stops it there. The longest run: 356 circuits of 23 words, the processes
    in turn, then COME, GO, GO and a LOOK at 0 of process 4. */
 static void circuits(void) {
@@ -139,6 +158,7 @@ int main(void) {
     for (uint32_t n = 2; n <= 16; n++) unsound_rows(n), refused_words(n), lists(n);
     example();
     crowd();
+    cancelled();
     circuits();
     return done("rows");
 }

@@ -32,7 +32,7 @@ static uint32_t draw(uint32_t *seed, uint32_t below) {
 static void give_any(struct given *g, uint32_t seed, int longest) {
     uint32_t n = 2 + draw(&seed, 15), q = draw(&seed, n);
     give(g, n, longest ? ZAGUYPO_RUN_LIMIT : draw(&seed, 300));
-    g->kind = draw(&seed, 7), g->process = draw(&seed, 18), g->argument = draw(&seed, 258);
+    g->kind = draw(&seed, 8), g->process = draw(&seed, 18), g->argument = draw(&seed, 258);
     g->word = g->kind << 28 | q << 16 | draw(&seed, 2);
     if (!longest) g->text_len = draw(&seed, 6000);
     if (draw(&seed, 2)) g->input[draw(&seed, (uint32_t)g->input_len)] ^= 1;

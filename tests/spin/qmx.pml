@@ -1,6 +1,7 @@
-/* QmxC, the numbered program cmember(p) of section 3.2 of the paper with the history variable of 3.4, from the state of zeros.
-   Each alternative of a numbered statement is one option of the loop and one indivisible step: the states that Spin stores are
-   the reachable tables, and its transitions, but for one, the pairs of a table and a step possible there (see README.md).
+/* QmxC, the numbered program cmember(p) of section 3.2 of the paper with the history variable of 3.4, from the state of zeros;
+   and one move that the paper does not have, the last option of the loop. Each alternative of a numbered statement is one option
+   and one indivisible step, and so is that move: the states that Spin stores are the reachable tables, and its transitions, but
+   for one, the pairs of a table and a step possible there (see README.md).
      -DN=2 or -DN=3   the processes are 0 .. N - 1
      -DBROKEN         the control: the completing write at 24 keeps est as it is
      -DMX_ALONE       asserts mutual exclusion alone, and nothing of A(k) */
@@ -112,5 +113,9 @@ active [N] proctype cmember()
     :: d_step { at(40) -> act[p] = 0; go(40) }
     :: d_step { at(40) -> act[p] = 1; go(40) }
     :: d_step { at(40) -> act[p] = 0; go(10) }
+
+    /* not in section 3.2: a process at 20 cancels. Its write of act[p] ends there, with whatever act[p] holds, and nothing else
+       changes */
+    :: d_step { at(20) -> go(40) }
     od
 }

@@ -21,6 +21,7 @@ use Rattle.machine.specs.Tables.{Table, row, competes}
 use Rattle.machine.specs.System.{Cp, Step}
 use Rattle.machine.specs.System.Step.{rests, comes, flickers-20, enters, starts-pass, wins, discards, keeps, ends-pass}
 use Rattle.machine.specs.System.Step.{lowers, to-push, waits, skips, flickers-24, pushes, exits, flickers-40, leaves}
+use Rattle.machine.specs.System.Step.{cancels}
 use Rattle.machine.specs.declared.Row.{Row}
 use Rattle.exclusion.proofs.Frame.{bare, Becomes, TurnsKept, TurnsKeptBut, set-becomes, set-keeps-turns}
 use Rattle.exclusion.proofs.Frame.{turn-becomes, other-turns-keep, turn-set-becomes, turn-set-is}
@@ -194,3 +195,4 @@ module _ (t : Table) (p : ℕ) (l : p < length t) where
       (ap (λ (s : ℕ). withAhead s blank) (without-none 0 p (omega arith) (has-zero p))))
   effect-of i (flickers-40 a e h) = idle-set 40 _ e refl (competes-at (row t p) 40 e) refl refl refl refl
   effect-of i (leaves e) = idle-set 40 _ e refl refl refl refl refl refl
+  effect-of i (cancels e) = idle-set 20 _ e refl refl refl refl refl refl

@@ -24,7 +24,7 @@ use Rattle.machine.specs.Steps.{refusalOf, afterWord, afterWords}
 use Rattle.machine.specs.System.{Step}
 use Rattle.machine.specs.System.Step.{rests, comes, flickers-20, enters, starts-pass, wins, discards, keeps}
 use Rattle.machine.specs.System.Step.{ends-pass, lowers, to-push, waits, skips, flickers-24, pushes, exits}
-use Rattle.machine.specs.System.Step.{flickers-40, leaves}
+use Rattle.machine.specs.System.Step.{flickers-40, leaves, cancels}
 use Rattle.counting.proofs.TestLaws.{or-cases, cond-zero}
 use Rattle.machine.proofs.KindLaws.{by-kind}
 use Rattle.machine.proofs.OneOfLaws.{by-one}
@@ -109,6 +109,7 @@ module _ (t : Table) (p : ℕ) (l : p < length t) where
       (λ h g. go-step h)
       (λ h g.
       look-step a (eqb-true _ _ (and-eq-true-iff (eqb (row t p .location) 22) (not (eqb (row t p .lis) 0)) .0 h .0)) g)
+      (λ h g. cancels (eqb-true _ _ h))
       k
 
 -- ---- what an accepted word says

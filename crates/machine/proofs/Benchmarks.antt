@@ -1,6 +1,6 @@
--- Benchmarks of the definitions (`starred`; MANUAL, "Examples", has most of them), and examples with three processes
--- that tell near errors apart: two lists, each evaluated by one theorem. The expected tables are those of a separate
--- model. Assumes nothing.
+-- Benchmarks of the definitions (`starred`, `cancels`; MANUAL, "Examples", has most of them), and examples with three
+-- processes that tell near errors apart: lists, each evaluated by one theorem. The expected tables of three are those of
+-- a separate model. Assumes nothing.
 use Prim.Native.Nat.{ℕ}
 use mathlib.Core.Path.{_≡_, refl}
 use mathlib.Core.Bool.{Bool, true, false, _&&_}
@@ -121,6 +121,50 @@ starred =
 pub starred-pass : allPass starred ≡ true
 unfolding allPass starred
 starred-pass = refl
+
+-- ---- CANCEL
+
+-- process 0 at 40 by a CANCEL, its act in `state`; process 1 at 22, after it has looked at 0 with this est
+watched : ℕ → ℕ → List ℕ
+watched state est =
+    0x80000002 ∷ state ∷ 0xA0000000 ∷ 0xB0000000 ∷ 0xC0000000 ∷ 0x90013201 ∷ est ∷ 0xB0010000 ∷ 0xC0010000 ∷
+    0xD0010000 ∷ []
+
+-- process 1 comes, enters and looks at 0
+watching : List ℕ
+watching = 0x20010000 ∷ 0x40010000 ∷ 0x40010000 ∷ 0x50010000 ∷ []
+
+pub cancels : List Benchmark
+unfolding freshTwo two from-fresh watched watching
+cancels =
+    -- at 40 with act 0; then process 1 does not see 0
+    from-fresh (0x20000000 ∷ 0x60000000 ∷ []) 2 0 (two 0x90007000 0xA0000000 0xB0000000)
+    ∷ from-fresh (0x20000000 ∷ 0x60000000 ∷ watching) 6 0 (watched 0x90007000 0xA0010000)
+    -- at 40 with act 1, as a FLICKER left it; then process 1 keeps 0 in est
+    ∷ from-fresh (0x20000000 ∷ 0x30000001 ∷ 0x60000000 ∷ []) 3 0 (two 0x90007200 0xA0000000 0xB0000000)
+    ∷ from-fresh (0x20000000 ∷ 0x30000001 ∷ 0x60000000 ∷ watching) 7 0 (watched 0x90007200 0xA0010001)
+    -- it flickers at 40 and GOes to 10
+    ∷ from-fresh (0x20000000 ∷ 0x60000000 ∷ 0x30000001 ∷ []) 3 0 (two 0x90007200 0xA0000000 0xB0000000)
+    ∷ from-fresh (0x20000000 ∷ 0x60000000 ∷ 0x30000001 ∷ 0x40000000 ∷ []) 4 0 freshTwo
+    -- elsewhere than at 20, also where it would have a wrong argument: at 10, at 21, at 40
+    ∷ from-fresh (0x60000000 ∷ []) 0 10 freshTwo
+    ∷ from-fresh (0x60000001 ∷ []) 0 10 freshTwo
+    ∷ from-fresh (0x20000000 ∷ 0x40000000 ∷ 0x60000000 ∷ []) 2 10 (two 0x90002201 0xA0000002 0xB0000000)
+    ∷ from-fresh (0x20000000 ∷ 0x60000000 ∷ 0x60000000 ∷ []) 2 10 (two 0x90007000 0xA0000000 0xB0000000)
+    -- another argument; the first number that is no kind
+    ∷ from-fresh (0x20000000 ∷ 0x60000001 ∷ []) 1 11 (two 0x90001000 0xA0000000 0xB0000000)
+    ∷ from-fresh (0x70000000 ∷ []) 0 8 freshTwo
+    ∷ []
+
+pub cancels-pass : allPass cancels ≡ true
+unfolding allPass cancels
+cancels-pass = refl
+
+-- it is no event of a tally, but a word
+pub cancel-is-quiet :
+    runOf (freshTable 2) (0x20000000 ∷ 0x60000000 ∷ []) .tally ≡ record { words = 2; comes = 1; arrivals = 0 }
+unfolding evaluated
+cancel-is-quiet = refl
 
 -- ---- three processes
 
@@ -271,7 +315,33 @@ pub example-printed : printed exampleInput ≡ exampleText
 unfolding exampleInput exampleText evaluated passes printed digits spaced runLines textOf inputOf wordsHold wordsIn
 example-printed = refl
 
--- and in 99 lent bytes, as many as it has; in one more; in one fewer
+-- a process that gives up, with its text
+pub cancelInput : List ℕ
+unfolding freshTwo two bytesOf
+cancelInput = bytesOf (freshTwo ++ (0x20000000 ∷ 0x30000001 ∷ 0x60000000 ∷ 0x30000000 ∷ 0x40000000 ∷ []))
+
+pub cancelText : List ℕ
+cancelText =
+    -- posts 2
+    112 ∷ 111 ∷ 115 ∷ 116 ∷ 115 ∷ 32 ∷ 50 ∷ 10 ∷
+    -- 0 0 10 20 0
+    48 ∷ 32 ∷ 48 ∷ 32 ∷ 49 ∷ 48 ∷ 32 ∷ 50 ∷ 48 ∷ 32 ∷ 48 ∷ 10 ∷
+    -- 1 0 20 20 0
+    49 ∷ 32 ∷ 48 ∷ 32 ∷ 50 ∷ 48 ∷ 32 ∷ 50 ∷ 48 ∷ 32 ∷ 48 ∷ 10 ∷
+    -- 2 0 20 40 0
+    50 ∷ 32 ∷ 48 ∷ 32 ∷ 50 ∷ 48 ∷ 32 ∷ 52 ∷ 48 ∷ 32 ∷ 48 ∷ 10 ∷
+    -- 3 0 40 40 0
+    51 ∷ 32 ∷ 48 ∷ 32 ∷ 52 ∷ 48 ∷ 32 ∷ 52 ∷ 48 ∷ 32 ∷ 48 ∷ 10 ∷
+    -- 4 0 40 10 0
+    52 ∷ 32 ∷ 48 ∷ 32 ∷ 52 ∷ 48 ∷ 32 ∷ 49 ∷ 48 ∷ 32 ∷ 48 ∷ 10 ∷
+    -- done 5
+    100 ∷ 111 ∷ 110 ∷ 101 ∷ 32 ∷ 53 ∷ 10 ∷ []
+
+pub cancel-printed : printed cancelInput ≡ cancelText
+unfolding cancelInput cancelText evaluated passes printed digits spaced runLines textOf inputOf wordsHold wordsIn
+cancel-printed = refl
+
+-- the first example in 99 lent bytes, as many as it has; in one more; in one fewer
 pub printed-examples :
     (printedIn exampleInput (replicate 99 255) ≡ record { number = 99; lent = exampleText })
     × (printedIn exampleInput (replicate 100 255) ≡ record { number = 99; lent = exampleText ++ (255 ∷ []) })

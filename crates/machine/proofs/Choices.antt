@@ -6,7 +6,7 @@
 -- Assumes nothing.
 use Prim.Native.Nat.{ℕ, _≤_, _<_}
 use mathlib.Core.Path.{_≡_, refl, sym, ap, ap₂, _∙_}
-use mathlib.Core.Bool.{true, cond, not, and-eq-true-iff}
+use mathlib.Core.Bool.{true, cond, _&&_, not, and-eq-true-iff}
 use mathlib.Core.Logic.{_≢_, ⊎-elim}
 use mathlib.Core.List.{[], _∷_, map}
 use native.Mathlib.Decide.{ℕ-discrete}
@@ -20,7 +20,7 @@ use Rattle.counting.specs.Sets.{without}
 use Rattle.counting.proofs.SetLaws.{without-injective}
 use Rattle.machine.specs.Rows.{withAct, withAhead}
 use Rattle.machine.specs.Tables.{Table, row, oneOf}
-use Rattle.machine.specs.Words.{STAY, COME, FLICKER, GO, LOOK, isKind}
+use Rattle.machine.specs.Words.{STAY, COME, FLICKER, GO, LOOK, CANCEL, isKind}
 use Rattle.machine.specs.Steps.{entered, looked, flickered, gone, moved, allowed, argumentFits}
 use Rattle.machine.specs.System.{turnAssigned}
 use Rattle.machine.specs.declared.Row.{Row}
@@ -36,7 +36,10 @@ use Rattle.machine.proofs.Forms.{flickered-act, flickered-turn, gone-pu
 
 -- the kind of the word that leads from location b to location a
 abbrev pub kindBy : ℕ → ℕ → ℕ
-kindBy b a = cond (eqb b 10) (cond (eqb a 10) STAY COME) (cond (eqb a b) (cond (eqb b 22) LOOK FLICKER) GO)
+kindBy b a =
+    cond (eqb b 10) (cond (eqb a 10) STAY COME)
+    (cond (eqb a b) (cond (eqb b 22) LOOK FLICKER)
+    (cond (eqb b 20 && eqb a 40) CANCEL GO))
 
 module _ (t : Table) (p : ℕ) (l : p < length t) where
   -- the locations of p before and after tell the kind k
@@ -136,6 +139,7 @@ module _ (t : Table) (p : ℕ) (l : p < length t) where
       let f = and-eq-true-iff (eqb (row t p .location) 22) (not (eqb (row t p .lis) 0)) .0 h .0 in
       let e = eqb-true (row t p .location) 22 f in
       tells-set _ 22 22 e e)
+      (λ h. tells-set _ 20 40 (eqb-true _ _ h) refl)
       k
 
   -- ---- the argument
@@ -183,6 +187,7 @@ module _ (t : Table) (p : ℕ) (l : p < length t) where
       (λ h f g e.
       without-injective (row t p .lis) a b (lt-of-lt-of-le (s .lis-low) (pow-mono few)) f g
       (sym (lis-shows a) ∙ ap (λ (u : Table). row u p .lis) e ∙ lis-shows b))
+      none
       k kind
     where
       -- a kind whose argument is 0

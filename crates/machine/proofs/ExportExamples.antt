@@ -14,16 +14,18 @@ use Rattle.machine.specs.Exports.{partsAnswerOf, wordAnswerOf, freshIn, 
 
 pub apart-examples :
     (partsAnswerOf 0x5003000A ≡ record { refusal = 0; kind = 5; process = 3; argument = 10 })
-    × (partsAnswerOf 0x6003000A ≡ record { refusal = 8; kind = 0; process = 0; argument = 0 })
+    × (partsAnswerOf 0x60030000 ≡ record { refusal = 0; kind = 6; process = 3; argument = 0 })
+    × (partsAnswerOf 0x7003000A ≡ record { refusal = 8; kind = 0; process = 0; argument = 0 })
     × (partsAnswerOf 0x50100000 ≡ record { refusal = 9; kind = 0; process = 0; argument = 0 })
-apart-examples = (refl, refl, refl)
+apart-examples = (refl, refl, refl, refl)
 
 pub together-examples :
     (wordAnswerOf 5 3 10 ≡ record { refusal = 0; word = 0x5003000A })
-    × (wordAnswerOf 6 16 256 ≡ record { refusal = 8; word = 0 })
+    × (wordAnswerOf 6 3 0 ≡ record { refusal = 0; word = 0x60030000 })
+    × (wordAnswerOf 7 16 256 ≡ record { refusal = 8; word = 0 })
     × (wordAnswerOf 5 16 256 ≡ record { refusal = 9; word = 0 })
     × (wordAnswerOf 5 15 256 ≡ record { refusal = 11; word = 0 })
-together-examples = (refl, refl, refl, refl)
+together-examples = (refl, refl, refl, refl, refl)
 
 -- ---- tables in lent rows, of which each holds something else before
 

@@ -15,7 +15,7 @@ use Rattle.machine.specs.Tables.{Table, row}
 use Rattle.machine.specs.System.{turnAssigned, Step}
 use Rattle.machine.specs.System.Step.{rests, comes, flickers-20, enters, starts-pass, wins, discards, keeps}
 use Rattle.machine.specs.System.Step.{ends-pass, lowers, to-push, waits, skips, flickers-24, pushes, exits}
-use Rattle.machine.specs.System.Step.{flickers-40, leaves}
+use Rattle.machine.specs.System.Step.{flickers-40, leaves, cancels}
 use Rattle.machine.specs.declared.Row.{Row}
 use Rattle.machine.proofs.TableLaws.{row-other, turn-free, map-free}
 
@@ -59,6 +59,7 @@ module _ (P : Row → Type 0) (t : Table) (p q : ℕ) (ne : q ≢ p)
         same (map f t) _ (map-free P f t q (removes e) h)
     other-row (flickers-40 a e b) h = same t _ h
     other-row (leaves e) h = same t _ h
+    other-row (cancels e) h = same t _ h
 
 untouched : (r : Row) → Untouched r r
 untouched r =

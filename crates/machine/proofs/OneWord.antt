@@ -19,14 +19,14 @@ use Rattle.counting.specs.Sets.{has}
 use Rattle.counting.proofs.SetLaws.{has-over, has-zero}
 use Rattle.machine.specs.Rows.{withAct}
 use Rattle.machine.specs.Tables.{Table, row, oneOf, sound, tableRefusal, competitors}
-use Rattle.machine.specs.Words.{STAY, COME, FLICKER, GO, LOOK, isKind, kindOf, processOf, argumentOf, spareClear}
-use Rattle.machine.specs.Words.{formed, wordOf}
+use Rattle.machine.specs.Words.{STAY, COME, FLICKER, GO, LOOK, CANCEL, isKind, kindOf, processOf, argumentOf}
+use Rattle.machine.specs.Words.{spareClear, formed, wordOf}
 use Rattle.machine.specs.Steps.{entered, passed, looked, reconsidered, gone, moved, allowed, argumentFits}
 use Rattle.machine.specs.Steps.{refusalOf, afterWord}
 use Rattle.machine.specs.System.{assigned, Step, stepWord}
 use Rattle.machine.specs.System.Step.{rests, comes, flickers-20, enters, starts-pass, wins, discards, keeps}
 use Rattle.machine.specs.System.Step.{ends-pass, lowers, to-push, waits, skips, flickers-24, pushes, exits}
-use Rattle.machine.specs.System.Step.{flickers-40, leaves}
+use Rattle.machine.specs.System.Step.{flickers-40, leaves, cancels}
 use Rattle.machine.proofs.OneOfLaws.{oneOf-at}
 use Rattle.machine.proofs.SoundRows.{sound-row, sound-few, sound-accepted}
 use Rattle.machine.proofs.Forms.{gone-20, gone-21, gone-22, gone-23, gone-40, flickered-act, flickered-turn}
@@ -220,6 +220,7 @@ module _ (t : Table) (p : ℕ) (z : tableRefusal t ≡ 0) (l : p < length t) whe
   one (exits e) = chosen-go 30 e refl (gone-exit t p l e)
   one (flickers-40 a e h) = chosen-act 40 a e refl (omega arith) h
   one (leaves e) = chosen-go 40 e refl (gone-40 t p e)
+  one (cancels e) = chosen CANCEL 0 refl (eq-eqb _ _ e) refl (omega arith) refl
 
 pub one-word : (t u : Table) (p : ℕ)
     → sound t ≡ true

@@ -5,7 +5,7 @@
 -- Assumes nothing.
 use Prim.Native.Nat.{ℕ, _<_}
 use mathlib.Core.Path.{_≡_, refl, sym, ap, _∙_, subst}
-use mathlib.Core.Bool.{true, cond, false≢true}
+use mathlib.Core.Bool.{true, cond, _&&_, false≢true}
 use mathlib.Core.Logic.{_≢_, _⊎_, inl, inr, ⊎-elim, by-cases}
 use native.Mathlib.Decide.{ℕ-discrete}
 use native.Mathlib.Omega.{arith}
@@ -17,7 +17,7 @@ use Rattle.counting.specs.Sets.{has}
 use Rattle.counting.proofs.SetLaws.{without-same}
 use Rattle.machine.specs.Rows.{blank, withLocation, withAct, withTurn}
 use Rattle.machine.specs.Tables.{Table, row}
-use Rattle.machine.specs.Words.{STAY, COME, FLICKER, GO, LOOK, isKind, kindOf, processOf, argumentOf}
+use Rattle.machine.specs.Words.{STAY, COME, FLICKER, GO, LOOK, CANCEL, isKind, kindOf, processOf, argumentOf}
 use Rattle.machine.specs.Steps.{moved, allowed, argumentFits, refusalOf, afterWord}
 use Rattle.machine.specs.System.{turnAssigned}
 use Rattle.machine.specs.declared.Row.{Row}
@@ -36,9 +36,12 @@ use Rattle.machine.proofs.OneWord.{same-word}
 -- a GO moves
 stays-put : (x : ℕ) → kindBy x x ≢ GO
 stays-put x =
-    split (λ b. cond b (cond b STAY COME) (cond (eqb x x) (cond (eqb x 22) LOOK FLICKER) GO) ≢ GO) (eqb x 10)
+    split (λ b. cond b (cond b STAY COME) (cond (eqb x x) (cond (eqb x 22) LOOK FLICKER) (moves x)) ≢ GO) (eqb x 10)
     (omega arith)
     (λ h. rw (eq-eqb x x refl) (split (λ b. cond b LOOK FLICKER ≢ GO) (eqb x 22) (λ i. omega arith) (λ i. omega arith)))
+  where
+    moves : ℕ → ℕ
+    moves y = cond (eqb y 20 && eqb y 40) CANCEL GO
 
 -- a cell that is assigned the value it has leaves the table
 act-again : (t : Table) (p a : ℕ) → row t p .act ≡ a → set t p (withAct a (row t p)) ≡ t
@@ -48,6 +51,15 @@ turn-again : (t : Table) (k a : ℕ) → row t k .turn ≡ a → turnAssigned t 
 turn-again t k a e = ap (λ (x : ℕ). set t k (withTurn x (row t k))) (sym e) ∙ set-getD t k blank
 
 module _ (t : Table) (p : ℕ) (l : p < length t) where
+  -- COME and CANCEL move
+  goes-elsewhere : {A : Type 0} (b a : ℕ)
+      → b ≢ a
+      → row t p .location ≡ b
+      → Untouched (row t p) (row (set t p (withLocation a (row t p))) p)
+      → A
+  goes-elsewhere b a ne e s =
+      absurd (ne (sym e ∙ sym (s .location-same) ∙ ap (λ (r : Row). r .location) (row-same t p _ l)))
+
   -- nothing changed, or it is a FLICKER at 24
   quiet-choice : (k a : ℕ)
       → isKind k ≡ true
@@ -64,11 +76,7 @@ module _ (t : Table) (p : ℕ) (l : p < length t) where
       → Untouched (row t p) (row (moved t k p a) p)
       → (moved t k p a ≡ t) ⊎ ((k ≡ FLICKER) × (row t p .location ≡ 24)))
       (λ h g s. inl refl)
-      (λ h g s.
-      let e = eqb-true (row t p .location) 10 h in
-      let f = ap (λ (r : Row). r .location) (row-same t p (withLocation 20 (row t p)) l) in
-      let i = s .location-same in
-      absurd (omega arith))
+      (λ h g s. goes-elsewhere 10 20 (omega arith) (eqb-true _ _ h) s)
       (λ h g s. by-cases (ℕ-discrete (row t p .location) 24)
       (λ e. inr (refl, e))
       (λ ne. inl (flickered-act t p a ne ∙ act-again t p a (sym (s .act-same) ∙ act-shows t p l a ne))))
@@ -80,6 +88,7 @@ module _ (t : Table) (p : ℕ) (l : p < length t) where
       absurd
       (false≢true
       (sym (without-same (row t p .lis) a) ∙ ap (λ (i : ℕ). has i a) (sym (lis-shows t p l a) ∙ s .lis-same) ∙ g)))
+      (λ h g s. goes-elsewhere 20 40 (omega arith) (eqb-true _ _ h) s)
       k
 
 -- ---- words

@@ -23,7 +23,7 @@ use Rattle.machine.specs.Steps.{afterWord, afterWords}
 use Rattle.machine.specs.System.{assigned, turnAssigned, Cp, Step}
 use Rattle.machine.specs.System.Step.{rests, comes, flickers-20, enters, starts-pass, wins, discards, keeps}
 use Rattle.machine.specs.System.Step.{ends-pass, lowers, to-push, waits, skips, flickers-24, pushes, exits}
-use Rattle.machine.specs.System.Step.{flickers-40, leaves}
+use Rattle.machine.specs.System.Step.{flickers-40, leaves, cancels}
 use Rattle.machine.specs.declared.Row.{Row}
 use Rattle.machine.proofs.SoundRows.{SoundRow, sound-rows, rows-sound}
 use Rattle.machine.proofs.SoundCells.{without-fits, sound-moved, sound-act, sound-bb, sound-est, sound-lis}
@@ -116,6 +116,7 @@ step-sound {t} p few l s (leaves e) =
     let o = own s p l in
     let placed = sound-moved o 10 (row t p .level) refl (o .level-low) (omega arith) (omega arith) in
     sound-set s p _ l (sound-act placed 0 (omega arith))
+step-sound {t} p few l s (cancels e) = sound-placed s p l 40 refl (omega arith) (omega arith)
 
 -- ---- what it comes to
 
@@ -161,6 +162,7 @@ step-keeps-length t u p x = go x
     go (exits e) = simp (length-set, length-map)
     go (flickers-40 a e h) = simp length-set
     go (leaves e) = simp length-set
+    go (cancels e) = simp length-set
 
 pub word-keeps-length : (t : Table) (w : ℕ) → length (afterWord t w) ≡ length t
 word-keeps-length t w =

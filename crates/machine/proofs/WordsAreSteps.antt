@@ -1,7 +1,8 @@
 -- Demand 2 for the step, as a reader opens it: every statement in full, each proved in the file that is named with it.
 --
--- The system of section 3.2 of the paper is the relation `Step` of System.antt, which does not use the step of
--- Steps.antt; `afterWord` and `refusalOf` are that step. `stepWord p x` is the word that stands for the step x of p.
+-- Section 3.2 of the paper and this one move, CANCEL, are the relation `Step` of System.antt, which does not use the
+-- step of Steps.antt; `afterWord` and `refusalOf` are that step. `stepWord p x` is the word that stands for the step x
+-- of p.
 -- `sound t` is a well-formed table of 2 to 16 processes.
 --
 -- Assumes nothing.
@@ -30,7 +31,7 @@ use Rattle.machine.proofs.WordLaws as WordLaws
 
 -- An accepted word is the word of a step of the system, by the process that it names, from a sound table.
 -- Excludes: est left as it is by GO at 24; turn read before est at 23; ahead cleared at 40; a FLICKER that moves, or
--- that leaves another value than it says.
+-- that leaves another value than it says; a CANCEL that clears act, or that is taken at 21.
 -- Not empty: `accepted-word-exists`. Proved in Accepted.antt and OneWord.antt.
 pub word-is-step : (t : Table) (w : ℕ)
     → refusalOf t w ≡ 0
@@ -48,8 +49,9 @@ pub refused-word-changes-nothing : (t : Table) (w : ℕ) → refusalOf t w ≢ 0
 refused-word-changes-nothing = Accepted.refused-same
 
 -- Every step of a process of a sound table is what its word does, and no other word of that process.
--- Excludes: an engine that accepts each word and moves nobody, one that refuses every word, one in which two choices
--- of a process have each other's words, and two words for one choice (an argument or a spare bit that is not looked at).
+-- Excludes: an engine that accepts each word and moves nobody, one that refuses every word, or every CANCEL, one in
+-- which two choices of a process have each other's words, and two words for one choice (an argument or a spare bit that
+-- is not looked at).
 -- Not empty: `process-has-step`. Proved in OneWord.antt.
 pub one-word : (t u : Table) (p : ℕ)
     → sound t ≡ true

@@ -33,7 +33,7 @@ wrongSize = 6
 abbrev pub unsoundRow : ℕ
 unsoundRow = 7
 
--- an event word: its kind is not 1 to 5, or a spare bit is set
+-- an event word: its kind is not 1 to 6, or a spare bit is set
 abbrev pub badKind : ℕ
 badKind = 8
 

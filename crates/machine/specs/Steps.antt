@@ -23,7 +23,7 @@ use Rattle.counting.specs.Sets.{has, size, without, others}
 use Rattle.machine.specs.Refusals.{accepted, badKind, noProcess, notAllowed, badArgument}
 use Rattle.machine.specs.Rows.{withLocation, withAct, withBb, withLevel, withEst, withLis, withAhead, withTurn}
 use Rattle.machine.specs.Tables.{Table, row, oneOf, tableRefusal, competitors}
-use Rattle.machine.specs.Words.{STAY, COME, FLICKER, GO, LOOK, kindOf, processOf, argumentOf, formed}
+use Rattle.machine.specs.Words.{STAY, COME, FLICKER, GO, LOOK, CANCEL, kindOf, processOf, argumentOf, formed}
 use Rattle.machine.specs.declared.Row.{Row}
 use Rattle.machine.specs.declared.Event.{Event}
 use Rattle.machine.specs.declared.Told.{Told}
@@ -89,6 +89,10 @@ gone t p =
     let u = set t p (goRow (length t) p (competitors t) (row t (r .level) .turn) r) in
     cond (eqb (r .location) 24) (turned (r .level) p u) (cond (eqb (r .location) 30) (map (forgets p) u) u)
 
+-- CANCEL: at 20, while act is still being written, p gives up and goes to 40; act keeps what the last FLICKER left
+abbrev pub cancelled : Table → ℕ → Table
+cancelled t p = set t p (withLocation 40 (row t p))
+
 -- every kind; a number that is none moves nothing
 unfoldable pub moved : Table → ℕ → ℕ → ℕ → Table
 moved t k p a =
@@ -98,7 +102,8 @@ moved t k p a =
     (cond (eqb k COME) came
     (cond (eqb k FLICKER) (flickered t p a)
     (cond (eqb k GO) (gone t p)
-    (cond (eqb k LOOK) seen t))))
+    (cond (eqb k LOOK) seen
+    (cond (eqb k CANCEL) (cancelled t p) t)))))
 
 -- ---- what refuses a word
 
@@ -111,7 +116,7 @@ allowed k r =
     (cond (eqb k FLICKER) (oneOf l (20 ∷ 40 ∷ 24 ∷ []))
     (cond (eqb k GO) (oneOf l (20 ∷ 21 ∷ 23 ∷ 24 ∷ 30 ∷ 40 ∷ []) || (eqb l 22 && eqb (r .lis) 0))
     (cond (eqb k LOOK) (eqb l 22 && not (eqb (r .lis) 0))
-    false))))
+    (cond (eqb k CANCEL) (eqb l 20) false)))))
 
 -- a is an argument of kind k at a row, of n processes
 unfoldable pub argumentFits : ℕ → ℕ → Row → ℕ → Bool

@@ -1,7 +1,8 @@
--- The system QmxC of section 3.2 of the paper, with the history sets lwb of section 3.4, as a relation on tables
--- (MANUAL, "Steps" and "Ahead sets").
+-- The system QmxC of section 3.2 of the paper, with the history sets lwb of section 3.4, and one move that the paper
+-- does not have, as a relation on tables (MANUAL, "Steps" and "Ahead sets").
 --
---   Step t p u    <=>  process p, by one alternative of the numbered statement at which it is, goes from t to u.
+--   Step t p u    <=>  process p, by one alternative of the numbered statement at which it is, goes from t to u; or it
+--                      gives up at 20 (`cancels`).
 --   stepWord p x  ==   the event word that stands for the step x of process p, with its choice.
 --
 -- A second reading of the paper: one constructor for each alternative, its guards as premises and its assignments in
@@ -18,7 +19,7 @@ use lib.ListN.{length, set}
 use Rattle.counting.specs.Sets.{has, setOf, size, without, others}
 use Rattle.machine.specs.Rows.{withLocation, withAct, withBb, withLevel, withEst, withLis, withAhead, withTurn}
 use Rattle.machine.specs.Tables.{Table, row}
-use Rattle.machine.specs.Words.{STAY, COME, FLICKER, GO, LOOK, wordOf}
+use Rattle.machine.specs.Words.{STAY, COME, FLICKER, GO, LOOK, CANCEL, wordOf}
 use Rattle.machine.specs.declared.Row.{Row}
 
 -- the assignment of private variables of p, and of act[p]
@@ -90,6 +91,9 @@ pub data Step (t : Table) (p : ℕ) : Table → Type 0 where
   -- 40: (flickering) act[p] := false; goto 10
   flickers-40 : (a : ℕ) → row t p .location ≡ 40 → a < 2 → Step t p (assigned t p (withAct a))
   leaves : row t p .location ≡ 40 → Step t p (assigned t p (λ r. withLocation 10 (withAct 0 r)))
+  -- ---- not in section 3.2 of the paper: the one move that is added to it
+  -- 20, while act[p] is still being written: goto 40; act[p] keeps what the flickering write left
+  cancels : row t p .location ≡ 20 → Step t p (assigned t p (withLocation 40))
 
 -- the word of a step: a FLICKER has the value that the cell gets, a LOOK the process that is looked at
 abbrev pub stepWord : {t u : Table} (p : ℕ) → Step t p u → ℕ
@@ -111,3 +115,4 @@ stepWord p (pushes e) = wordOf GO p 0
 stepWord p (exits e) = wordOf GO p 0
 stepWord p (flickers-40 a e h) = wordOf FLICKER p a
 stepWord p (leaves e) = wordOf GO p 0
+stepWord p (cancels e) = wordOf CANCEL p 0

@@ -2,7 +2,7 @@
 --
 --   kindOf processOf argumentOf  ==  the parts of a word.
 --   wordOf k p a   ==   the word of these parts.
---   formed w       <=>  its kind is one of the five and its spare bits are 0.
+--   formed w       <=>  its kind is one of the six and its spare bits are 0.
 --   apart w        ==   the word taken apart, or 8, or 9 for a process over 15.
 --   together k p a ==   the parts put together, or 8, 9 or 11.
 --
@@ -14,7 +14,7 @@ use Rattle.machine.specs.Refusals.{badKind, noProcess, badArgument}
 use Rattle.machine.specs.declared.Apart.{Apart}
 use Rattle.machine.specs.declared.Together.{Together}
 
--- ---- the five kinds
+-- ---- the six kinds
 
 abbrev pub STAY : ℕ
 STAY = 1
@@ -31,8 +31,11 @@ GO = 4
 abbrev pub LOOK : ℕ
 LOOK = 5
 
+abbrev pub CANCEL : ℕ
+CANCEL = 6
+
 abbrev pub isKind : ℕ → Bool
-isKind k = leb STAY k && leb k LOOK
+isKind k = leb STAY k && leb k CANCEL
 
 -- ---- the parts of a word
 

@@ -47,7 +47,7 @@ impl Row {
 pub const LOCATIONS: [u16; 8] = [10, 20, 21, 22, 23, 24, 30, 40];
 
 // The kinds of word allowed at each of LOCATIONS, as a set: bit k stands for kind k.
-pub const ALLOWED: [u16; 8] = [6, 24, 16, 48, 16, 24, 16, 24];
+pub const ALLOWED: [u16; 8] = [6, 88, 16, 48, 16, 24, 16, 24];
 
 // The kinds of event word.
 pub const STAY: u16 = 1;
@@ -59,6 +59,8 @@ pub const FLICKER: u16 = 3;
 pub const GO: u16 = 4;
 
 pub const LOOK: u16 = 5;
+
+pub const CANCEL: u16 = 6;
 
 // The most processes of a table.
 pub const MOST_PROCESSES: usize = 16;

@@ -3,7 +3,7 @@
 --   lisFits k e l   what the code asks of lis beside the mask; e is true where lis is empty
 --   allowed-with    the two are `allowed`
 --   allowed-plain   .. where lis does not matter
---   allowed-rest    the last kind, after all others
+--   lis-free        it does not for any kind but LOOK and GO
 --
 -- Assumes nothing.
 use Prim.Native.Nat.{ℕ, _≤_, _<_}
@@ -12,10 +12,10 @@ use mathlib.Core.Bool.{Bool, true, false, cond, _&&_, _||_, not, and-true, Bool�
 use native.Mathlib.Decide.{decLt}
 use native.Mathlib.Omega.{arith}
 use lib.Dec.{eqb}
-use borrow.Author.Tests.{eqb-true, ne-eqb}
-use Rattle.counting.proofs.TestLaws.{split, cond-same, every, same-at}
+use borrow.Author.Tests.{ne-eqb}
+use Rattle.counting.proofs.TestLaws.{cond-same, every, same-at}
 use Rattle.machine.specs.Rows.{blank, withLocation, withLis}
-use Rattle.machine.specs.Words.{STAY, COME, FLICKER, GO, LOOK, isKind}
+use Rattle.machine.specs.Words.{GO, LOOK, isKind}
 use Rattle.machine.specs.Steps.{allowed}
 use Rattle.machine.specs.declared.Row.{Row}
 use Rattle.machine.proofs.KindLaws.{by-kind}
@@ -67,9 +67,9 @@ rule k e l = allowed k (stands e l)
 agrees : (e : Bool) (k : ℕ) → isKind k ≡ true → every (λ l. Bool·beq (computed k e l) (rule k e l)) 41 ≡ true
 unfolding every allowed allowedAt
 agrees true =
-    by-kind (λ k. every (λ l. Bool·beq (computed k true l) (rule k true l)) 41 ≡ true) refl refl refl refl refl
+    by-kind (λ k. every (λ l. Bool·beq (computed k true l) (rule k true l)) 41 ≡ true) refl refl refl refl refl refl
 agrees false =
-    by-kind (λ k. every (λ l. Bool·beq (computed k false l) (rule k false l)) 41 ≡ true) refl refl refl refl refl
+    by-kind (λ k. every (λ l. Bool·beq (computed k false l) (rule k false l)) 41 ≡ true) refl refl refl refl refl refl
 
 computed-right : (k : ℕ) (e : Bool) (l : ℕ) → isKind k ≡ true → computed k e l ≡ rule k e l
 computed-right k e l kind = go (decLt l 41)
@@ -96,15 +96,6 @@ module _ (k j m : ℕ) (r : Row) (e : k ≡ j) (kind : isKind j ≡ true) (f : m
       ∙ ap (λ (b : Bool). marks m (r .location) && b) (sym t)
       ∙ allowed-with
 
-pub allowed-rest : (k m : ℕ) (r : Row)
-    → (k ≡ LOOK → ⊥)
-    → (k ≡ GO → ⊥)
-    → (k ≡ FLICKER → ⊥)
-    → (k ≡ COME → ⊥)
-    → m ≡ maskOf (allowedAt STAY)
-    → (eqb k STAY && marks m (r .location)) ≡ allowed k r
-unfolding allowed
-allowed-rest k m r a b c d f =
-    split (λ t. (t && marks m (r .location)) ≡ allowed k r) (eqb k STAY)
-    (λ t. allowed-plain k STAY m r (eqb-true k STAY t) refl f refl)
-    (λ t. sym (rw (t, ne-eqb k COME d, ne-eqb k FLICKER c, ne-eqb k GO b, ne-eqb k LOOK a) refl))
+-- where k is neither LOOK nor GO
+pub lis-free : (k : ℕ) (e : Bool) (l : ℕ) → (k ≡ LOOK → ⊥) → (k ≡ GO → ⊥) → lisFits k e l ≡ true
+lis-free k e l a b = rw (ne-eqb k LOOK a, ne-eqb k GO b) refl

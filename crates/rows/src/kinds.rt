@@ -3,13 +3,15 @@ use crate::masks::marked;
 use crate::masks::places;
 use machine::Row;
 ghost use mathlib.Core.Path.{_≡_};
-ghost use Prim.Native.Nat.{_<_};
+ghost use mathlib.Core.Bool.{true};
+ghost use Rattle.machine.specs.Words.{isKind};
 ghost use Rattle.machine.specs.Steps.{allowed, argumentFits};
 
-// Whether a kind of word is allowed at a row, the frequent kinds first. At 22 both GO and LOOK are,
-// and lis decides.
+// Whether a kind of word is allowed at a row. At 22 both GO and LOOK are, and lis decides; of the
+// other kinds the location says all. They have no case each: with five or more the compiler makes
+// the choice of a kind a jump through a table, which is slower.
 pub fn allowed(kind: u16, r: Row) -> bool
-    requires { ⌜ kind < 16 ⌝ }
+    requires { ⌜ isKind kind ≡ true ⌝ }
     ensures { λ b. ⌜ b ≡ allowed kind r ⌝ }
 {
     if kind == machine::LOOK {
@@ -18,13 +20,7 @@ pub fn allowed(kind: u16, r: Row) -> bool
     if kind == machine::GO {
         return marked(places(machine::GO), r.location) & ((r.location != 22) | (r.lis == 0));
     }
-    if kind == machine::FLICKER {
-        return marked(places(machine::FLICKER), r.location);
-    }
-    if kind == machine::COME {
-        return marked(places(machine::COME), r.location);
-    }
-    (kind == machine::STAY) & marked(places(machine::STAY), r.location)
+    marked(places(kind), r.location)
 }
 
 // Whether `a` is an argument of a kind of word at a row.

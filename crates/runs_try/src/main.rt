@@ -24,6 +24,13 @@ fn show(name: &[u8], r: RunAnswer) {
     io::write_all(STDOUT_FILENO, b"\n");
 }
 
+// The locations of two processes.
+fn locations(cells: [[u16; 8]; 2]) {
+    place(b"locations ", cells[0][0]);
+    place(b" ", cells[1][0]);
+    io::write_all(STDOUT_FILENO, b"\n");
+}
+
 // STAYs of process 0, up to and over the most words of a run, and none.
 fn stays() {
     let words = [0x1000_0000; 8193];
@@ -48,15 +55,21 @@ fn arrival() {
     ];
     let mut cells = [[10, 0, 0, 0, 0, 0, 0, 0], [10, 0, 0, 0, 0, 0, 0, 0]];
     show(b"arrival", runs::run(&mut cells, &words));
-    place(b"locations ", cells[0][0]);
-    place(b" ", cells[1][0]);
-    io::write_all(STDOUT_FILENO, b"\n");
+    locations(cells);
+}
+
+// Process 0 comes and gives up: two words, and no event but the COME. A second CANCEL stops the run.
+fn cancel() {
+    let words = [0x2000_0000, 0x6000_0000, 0x6000_0000];
+    let mut cells = [[10, 0, 0, 0, 0, 0, 0, 0], [10, 0, 0, 0, 0, 0, 0, 0]];
+    show(b"cancel", runs::run(&mut cells, &words));
+    locations(cells);
 }
 
 // Process 0 in the critical section: a word of no kind, a word not allowed and a bad argument.
 fn stops() {
     let mut cells = [[30, 1, 0, 0, 0, 0, 0, 0], [10, 0, 0, 0, 0, 0, 0, 0]];
-    show(b"kind", runs::run(&mut cells, &[0x6000_0000]));
+    show(b"kind", runs::run(&mut cells, &[0x7000_0000]));
     show(
         b"allowed",
         runs::run(&mut cells, &[0x4000_0000, 0x1000_0000]),
@@ -80,6 +93,7 @@ fn tables() {
 fn main() {
     stays();
     arrival();
+    cancel();
     stops();
     tables();
 }

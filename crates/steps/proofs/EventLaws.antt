@@ -159,6 +159,9 @@ module _ (t : Table) (p : ℕ) (l : p < length t) where
       (λ _. stays (flickered t p a) (flicker-stays a))
       go-told
       (λ _. stays (set t p s) (ap (λ (r : Row). r .location) (row-same t p s l)))
+      (λ _.
+      let e = ap (λ (r : Row). r .location) (row-same t p (withLocation 40 (row t p)) l) in
+      seen-elsewhere (row t p .location) (row (set t p (withLocation 40 (row t p))) p .location) (λ z. omega arith))
 
 -- ---- an accepted word
 

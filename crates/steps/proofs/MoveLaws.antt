@@ -9,7 +9,7 @@ use lib.ListN.{length, set}
 use borrow.Author.Tests.{eqb-true}
 use Rattle.machine.specs.Rows.{withLocation, withAct}
 use Rattle.machine.specs.Tables.{Table, row, oneOf, competitors}
-use Rattle.machine.specs.Words.{STAY, COME, FLICKER, GO, LOOK}
+use Rattle.machine.specs.Words.{STAY, COME, FLICKER, GO, LOOK, CANCEL}
 use Rattle.machine.specs.Steps.{entered, passed, reconsidered, pushed, turned, looked, flickered, gone, moved, allowed}
 use Rattle.machine.specs.declared.Row.{Row}
 use Rattle.counting.proofs.TestLaws.{or-cases}
@@ -114,3 +114,7 @@ module _ (t : Table) (p a : ℕ) where
   pub moved-look : moved t LOOK p a ≡ set t p (looked a (row t a .act) (row t p))
   unfolding moved
   moved-look = refl
+
+  pub moved-cancel : moved t CANCEL p a ≡ set t p (withLocation 40 (row t p))
+  unfolding moved
+  moved-cancel = refl

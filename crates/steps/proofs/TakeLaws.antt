@@ -12,7 +12,7 @@ use Rattle.counting.specs.Sets.{has}
 use Rattle.counting.proofs.SetLaws.{has-over}
 use Rattle.machine.specs.Refusals.{accepted, badArgument}
 use Rattle.machine.specs.Tables.{Table, row}
-use Rattle.machine.specs.Words.{STAY, COME, FLICKER, GO, LOOK, isKind, kindOf, spareClear, formed}
+use Rattle.machine.specs.Words.{STAY, COME, FLICKER, GO, LOOK, CANCEL, isKind, kindOf, spareClear, formed}
 use Rattle.machine.specs.Steps.{moved, allowed, argumentFits, refusalAt}
 use Rattle.machine.specs.declared.Told.{Told}
 use Rattle.machine.specs.declared.Stepped.{Stepped}
@@ -27,11 +27,8 @@ use Rattle.steps.proofs.MoveLaws.{becomes-as}
 pub formed-kind : (w : ℕ) → formed w ≡ true → isKind (kindOf w) ≡ true
 formed-kind w f = and-eq-true-iff (isKind (kindOf w)) (spareClear w) .0 f .0
 
-pub kind-small : (k : ℕ) → isKind k ≡ true → k < 16
-kind-small = by-kind (λ k. k < 16) (omega arith) (omega arith) (omega arith) (omega arith) (omega arith)
-
-pub resting-kind : (k : ℕ) → (k ≡ STAY) ⊎ (k ≡ COME) → isKind k ≡ true
-resting-kind k = ⊎-elim (λ e. rw e refl) (λ e. rw e refl)
+pub jump-kind : (k : ℕ) → (k ≡ STAY) ⊎ (k ≡ COME) ⊎ (k ≡ CANCEL) → isKind k ≡ true
+jump-kind k = ⊎-elim (λ e. rw e refl) (⊎-elim (λ e. rw e refl) (λ e. rw e refl))
 
 -- a kind that is none of the others
 pub last-kinds : (k : ℕ)
@@ -39,14 +36,15 @@ pub last-kinds : (k : ℕ)
     → (k ≡ LOOK → ⊥)
     → (k ≡ GO → ⊥)
     → (k ≡ FLICKER → ⊥)
-    → (k ≡ STAY) ⊎ (k ≡ COME)
+    → (k ≡ STAY) ⊎ (k ≡ COME) ⊎ (k ≡ CANCEL)
 last-kinds =
-    by-kind (λ k. (k ≡ LOOK → ⊥) → (k ≡ GO → ⊥) → (k ≡ FLICKER → ⊥) → (k ≡ STAY) ⊎ (k ≡ COME))
+    by-kind (λ k. (k ≡ LOOK → ⊥) → (k ≡ GO → ⊥) → (k ≡ FLICKER → ⊥) → (k ≡ STAY) ⊎ (k ≡ COME) ⊎ (k ≡ CANCEL))
     (λ _ _ _. inl refl)
-    (λ _ _ _. inr refl)
+    (λ _ _ _. inr (inl refl))
     (λ _ _ f. absurd (f refl))
     (λ _ g _. absurd (g refl))
     (λ l _ _. absurd (l refl))
+    (λ _ _ _. inr (inr refl))
 
 -- ---- what refuses, in the code's order
 

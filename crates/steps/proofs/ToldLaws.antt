@@ -6,7 +6,7 @@ use mathlib.Core.List.{List}
 use lib.Dec.{eqb}
 use borrow.Author.Tests.{not-true, eqb-false}
 use Rattle.machine.specs.Tables.{Table, row, tableRefusal}
-use Rattle.machine.specs.Words.{STAY, COME, GO, kindOf, processOf}
+use Rattle.machine.specs.Words.{STAY, COME, GO, CANCEL, kindOf, processOf}
 use Rattle.machine.specs.Steps.{gone, moved, wordRefusal, quiet, withEvent, toldOf}
 use Rattle.machine.specs.declared.Row.{Row}
 use Rattle.machine.specs.declared.Event.{Event}
@@ -52,14 +52,26 @@ module _ {x y : List (List ℕ)} {p : ℕ} where
 -- ---- the kinds that have no argument, with any
 
 module _ {x y : List (List ℕ)} {p : ℕ} {s : Told} (a : ℕ) where
+  any-argument : (j k : ℕ)
+      → moved (rowsOf x) j p 0 ≡ moved (rowsOf x) j p a
+      → k ≡ j
+      → Moves x j p 0 y s
+      → Moves x k p a y s
+  any-argument j k none e m =
+      subst (λ (i : ℕ). Moves x i p a y s) (sym e)
+      (record { told-is = m .told-is; becomes = becomes-as (m .becomes) none })
+
   pub go-moves : Goes x p y s → Moves x GO p a y s
   unfolding moved
-  go-moves m = record { told-is = m .told-is; becomes = m .becomes }
+  go-moves = any-argument GO GO refl refl
 
   pub come-moves : (k : ℕ) → k ≡ COME → Moves x COME p 0 y s → Moves x k p a y s
   unfolding moved
-  come-moves k e m =
-      subst (λ (i : ℕ). Moves x i p a y s) (sym e) (record { told-is = m .told-is; becomes = m .becomes })
+  come-moves k = any-argument COME k refl
+
+  pub cancel-moves : (k : ℕ) → k ≡ CANCEL → Moves x CANCEL p 0 y s → Moves x k p a y s
+  unfolding moved
+  cancel-moves k = any-argument CANCEL k refl
 
 pub stay-moves : {x : List (List ℕ)} {p a : ℕ} (k : ℕ) → k ≡ STAY → Moves x k p a x quiet
 stay-moves {x} {p} {a} k e =

@@ -7,7 +7,7 @@
 --   Free x p          <=>  it can, and GO is allowed where it is.
 --   Sees x p q        <=>  it can, and q is a process.
 --   Asked x k p       <=>  it can, and k is a kind.
---   Resting x k p     <=>  it can, and k is STAY or COME.
+--   Jumping x k p     <=>  it can, and k is STAY, COME or CANCEL, which change no cell but the location.
 --   Moves x k p a y s <=>  kind k with argument a made y of the cells x and tells s, where it is allowed.
 --   Goes x p y s      <=>  so did GO.
 --   Takes x k p a y s <=>  kind k with argument a made y of the cells x and answered s.
@@ -22,7 +22,7 @@ use lib.Dec.{eqb}
 use lib.ListN.{length}
 use Rattle.machine.specs.Refusals.{accepted}
 use Rattle.machine.specs.Tables.{row}
-use Rattle.machine.specs.Words.{STAY, COME, GO, isKind}
+use Rattle.machine.specs.Words.{STAY, COME, GO, CANCEL, isKind}
 use Rattle.machine.specs.Steps.{moved, allowed, refusalAt}
 use Rattle.machine.specs.declared.Row.{Row}
 use Rattle.machine.specs.declared.Event.{Event}
@@ -66,9 +66,9 @@ pub record Asked (x : List (List ℕ)) (k p : ℕ) : Type 0 where
   pub ready : Ready x p
   pub kind : isKind k ≡ true
 
-pub record Resting (x : List (List ℕ)) (k p : ℕ) : Type 0 where
+pub record Jumping (x : List (List ℕ)) (k p : ℕ) : Type 0 where
   pub ready : Ready x p
-  pub kind : (k ≡ STAY) ⊎ (k ≡ COME)
+  pub kind : (k ≡ STAY) ⊎ (k ≡ COME) ⊎ (k ≡ CANCEL)
 
 -- ---- what the functions ensure
 

@@ -1,12 +1,12 @@
-// COME, FLICKER and LOOK of a process, where they are allowed, and what they tell. STAY does
-// nothing.
+// COME, FLICKER, LOOK and CANCEL of a process, where they are allowed, and what they tell. STAY
+// does nothing.
 use crate::going::go_to;
 use cells::access::put_row;
 use cells::access::row_at;
 use cells::access::turn_to;
 use machine::Event;
 use machine::Told;
-ghost use Rattle.machine.specs.Words.{COME, FLICKER, LOOK};
+ghost use Rattle.machine.specs.Words.{COME, FLICKER, LOOK, CANCEL};
 ghost use Rattle.steps.specs.Moves.{Ready, Sees, Moves};
 
 // COME of process p: to 20.
@@ -40,5 +40,14 @@ pub(crate) fn look(cells: &mut [[u16; 8]], p: u16, q: u16) -> Told
     let r = row_at(cells, p as usize);
     let act = row_at(cells, q as usize).act;
     put_row(cells, p as usize, rows::moves::looked(q, act, r));
+    Told::QUIET
+}
+
+// CANCEL of process p: to 40, where its act is still what the last FLICKER left.
+pub(crate) fn cancel(cells: &mut [[u16; 8]], p: u16) -> Told
+    requires { ⌜ Ready (now cells) p ⌝ }
+    ensures { λ s. ⌜ Moves (now (cells .entry)) CANCEL p 0 (now (cells .exit)) s ⌝ }
+{
+    go_to(cells, p, 40);
     Told::QUIET
 }

@@ -1,8 +1,8 @@
 // The step: the check of the table, the check of the word, the move.
 use crate::taking::take_flicker;
 use crate::taking::take_go;
+use crate::taking::take_jump;
 use crate::taking::take_look;
-use crate::taking::take_resting;
 use cells::checks::check;
 use machine::Stepped;
 ghost use mathlib.Core.Path.{_≡_};
@@ -36,7 +36,7 @@ pub fn advance(cells: &mut [[u16; 8]], word: u32) -> Stepped
     if kind == machine::FLICKER {
         return take_flicker(cells, p, a);
     }
-    take_resting(cells, kind, p, a)
+    take_jump(cells, kind, p, a)
 }
 
 // The step of a word at a table of any size and content: what it tells of an accepted word;

@@ -2,6 +2,7 @@
 // kind is given to the check as a constant where it can be, and the compiler drops the check's
 // questions about other kinds. What is told is a constant of each branch.
 use crate::going::go;
+use crate::moving::cancel;
 use crate::moving::come;
 use crate::moving::flicker;
 use crate::moving::look;
@@ -12,7 +13,7 @@ ghost use mathlib.Core.Path.{_≡_};
 ghost use Rattle.machine.specs.Words.{FLICKER, GO, LOOK};
 ghost use Rattle.machine.specs.Steps.{refusalAt};
 ghost use Rattle.cells.specs.View.{rowsOf};
-ghost use Rattle.steps.specs.Moves.{Ready, Asked, Resting, Takes};
+ghost use Rattle.steps.specs.Moves.{Ready, Asked, Jumping, Takes};
 
 // 0, or the refusal of a kind and an argument at the row of p: 10, then 11.
 fn refusal_at(cells: &[[u16; 8]], kind: u16, p: u16, a: u16) -> u16
@@ -67,10 +68,11 @@ pub(crate) fn take_flicker(cells: &mut [[u16; 8]], p: u16, a: u16) -> Stepped
     Stepped::Moved(flicker(cells, p, a))
 }
 
-// STAY or COME of process p, the kinds of a process at rest. One function for both: with five cases
-// the compiler makes the choice of a kind a jump through a table, which is slower.
-pub(crate) fn take_resting(cells: &mut [[u16; 8]], kind: u16, p: u16, a: u16) -> Stepped
-    requires { ⌜ Resting (now cells) kind p ⌝ }
+// STAY, COME or CANCEL of process p, the kinds that change no cell but the location. One function for
+// the three: with five cases or more the compiler makes the choice of a kind a jump through a table,
+// which is slower.
+pub(crate) fn take_jump(cells: &mut [[u16; 8]], kind: u16, p: u16, a: u16) -> Stepped
+    requires { ⌜ Jumping (now cells) kind p ⌝ }
     ensures { λ s. ⌜ Takes (now (cells .entry)) kind p a (now (cells .exit)) s ⌝ }
 {
     let refusal = refusal_at(cells, kind, p, a);
@@ -79,6 +81,9 @@ pub(crate) fn take_resting(cells: &mut [[u16; 8]], kind: u16, p: u16, a: u16) ->
     }
     if kind == machine::COME {
         return Stepped::Moved(come(cells, p));
+    }
+    if kind == machine::CANCEL {
+        return Stepped::Moved(cancel(cells, p));
     }
     Stepped::Moved(Told::QUIET)
 }

@@ -177,6 +177,23 @@ fn show_row(r: Row) {
     say(b"turn[1] ", r.turn as usize);
 }
 
+// CANCEL of process 0 at 20, with every cell of its row set to what it may hold there, and with 0 in
+// the ahead set of process 1: the location alone changes.
+fn cancels() {
+    let mut cells = [[20, 1, 1, 1, 3, 3, 2, 0], [21, 1, 0, 1, 1, 0, 1, 1]];
+    let mut r = row_of(&cells, 0);
+    let s = row_of(&cells, 1);
+    say(
+        b"cancel, refusal ",
+        refusal_of(step(&mut cells, 0x6000_0000)),
+    );
+    say(b"location ", row_of(&cells, 0).location as usize);
+    r.location = 40;
+    if same_row(r, row_of(&cells, 0)) & same_row(s, row_of(&cells, 1)) {
+        io::write_all(1, b"all else kept\n");
+    }
+}
+
 // Whether two rows are the same.
 fn same_row(r: Row, s: Row) -> bool {
     (r.location == s.location)
@@ -213,7 +230,10 @@ fn main() {
     pair();
     every_size();
     own_turn();
+    cancels();
     let rests = [10, 0, 0, 0, 0, 0, 0, 0];
+    let writes = [20, 0, 0, 0, 0, 0, 0, 0];
+    let competes = [21, 1, 0, 1, 2, 0, 0, 0];
     let lost = [11, 0, 0, 0, 0, 0, 0, 0];
     refuses(rests, 1, 0x2000_0000);
     refuses(lost, 2, 0x2000_0000);
@@ -221,4 +241,8 @@ fn main() {
     refuses(rests, 2, 0x2002_0000);
     refuses(rests, 2, 0x4000_0000);
     refuses(rests, 2, 0x2000_0001);
+    refuses(writes, 2, 0x7000_0000);
+    refuses(rests, 2, 0x6000_0001);
+    refuses(competes, 2, 0x6000_0000);
+    refuses(writes, 2, 0x6000_0001);
 }

@@ -9,7 +9,7 @@ ghost use Rattle.machine.specs.Words.{isKind, kindOf, processOf, argumentOf, fo
 fn is_kind(kind: u32) -> bool
     ensures { λ b. ⌜ b ≡ isKind kind ⌝ }
 {
-    (machine::STAY as u32 <= kind) & (kind <= machine::LOOK as u32)
+    (machine::STAY as u32 <= kind) & (kind <= machine::CANCEL as u32)
 }
 
 // The kind of a word, bits 31 to 28.

@@ -62,6 +62,20 @@ static void print_example(void) {
     }
 }
 
+/* process 0 gives up at 20, flickers at 40 and rests */
+static void print_cancel(void) {
+    static const uint32_t five[5] = {0x20000000, 0x30000001, 0x60000000, 0x30000000, 0x40000000};
+    print_idle(2), print_words(five, 5);
+    prints("a CANCEL",
+           "posts 2\n"
+           "0 0 10 20 0\n"
+           "1 0 20 20 0\n"
+           "2 0 20 40 0\n"
+           "3 0 40 40 0\n"
+           "4 0 40 10 0\n"
+           "done 5\n");
+}
+
 /* the image of two idle processes with one word changed */
 static void print_changed(const char *what, size_t place, uint32_t word, const char *text) {
     uint32_t words[10];
@@ -93,11 +107,13 @@ static void print_stop(const char *what, uint32_t word, const char *last) {
 
 static void print_stops(void) {
     print_stop("kind 0", 0x00000000, "stop 2 8\n");
-    print_stop("kind 6", 0x60000000, "stop 2 8\n");
+    print_stop("kind 7", 0x70000000, "stop 2 8\n");
     print_stop("spare bit 8", 0x10010100, "stop 2 8\n");
     print_stop("process 3 of 3", 0x10030000, "stop 2 9\n");
     print_stop("COME at 20", 0x20000000, "stop 2 10\n");
     print_stop("COME with an argument", 0x20010001, "stop 2 11\n");
+    print_stop("CANCEL with an argument", 0x60000001, "stop 2 11\n");
+    print_stop("CANCEL at 10", 0x60010000, "stop 2 10\n");
 }
 
 /* Two processes and STAYs: 8,192 are taken, more are not, and past 33,088 bytes there is no input. */
@@ -137,6 +153,7 @@ static void print_longest(void) {
 
 static void print(void) {
     print_example();
+    print_cancel();
     print_bad_images();
     print_stops();
     print_limits();

@@ -3,7 +3,7 @@
 /* What taking apart must answer; written from the parts that the word was made of. */
 static void taken_apart(uint32_t kind, uint32_t process, uint32_t spare, uint32_t argument) {
     struct zaguypo_parts p = zaguypo_apart(kind << 28 | process << 16 | spare | argument);
-    int bad_kind = kind < 1 || kind > 5 || spare != 0, bad_process = process > 15;
+    int bad_kind = kind < 1 || kind > 6 || spare != 0, bad_process = process > 15;
     if (bad_kind || bad_process) {
         check("apart, refused", p.refusal == (bad_kind ? 8 : 9));
         check("apart, refused: no parts", p.kind == 0 && p.process == 0 && p.argument == 0);
@@ -25,7 +25,7 @@ static void words_apart(void) {
 }
 
 static unsigned together_refusal(uint32_t kind, uint32_t process, uint32_t argument) {
-    if (kind < 1 || kind > 5) return 8;
+    if (kind < 1 || kind > 6) return 8;
     if (process > 15) return 9;
     return argument > 255 ? 11 : 0;
 }
@@ -49,7 +49,7 @@ static void words_together(void) {
 
 /* Each undoes the other, for every word that has parts. */
 static void words_there_and_back(void) {
-    for (uint32_t kind = 1; kind <= 5; kind++)
+    for (uint32_t kind = 1; kind <= 6; kind++)
         for (uint32_t process = 0; process < 16; process++)
             for (uint32_t argument = 0; argument < 256; argument++) {
                 struct zaguypo_parts p = zaguypo_apart(zaguypo_together(kind, process, argument).word);

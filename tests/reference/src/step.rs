@@ -1,8 +1,8 @@
-//! One step on rows in place (manual, "Steps" and "Ahead sets"; the paper, sections 3.2 and 3.4).
+//! One step on rows in place (manual, "Steps" and "Ahead sets"; but for CANCEL, the paper, sections 3.2 and 3.4).
 
 use crate::refusal;
 use crate::row::{check, code, competing, everyone, only, Row, LOCATIONS};
-use crate::word::{split, Parts, COME, FLICKER, GO, LOOK, STAY};
+use crate::word::{split, Parts, CANCEL, COME, FLICKER, GO, LOOK, STAY};
 
 /// What an accepted word did: process p went from `before` to `after`, which may be the same location.
 #[derive(Clone, Copy, Debug, PartialEq, Eq)]
@@ -77,6 +77,7 @@ impl<'a> Machine<'a> {
                 row.act = 0;
                 10
             }
+            CANCEL_20 => none(argument, 40)?,
             _ => return Err(refusal::NOT_ALLOWED),
         };
         self.rows[p].loc = after;
@@ -199,6 +200,7 @@ const GO_23: u32 = at(GO, 23);
 const GO_24: u32 = at(GO, 24);
 const GO_30: u32 = at(GO, 30);
 const GO_40: u32 = at(GO, 40);
+const CANCEL_20: u32 = at(CANCEL, 20);
 
 /// The location that a word without an argument leads to.
 #[inline]

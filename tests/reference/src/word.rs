@@ -8,6 +8,7 @@ pub const COME: u32 = 2;
 pub const FLICKER: u32 = 3;
 pub const GO: u32 = 4;
 pub const LOOK: u32 = 5;
+pub const CANCEL: u32 = 6;
 
 const SPARE: u32 = 0x0F00_FF00;
 
@@ -23,7 +24,7 @@ pub struct Parts {
 #[inline]
 pub(crate) fn split(word: u32) -> Result<Parts, u16> {
     let kind = word >> 28;
-    if !(STAY..=LOOK).contains(&kind) || word & SPARE != 0 {
+    if !(STAY..=CANCEL).contains(&kind) || word & SPARE != 0 {
         return Err(refusal::WORD_FORM);
     }
     Ok(Parts { kind, process: word >> 16 & 0xFF, argument: word & 0xFF })
@@ -70,7 +71,7 @@ pub fn take_apart(word: u32) -> PartsAnswer {
 /// Puts a word together: 8 for the kind, then 9 for a process over 15, then 11 for an argument over 255.
 pub fn put_together(kind: u32, process: u32, argument: u32) -> WordAnswer {
     let refused = |refusal: u16| WordAnswer { refusal: refusal.into(), word: 0 };
-    if !(STAY..=LOOK).contains(&kind) {
+    if !(STAY..=CANCEL).contains(&kind) {
         refused(refusal::WORD_FORM)
     } else if process as usize >= MOST {
         refused(refusal::NO_PROCESS)

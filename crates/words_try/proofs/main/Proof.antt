@@ -26,7 +26,7 @@ taken-requires-4 : tie.Need-taken-requires-4
 taken-requires-4 c κs = search needs
 
 expect-requires-4 : tie.Need-expect-requires-4
-expect-requires-4 c κs = eq-eqb (c .taken4 .result) 8 (c .taken4 .ensures)
+expect-requires-4 c κs = eq-eqb (c .taken4 .result) 6000000 (c .taken4 .ensures)
 
 taken-requires-5 : tie.Need-taken-requires-5
 taken-requires-5 c κs = search needs
@@ -50,43 +50,55 @@ taken-requires-8 : tie.Need-taken-requires-8
 taken-requires-8 c κs = search needs
 
 expect-requires-8 : tie.Need-expect-requires-8
-expect-requires-8 c κs = eq-eqb (c .taken8 .result) 9 (c .taken8 .ensures)
+expect-requires-8 c κs = eq-eqb (c .taken8 .result) 8 (c .taken8 .ensures)
+
+taken-requires-9 : tie.Need-taken-requires-9
+taken-requires-9 c κs = search needs
+
+expect-requires-9 : tie.Need-expect-requires-9
+expect-requires-9 c κs = eq-eqb (c .taken9 .result) 9 (c .taken9 .ensures)
 
 made-requires : tie.Need-made-requires
 made-requires c κs = search needs
 
-expect-requires-9 : tie.Need-expect-requires-9
-expect-requires-9 c κs = eq-eqb (c .made .result) 536870912 (c .made .ensures)
+expect-requires-10 : tie.Need-expect-requires-10
+expect-requires-10 c κs = eq-eqb (c .made .result) 536870912 (c .made .ensures)
 
 made-requires-2 : tie.Need-made-requires-2
 made-requires-2 c κs = search needs
 
-expect-requires-10 : tie.Need-expect-requires-10
-expect-requires-10 c κs = eq-eqb (c .made2 .result) 1342177281 (c .made2 .ensures)
+expect-requires-11 : tie.Need-expect-requires-11
+expect-requires-11 c κs = eq-eqb (c .made2 .result) 1342177281 (c .made2 .ensures)
 
 made-requires-3 : tie.Need-made-requires-3
 made-requires-3 c κs = search needs
 
-expect-requires-11 : tie.Need-expect-requires-11
-expect-requires-11 c κs = eq-eqb (c .made3 .result) 8 (c .made3 .ensures)
+expect-requires-12 : tie.Need-expect-requires-12
+expect-requires-12 c κs = eq-eqb (c .made3 .result) 1610612736 (c .made3 .ensures)
 
 made-requires-4 : tie.Need-made-requires-4
 made-requires-4 c κs = search needs
 
-expect-requires-12 : tie.Need-expect-requires-12
-expect-requires-12 c κs = eq-eqb (c .made4 .result) 8 (c .made4 .ensures)
+expect-requires-13 : tie.Need-expect-requires-13
+expect-requires-13 c κs = eq-eqb (c .made4 .result) 8 (c .made4 .ensures)
 
 made-requires-5 : tie.Need-made-requires-5
 made-requires-5 c κs = search needs
 
-expect-requires-13 : tie.Need-expect-requires-13
-expect-requires-13 c κs = eq-eqb (c .made5 .result) 9 (c .made5 .ensures)
+expect-requires-14 : tie.Need-expect-requires-14
+expect-requires-14 c κs = eq-eqb (c .made5 .result) 8 (c .made5 .ensures)
 
 made-requires-6 : tie.Need-made-requires-6
 made-requires-6 c κs = search needs
 
-expect-requires-14 : tie.Need-expect-requires-14
-expect-requires-14 c κs = eq-eqb (c .made6 .result) 11 (c .made6 .ensures)
+expect-requires-15 : tie.Need-expect-requires-15
+expect-requires-15 c κs = eq-eqb (c .made6 .result) 9 (c .made6 .ensures)
+
+made-requires-7 : tie.Need-made-requires-7
+made-requires-7 c κs = search needs
+
+expect-requires-16 : tie.Need-expect-requires-16
+expect-requires-16 c κs = eq-eqb (c .made7 .result) 11 (c .made7 .ensures)
 
 returns : tie.Need-returns
 returns c = search needs
@@ -111,16 +123,20 @@ main-spec =
     expect-requires-7
     taken-requires-8
     expect-requires-8
-    made-requires
+    taken-requires-9
     expect-requires-9
-    made-requires-2
+    made-requires
     expect-requires-10
-    made-requires-3
+    made-requires-2
     expect-requires-11
-    made-requires-4
+    made-requires-3
     expect-requires-12
-    made-requires-5
+    made-requires-4
     expect-requires-13
-    made-requires-6
+    made-requires-5
     expect-requires-14
+    made-requires-6
+    expect-requires-15
+    made-requires-7
+    expect-requires-16
     returns)

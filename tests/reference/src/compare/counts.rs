@@ -4,13 +4,16 @@ use super::{Answer, Case, Kind};
 use crate::bytes::{read_input, words};
 use crate::row::{Row, LOCATIONS, MOST};
 use crate::run::{take_all, MOST_WORDS};
+use crate::word::CANCEL;
 
-/// Calls by kind, refusals by kind and number, words taken, and visits of each location for each number of processes.
+/// Calls by kind, refusals by kind and number, words taken; and for each number of processes the CANCELs among these,
+/// and visits of each location.
 #[derive(Clone, Debug, Default)]
 pub struct Counts {
     pub calls: [u64; Kind::ALL.len()],
     pub refusals: [[u64; 15]; Kind::ALL.len()],
     pub words: u64,
+    pub cancels: [u64; MOST + 1],
     pub visits: [[u64; LOCATIONS.len()]; MOST + 1],
 }
 
@@ -36,10 +39,11 @@ impl Counts {
     }
 
     fn walk(&mut self, rows: &mut [Row], words: impl Iterator<Item = u32>) {
-        let visits = &mut self.visits[rows.len()];
+        let (visits, cancels) = (&mut self.visits[rows.len()], &mut self.cancels[rows.len()]);
         let ran = take_all(rows, words.take(MOST_WORDS), |event| {
             let code = LOCATIONS.iter().position(|&loc| loc == event.after).expect("a location");
             visits[code] += 1;
+            *cancels += u64::from(event.kind == CANCEL);
         });
         self.words += u64::from(ran.taken);
     }
@@ -72,6 +76,9 @@ impl Counts {
         for n in 2..=MOST {
             let missing = LOCATIONS.iter().zip(self.visits[n]).filter(|(_, visits)| *visits == 0);
             unseen.extend(missing.map(|(loc, _)| format!("no visit of {loc} with {n} processes")));
+            if self.cancels[n] == 0 {
+                unseen.push(format!("no CANCEL taken with {n} processes"));
+            }
         }
         unseen
     }
@@ -101,9 +108,10 @@ impl Counts {
         let refusals = self.met().into_iter().enumerate().map(|(number, met)| (number.to_string(), met));
         let visits = LOCATIONS.iter().map(|loc| loc.to_string()).zip(total);
         out + &format!(
-            "\nsummary: seed {seed}: calls [{}] words {} refusals [{}] visits [{}]",
+            "\nsummary: seed {seed}: calls [{}] words {} cancels {} refusals [{}] visits [{}]",
             listed(calls),
             self.words,
+            self.cancels.iter().sum::<u64>(),
             listed(refusals),
             listed(visits)
         )

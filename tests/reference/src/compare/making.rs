@@ -29,7 +29,7 @@ pub fn make_case(rng: &mut Random, kind: Kind) -> Case {
             Case::Fresh { rows: old_rows(rng, count) }
         }
         Kind::TakeApart => Case::TakeApart { word: loose_word(rng) },
-        Kind::PutTogether => Case::PutTogether { kind: edge(rng, 6), process: edge(rng, 17), argument: edge(rng, 257) },
+        Kind::PutTogether => Case::PutTogether { kind: edge(rng, 7), process: edge(rng, 17), argument: edge(rng, 257) },
         Kind::ReadImage => make_read(rng),
         Kind::WriteImage => {
             let rows = lent_rows(rng);

@@ -3,7 +3,7 @@
 use super::Random;
 use crate::row::{everyone, Row};
 use crate::step::Machine;
-use crate::word::{join, COME, FLICKER, GO, LOOK, STAY};
+use crate::word::{join, CANCEL, COME, FLICKER, GO, LOOK, STAY};
 
 /// Which process moves next.
 #[derive(Clone, Copy)]
@@ -61,7 +61,7 @@ fn lowest(rows: &[Row], set: u16, chosen: usize) -> usize {
     (0..rows.len()).filter(|&p| set >> p & 1 == 1).fold(chosen, |best, p| if rank(p) < rank(best) { p } else { best })
 }
 
-/// A word that is allowed for process p.
+/// A word that is allowed for process p. Of those that go on from 20, one in ten cancels.
 fn word_for(rng: &mut Random, rows: &[Row], p: usize, mood: &Mood) -> u32 {
     let row = &rows[p];
     let flickers = rng.chance(mood.flickers, 16);
@@ -70,6 +70,7 @@ fn word_for(rng: &mut Random, rows: &[Row], p: usize, mood: &Mood) -> u32 {
         10 => (COME, 0),
         20 | 40 if flickers => (FLICKER, rng.below(2)),
         24 if flickers => (FLICKER, rng.below(rows.len())),
+        20 if rng.chance(1, 10) => (CANCEL, 0),
         22 if row.lis != 0 => (LOOK, rng.member(row.lis)),
         _ => (GO, 0),
     };
@@ -109,9 +110,9 @@ pub fn schedule(rng: &mut Random, start: &[Row], count: usize, faulty: usize) ->
 pub fn faulty_word(rng: &mut Random, rows: &[Row], good: u32) -> u32 {
     let n = rows.len();
     let any = rng.below(n.max(1));
-    let kind = rng.within(1, 5) as u32;
+    let kind = rng.within(1, 6) as u32;
     match rng.below(10) {
-        0 => good & 0x0FFF_FFFF | (rng.pick(&[0, 6, 7, 8, 9, 14, 15])) << 28,
+        0 => good & 0x0FFF_FFFF | (rng.pick(&[0, 7, 8, 9, 14, 15])) << 28,
         1 => good | 1 << rng.pick(&[8, 9, 12, 15, 24, 25, 27]),
         2 => good & 0xFF00_FFFF | (rng.pick(&[n, n + 1, 15, 16, 17, 128, 255]) as u32) << 16,
         3 => join(kind, any as u32, 0),
@@ -119,7 +120,7 @@ pub fn faulty_word(rng: &mut Random, rows: &[Row], good: u32) -> u32 {
         5 => good & !0xFF | rng.pick(&[1, 2, n - 1, n, n + 1, 15, 16, 31, 32, 255]) as u32,
         6 => wrong_argument(rng, rows),
         7 => good ^ 1 << rng.below(32),
-        8 => join(rng.pick(&[GO, LOOK]), any as u32, rng.pick(&[0, 0, 1, 16])),
+        8 => join(rng.pick(&[GO, LOOK, CANCEL]), any as u32, rng.pick(&[0, 0, 1, 16])),
         _ => rng.next() as u32,
     }
 }
@@ -139,6 +140,7 @@ fn wrong_argument(rng: &mut Random, rows: &[Row]) -> u32 {
     let wanted = rng.pick(&[20, 22, 24, 40]);
     let p = (0..n).map(|i| (from + i) % n).find(|&p| rows[p].loc == wanted).unwrap_or(from);
     let kind = match rows[p].loc {
+        20 if rng.chance(1, 2) => CANCEL,
         20 | 24 | 40 => FLICKER,
         22 if rng.chance(3, 4) => LOOK,
         _ => GO,

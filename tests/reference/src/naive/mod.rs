@@ -14,8 +14,8 @@ pub use calls::{census, fresh, run, step, Standing};
 pub use image::{read_image, write_image};
 pub use words::{put_together, take_apart};
 
-/// One error put into the model; the first group is of errors that are near, the last that of memory lent by C
-/// and of answers in records.
+/// One error put into the model; the first group is of errors that are near, the third of CANCEL and the kinds, the
+/// last that of memory lent by C and of answers in records.
 #[derive(Clone, Copy, Debug, PartialEq, Eq)]
 pub enum Fault {
     None,
@@ -66,6 +66,21 @@ pub enum Fault {
     PlaceFromImageStart1,
     RowCountAfterRows,
 
+    ActClearedAtCancel,
+    ActSetAtCancel,
+    AheadClearedAtCancel,
+    CancelTo10,
+    CancelAlsoAt21,
+    CancelAlsoAt40,
+    CancelOfAnyArgument,
+    CancelCountsAsCome,
+    StepRefusesKind6,
+    StepTakesKind7,
+    ApartRefusesKind6,
+    ApartTakesKind7,
+    TogetherRefusesKind6,
+    TogetherTakesKind7,
+
     FreshOf17Rows,
     FreshKeepsWhatMayBeAnything,
     ReadLentBeforeWords,
@@ -85,7 +100,7 @@ pub enum Fault {
 }
 
 impl Fault {
-    pub const ALL: [Fault; 61] = [
+    pub const ALL: [Fault; 75] = [
         Fault::Counts40With30,
         Fault::EstKeptAtGo24,
         Fault::TurnBeforeSizeOfEst,
@@ -131,6 +146,20 @@ impl Fault {
         Fault::SpareBitsOfStateIgnored,
         Fault::PlaceFromImageStart1,
         Fault::RowCountAfterRows,
+        Fault::ActClearedAtCancel,
+        Fault::ActSetAtCancel,
+        Fault::AheadClearedAtCancel,
+        Fault::CancelTo10,
+        Fault::CancelAlsoAt21,
+        Fault::CancelAlsoAt40,
+        Fault::CancelOfAnyArgument,
+        Fault::CancelCountsAsCome,
+        Fault::StepRefusesKind6,
+        Fault::StepTakesKind7,
+        Fault::ApartRefusesKind6,
+        Fault::ApartTakesKind7,
+        Fault::TogetherRefusesKind6,
+        Fault::TogetherTakesKind7,
         Fault::FreshOf17Rows,
         Fault::FreshKeepsWhatMayBeAnything,
         Fault::ReadLentBeforeWords,

@@ -1,6 +1,7 @@
 //! One step, in the order of the manual, "Steps" and "Ahead sets".
 
 use super::system::{size, Process, System};
+use super::words::is_kind;
 use super::Fault;
 
 const STAY: u32 = 1;
@@ -8,6 +9,7 @@ const COME: u32 = 2;
 const FLICKER: u32 = 3;
 const GO: u32 = 4;
 const LOOK: u32 = 5;
+const CANCEL: u32 = 6;
 
 /// What an accepted word did.
 pub struct Moved {
@@ -36,7 +38,8 @@ pub fn judge(system: &System, word: u32, fault: Fault) -> Result<Event, u16> {
     let kind = word / 0x1000_0000;
     let p = (word / 0x1_0000 % 0x100) as usize;
     let a = (word % 0x100) as usize;
-    let form_wrong = !(1..=5).contains(&kind) || word != kind * 0x1000_0000 + p as u32 * 0x1_0000 + a as u32;
+    let known = is_kind(kind, fault, Fault::StepRefusesKind6, Fault::StepTakesKind7);
+    let form_wrong = !known || word != kind * 0x1000_0000 + p as u32 * 0x1_0000 + a as u32;
     let no_process = p > 15 || p >= n;
     if fault == Fault::ProcessBeforeForm && no_process {
         return Err(9);
@@ -47,6 +50,8 @@ pub fn judge(system: &System, word: u32, fault: Fault) -> Result<Event, u16> {
     if no_process {
         return Err(9);
     }
+    // where a fault lets kind 7 through, it is taken for CANCEL
+    let kind = kind.min(CANCEL);
     let process = &system.processes[p];
     let allowed = is_allowed(kind, process, fault);
     let listed = is_listed(kind, process, a, n, fault);
@@ -70,9 +75,15 @@ pub fn carry_out(system: &mut System, Event { kind, p, a }: Event, fault: Fault)
         COME => system.processes[p].location = 20,
         FLICKER => flicker(system, p, a, fault),
         GO => go(system, p, fault),
-        _ => look(system, p, a, fault),
+        LOOK => look(system, p, a, fault),
+        _ => cancel(system, p, fault),
     }
-    let come = kind == COME || (kind == STAY && fault == Fault::StayCountsAsCome);
+    let come = match kind {
+        COME => true,
+        STAY => fault == Fault::StayCountsAsCome,
+        CANCEL => fault == Fault::CancelCountsAsCome,
+        _ => false,
+    };
     Moved { process: p, before, after: system.processes[p].location, come }
 }
 
@@ -84,6 +95,9 @@ fn is_allowed(kind: u32, process: &Process, fault: Fault) -> bool {
         GO if process.location == 22 => lis_empty || fault == Fault::Go22WithLisIsArgument,
         GO => [20, 21, 23, 24, 30, 40].contains(&process.location),
         LOOK => process.location == 22 && !lis_empty,
+        CANCEL if process.location == 21 => fault == Fault::CancelAlsoAt21,
+        CANCEL if process.location == 40 => fault == Fault::CancelAlsoAt40,
+        CANCEL => process.location == 20,
         _ => false,
     }
 }
@@ -95,6 +109,7 @@ fn is_listed(kind: u32, process: &Process, a: usize, n: usize, fault: Fault) -> 
         FLICKER => a == 0 || a == 1,
         LOOK => a < 16 && process.lis[a],
         GO if process.location == 22 && size(&process.lis) > 0 => false,
+        CANCEL => a == 0 || fault == Fault::CancelOfAnyArgument,
         _ => a == 0,
     }
 }
@@ -120,6 +135,18 @@ fn look(system: &mut System, p: usize, q: usize, fault: Fault) {
     };
     if drops {
         system.processes[p].est[q] = false;
+    }
+}
+
+/// To 40, and act keeps the value that the last FLICKER left.
+fn cancel(system: &mut System, p: usize, fault: Fault) {
+    let process = &mut system.processes[p];
+    process.location = if fault == Fault::CancelTo10 { 10 } else { 40 };
+    match fault {
+        Fault::ActClearedAtCancel => process.act = false,
+        Fault::ActSetAtCancel => process.act = true,
+        Fault::AheadClearedAtCancel => leave_ahead_sets(system, p, fault),
+        _ => {}
     }
 }
 

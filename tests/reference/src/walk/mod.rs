@@ -23,19 +23,19 @@ pub struct Walk {
 
 pub const ZEROS_OF_2: Walk = Walk {
     name: "2 zeros",
-    expected: Figures { tables: 1_116, accepted: 3_884, refused: 29_596 },
+    expected: Figures { tables: 1_116, accepted: 4_164, refused: 36_012 },
     over: |beside| walk(&[zeros::<2>()], beside),
 };
 
 pub const EVERY_OF_2: Walk = Walk {
     name: "2 every",
-    expected: Figures { tables: 25_352, accepted: 125_412, refused: 635_148 },
+    expected: Figures { tables: 61_704, accepted: 371_668, refused: 1_849_676 },
     over: |beside| walk(&every_fresh::<2>(), beside),
 };
 
 pub const ZEROS_OF_3: Walk = Walk {
     name: "3 zeros",
-    expected: Figures { tables: 3_426_399, accepted: 18_502_080, refused: 187_081_860 },
+    expected: Figures { tables: 3_426_399, accepted: 19_453_920, refused: 227_246_808 },
     over: |beside| walk(&[zeros::<3>()], beside),
 };
 

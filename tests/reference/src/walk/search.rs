@@ -1,7 +1,7 @@
 //! Breadth first over the tables that accepted words lead to; each of them is given every candidate word once.
 
 use super::packed::{pack, unpack, Tables};
-use crate::word::{join, LOOK, STAY};
+use crate::word::{join, CANCEL, STAY};
 use crate::Row;
 
 /// What is done at the tables of a walk.
@@ -38,7 +38,7 @@ pub struct Found<F> {
 /// refusals 10 and 11 are met besides the accepted words.
 fn candidates(n: u32) -> Vec<u32> {
     let arguments = |kind, process| (0..=n).map(move |argument| join(kind, process, argument));
-    (STAY..=LOOK).flat_map(|kind| (0..n).flat_map(move |process| arguments(kind, process))).collect()
+    (STAY..=CANCEL).flat_map(|kind| (0..n).flat_map(move |process| arguments(kind, process))).collect()
 }
 
 /// Walks from the starts until no table is new, or until something is found.

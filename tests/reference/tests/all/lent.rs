@@ -41,7 +41,7 @@ fn the_fresh_image_read_and_written() {
 #[test]
 fn every_word_that_comes_apart_goes_together_again() {
     on_both(|engine| {
-        for kind in 1..=5 {
+        for kind in 1..=6 {
             for process in 0..16 {
                 for argument in 0..256 {
                     let WordAnswer { refusal, word } = engine.put_together(kind, process, argument);
@@ -58,11 +58,13 @@ fn every_word_that_comes_apart_goes_together_again() {
 fn words_and_parts_that_are_refused() {
     on_both(|engine| {
         let no_word = |refusal| WordAnswer { refusal, word: 0 };
-        assert_eq!(engine.put_together(6, 16, 256), no_word(8));
-        assert_eq!(engine.put_together(5, 16, 256), no_word(9));
-        assert_eq!(engine.put_together(5, 15, 256), no_word(11));
+        assert_eq!(engine.put_together(0, 16, 256), no_word(8));
+        assert_eq!(engine.put_together(7, 16, 256), no_word(8));
+        assert_eq!(engine.put_together(6, 16, 256), no_word(9));
+        assert_eq!(engine.put_together(6, 15, 256), no_word(11));
         let no_parts = |refusal| PartsAnswer { refusal, kind: 0, process: 0, argument: 0 };
         assert_eq!(engine.take_apart(0x0110_0000), no_parts(8));
+        assert_eq!(engine.take_apart(0x7010_0000), no_parts(8));
         assert_eq!(engine.take_apart(0x1010_0001), no_parts(9));
     });
 }

@@ -1,5 +1,6 @@
 //! All tests of the reference, in one program.
 
+mod cancel;
 mod example;
 mod exclusion;
 mod lent;

@@ -27,13 +27,13 @@ pub fn fresh_rows(engine: &dyn Engine, n: usize) -> Vec<Row> {
 }
 
 /// The rows and the answer after words from a fresh table of two.
-fn ran(engine: &dyn Engine, words: &[u32]) -> (Vec<Row>, Ran) {
+pub fn ran(engine: &dyn Engine, words: &[u32]) -> (Vec<Row>, Ran) {
     let mut rows = fresh_rows(engine, 2);
     let ran = engine.run(&mut rows, words, &mut Tally::default());
     (rows, ran)
 }
 
-fn refused(engine: &dyn Engine, words: &[u32], taken: u32, refusal: u32) {
+pub fn refused(engine: &dyn Engine, words: &[u32], taken: u32, refusal: u32) {
     let before = ran(engine, &words[..taken as usize]).0;
     assert_eq!(ran(engine, words), (before, Ran { taken, refusal }), "{words:X?}");
 }

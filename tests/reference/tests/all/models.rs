@@ -3,6 +3,7 @@
 use reference::compare::{make_case, shrink, Case, Counts, Kind, Naive, Reference};
 use reference::generate::Random;
 use reference::naive::Fault;
+use reference::Row;
 
 /// The first case of a seed on which the reference and the naive model with a fault differ, among `rounds` of each kind.
 fn first_difference(seed: u64, rounds: u64, fault: Fault, mut note: impl FnMut(&Case)) -> Option<Case> {
@@ -36,6 +37,20 @@ fn the_two_models_agree() {
 }
 
 #[test]
+fn a_comparison_without_cancels_is_blind() {
+    let mut counts = Counts::default();
+    let blind = |counts: &Counts, n: usize| counts.unseen().contains(&format!("no CANCEL taken with {n} processes"));
+    assert!((2..=16).all(|n| blind(&counts, n)));
+    let rows = vec![Row { loc: 20, ..Row::IDLE }, Row::IDLE];
+    for (word, taken) in [(0x60000001, false), (0x60000000, true)] {
+        let case = Case::Step { rows: rows.clone(), word };
+        counts.note(&case, &case.answer(&Reference));
+        assert_eq!(blind(&counts, 2), !taken);
+    }
+    assert!((3..=16).all(|n| blind(&counts, n)));
+}
+
+#[test]
 fn every_fault_is_seen() {
     for fault in Fault::ALL {
         let mut cases = 0;
@@ -54,6 +69,12 @@ fn the_call_from_c_sees_wrong_moves() {
         Fault::AheadClearedAtGo40,
         Fault::OwnRowStoreLostAtGo24,
         Fault::OwnRowStoreLostAtFlicker,
+        Fault::ActClearedAtCancel,
+        Fault::ActSetAtCancel,
+        Fault::AheadClearedAtCancel,
+        Fault::CancelTo10,
+        Fault::CancelAlsoAt21,
+        Fault::CancelAlsoAt40,
     ];
     for fault in moves {
         let seen = (0..20_000).any(|number| {

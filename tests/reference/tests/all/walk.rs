@@ -6,7 +6,7 @@ use reference::walk::{control, Beside, Finding, Found, EVERY_OF_2, SHORTEST, ZER
 use reference::{Ran, Row, Tally};
 
 /// Seen by a walk of two processes from every fresh table.
-const SEEN: [Fault; 20] = [
+const SEEN: [Fault; 27] = [
     Fault::Counts40With30,
     Fault::AheadClearedAtGo40,
     Fault::OwnRowStoreLostAtGo24,
@@ -27,6 +27,13 @@ const SEEN: [Fault; 20] = [
     Fault::Go22WithLisIsArgument,
     Fault::ArgumentBeforeAllowed,
     Fault::FlickerUpToN,
+    Fault::ActClearedAtCancel,
+    Fault::ActSetAtCancel,
+    Fault::CancelTo10,
+    Fault::CancelAlsoAt21,
+    Fault::CancelAlsoAt40,
+    Fault::CancelOfAnyArgument,
+    Fault::StepRefusesKind6,
 ];
 
 /// Seen by a walk of three processes only. Of two, the level is at most 1 and est has at most the other one in it.
@@ -42,13 +49,17 @@ const SEEN_OF_3: [Fault; 5] = [
 ];
 
 /// Not seen by a walk of two, nor by one of three.
-const UNSEEN: [Fault; 36] = [
+const UNSEEN: [Fault; 43] = [
     // no table that is reached has a process in its own ahead
     Fault::OwnAheadKeptAtGo30,
-    // every word has a kind, no spare bits, and a process of the table
+    // nor a process at 20 in an ahead set
+    Fault::AheadClearedAtCancel,
+    // every word has a kind from 1 to 6, no spare bits, and a process of the table
     Fault::ProcessBeforeForm,
+    Fault::StepTakesKind7,
     // words go to the step one by one: there is no list of them and no tally
     Fault::StayCountsAsCome,
+    Fault::CancelCountsAsCome,
     Fault::TallyKeptOnRefusal,
     Fault::GoesOnPastRefusal,
     Fault::OneWordFewer,
@@ -82,6 +93,10 @@ const UNSEEN: [Fault; 36] = [
     Fault::ApartKeepsPartsOnRefusal,
     Fault::TogetherKeepsWordOnRefusal,
     Fault::TogetherCutsTheArgument,
+    Fault::ApartRefusesKind6,
+    Fault::ApartTakesKind7,
+    Fault::TogetherRefusesKind6,
+    Fault::TogetherTakesKind7,
     Fault::PrintPartWhenShort,
     Fault::PrintZeroAfterText,
     Fault::PrintAnswers0WhenShort,
@@ -141,7 +156,15 @@ fn faults_that_two_processes_do_not_show() {
 /// The same fault on both sides: they agree, and what is left is demand 3 and the soundness of the tables.
 #[test]
 fn a_fault_on_both_sides_breaks_demand_3() {
-    for fault in [Fault::LookDropsBusy, Fault::Counts40With30, Fault::HeldAlsoAt24, Fault::FlickerUpToN] {
+    let faults = [
+        Fault::LookDropsBusy,
+        Fault::Counts40With30,
+        Fault::HeldAlsoAt24,
+        Fault::FlickerUpToN,
+        // who cancels at 21 keeps bb, and enters with it again
+        Fault::CancelAlsoAt21,
+    ];
+    for fault in faults {
         let found = (ZEROS_OF_2.over)(&Beside { engine: &Naive(fault), fault });
         let broken = matches!(&found, Err(Found { finding: Finding::Demand3(_), .. }));
         assert!(broken, "{fault:?}: {found:?}");

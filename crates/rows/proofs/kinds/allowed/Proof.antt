@@ -1,10 +1,11 @@
--- `kinds::allowed` meets its contract, kind by kind. Assumes nothing.
+-- `kinds::allowed` meets its contract: LOOK, GO, and the kinds of which the location says all. Assumes nothing.
 use mathlib.Core.Path.{refl, ap, _∙_}
 use mathlib.Core.Bool.{Bool, _&&_, _||_, not}
 use lib.Dec.{eqb}
 use borrow.Author.Needs.{needs}
-use Rattle.machine.specs.Words.{STAY, COME, FLICKER, GO, LOOK}
-use Rattle.rows.proofs.AllowedLaws.{allowed-with, allowed-plain, allowed-rest}
+use Rattle.machine.specs.Words.{GO, LOOK}
+use Rattle.machine.proofs.KindLaws.{kind-low}
+use Rattle.rows.proofs.AllowedLaws.{allowed-with, allowed-plain, lis-free}
 use Rattle.rows.proofs.kinds.allowed.Statement.{statement}
 use Rattle.rows.proofs.kinds.allowed.Tie as tie
 
@@ -39,7 +40,9 @@ returns-2 c =
     ∙ allowed-with (s .args .kind) GO (p .places2 .result) r (p .before .if2 .taken) refl (p .places2 .ensures)
 
 places-requires-3 : tie.Need-places-requires-3
-places-requires-3 c κs = search needs
+places-requires-3 c κs =
+    let s = c .before .before in
+    kind-low (s .args .kind) (s .pre)
 
 marked-requires-3 : tie.Need-marked-requires-3
 marked-requires-3 c κs = search needs
@@ -47,39 +50,13 @@ marked-requires-3 c κs = search needs
 returns-3 : tie.Need-returns-3
 returns-3 c =
     let p = c .before in
-    let s = p .before .before .before .before in
-    c .marked3 .ensures
-    ∙ allowed-plain (s .args .kind) FLICKER (p .places3 .result) (s .args .r) (p .before .if3 .taken) refl
-    (p .places3 .ensures) refl
-
-places-requires-4 : tie.Need-places-requires-4
-places-requires-4 c κs = search needs
-
-marked-requires-4 : tie.Need-marked-requires-4
-marked-requires-4 c κs = search needs
-
-returns-4 : tie.Need-returns-4
-returns-4 c =
-    let p = c .before in
-    let s = p .before .before .before .before .before in
-    c .marked4 .ensures
-    ∙ allowed-plain (s .args .kind) COME (p .places4 .result) (s .args .r) (p .before .if4 .taken) refl
-    (p .places4 .ensures) refl
-
-places-requires-5 : tie.Need-places-requires-5
-places-requires-5 c κs = search needs
-
-marked-requires-5 : tie.Need-marked-requires-5
-marked-requires-5 c κs = search needs
-
-returns-5 : tie.Need-returns-5
-returns-5 c =
-    let p = c .before in
     let e = p .before in
-    let s = e .before .before .before .before in
-    ap (λ (b : Bool). eqb (s .args .kind) STAY && b) (c .marked5 .ensures)
-    ∙ allowed-rest (s .args .kind) (p .places5 .result) (s .args .r) (e .before .before .before .if1 .left)
-    (e .before .before .if2 .left) (e .before .if3 .left) (e .if4 .left) (p .places5 .ensures)
+    let s = e .before .before in
+    let k = s .args .kind in
+    let r = s .args .r in
+    c .marked3 .ensures
+    ∙ allowed-plain k k (p .places3 .result) r refl (s .pre) (p .places3 .ensures)
+    (lis-free k (eqb (r .lis) 0) (r .location) (e .before .if1 .left) (e .if2 .left))
 
 pub allowed-spec : {M : Type 1} → statement M
 allowed-spec =
@@ -93,10 +70,4 @@ allowed-spec =
     returns-2
     places-requires-3
     marked-requires-3
-    returns-3
-    places-requires-4
-    marked-requires-4
-    returns-4
-    places-requires-5
-    marked-requires-5
-    returns-5)
+    returns-3)

@@ -106,8 +106,8 @@ returns-5 c =
     taken (c .before .before .before .before .before .before) _ _ _
     (c .before .before .before .if5 .taken) (c .before .take-flicker .ensures)
 
-take-resting-requires : tie.Need-take-resting-requires
-take-resting-requires c κs =
+take-jump-requires : tie.Need-take-jump-requires
+take-jump-requires c κs =
     let e = c .before .before .before .before .before .before in
     let w = e .before .before .before .before .args .word in
     let is = c .before .before .before .before .before .kind-of .ensures in
@@ -119,7 +119,7 @@ same-length-4 : tie.Need-same-length-4
 same-length-4 c = search needs
 
 returns-6 : tie.Need-returns-6
-returns-6 c = taken (c .before .before .before .before .before .before) _ _ _ refl (c .before .take-resting .ensures)
+returns-6 c = taken (c .before .before .before .before .before .before) _ _ _ refl (c .before .take-jump .ensures)
 
 pub advance-spec : {M : Type 1} → statement M
 advance-spec =
@@ -141,6 +141,6 @@ advance-spec =
     take-flicker-requires
     same-length-3
     returns-5
-    take-resting-requires
+    take-jump-requires
     same-length-4
     returns-6)

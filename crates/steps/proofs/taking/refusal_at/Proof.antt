@@ -8,7 +8,7 @@ use Rattle.machine.specs.Steps.{allowed, argumentFits}
 use Rattle.machine.specs.declared.Row.{Row}
 use Rattle.cells.specs.View.{rowsOf}
 use Rattle.cells.proofs.ViewLaws.{rows-length}
-use Rattle.steps.proofs.TakeLaws.{kind-small, refused-there, refused-argument, refused-not}
+use Rattle.steps.proofs.TakeLaws.{refused-there, refused-argument, refused-not}
 use borrow.Author.Needs.{needs}
 use Rattle.steps.proofs.taking.refusal_at.Statement.{statement}
 use Rattle.steps.proofs.taking.refusal_at.Tie as tie
@@ -17,7 +17,7 @@ row-at-requires : tie.Need-row-at-requires
 row-at-requires c κs = search needs
 
 allowed-requires : tie.Need-allowed-requires
-allowed-requires c κs = kind-small (c .before .args .kind) (c .before .pre .kind)
+allowed-requires c κs = c .before .pre .kind
 
 cast-argument-fits : tie.Need-cast-argument-fits
 cast-argument-fits c = search needs
