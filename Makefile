@@ -1,12 +1,12 @@
 # make run       prove and link the printing program, and run it on the example, or on INPUT=file
-# make test      prove every crate, try every must-fail edit, run every test; last line: N passed, 0 failed
+# make test      prove every crate, try the must-fail edits, run every test; last line: N passed, 0 failed
 # make edits     try the longer list of must-fail edits, which make test has no time for; or those of NAMES="crate .."
 # make lib       target/staticlib/libzaguypo.a and libzaguypo.so, for C; include/zaguypo.h declares them
 # make install   header, libraries, zaguypo.pc, zaguypo-replay and man pages below PREFIX, with DESTDIR before it
 # make uninstall takes them out again
 # make bench     ns a word, a step, an image, .. beside a plain Rust engine, with ratios
 # make fuzz      compare with the Rust engine until SECONDS=600 have passed
-# make spin      search a model of the paper with Spin, which must be installed, and compare with a walk through the compiled step
+# make spin      search a model of the paper and CANCEL with Spin, which must be installed, and compare with a walk through the compiled step
 # make fmt       lay out every .rt and .antt file
 
 INPUT ?=

@@ -57,6 +57,7 @@ HAS_AT(zaguypo_word, word, 4, 4);
 
 static_assert(ZAGUYPO_MOST_PROCESSES == 16 && ZAGUYPO_RUN_LIMIT == 8192, "limits");
 static_assert(ZAGUYPO_INPUT_BYTES == 33088, "bytes of an input");
+static_assert(ZAGUYPO_TEXT_BYTES == 139300, "bytes of a text");
 static_assert(ZAGUYPO_IMAGE_WORDS(2) == 10 && ZAGUYPO_IMAGE_WORDS(16) == 80, "words of an image");
 static_assert(ZAGUYPO_IMAGE_BYTES(2) == 40 && ZAGUYPO_IMAGE_BYTES(16) == 320, "bytes of an image");
 

@@ -89,17 +89,20 @@ gone t p =
     let u = set t p (goRow (length t) p (competitors t) (row t (r .level) .turn) r) in
     cond (eqb (r .location) 24) (turned (r .level) p u) (cond (eqb (r .location) 30) (map (forgets p) u) u)
 
--- CANCEL: at 20, while act is still being written, p gives up and goes to 40; act keeps what the last FLICKER left
+-- COME: to 20
+abbrev pub came : Table → ℕ → Table
+came t p = set t p (withLocation 20 (row t p))
+
+-- CANCEL: p gives up at 20, while its act is still being written, and goes to 40; act keeps what a FLICKER left there
 abbrev pub cancelled : Table → ℕ → Table
 cancelled t p = set t p (withLocation 40 (row t p))
 
 -- every kind; a number that is none moves nothing
 unfoldable pub moved : Table → ℕ → ℕ → ℕ → Table
 moved t k p a =
-    let came = set t p (withLocation 20 (row t p)) in
     let seen = set t p (looked a (row t a .act) (row t p)) in
     cond (eqb k STAY) t
-    (cond (eqb k COME) came
+    (cond (eqb k COME) (came t p)
     (cond (eqb k FLICKER) (flickered t p a)
     (cond (eqb k GO) (gone t p)
     (cond (eqb k LOOK) seen

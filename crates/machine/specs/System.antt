@@ -5,11 +5,11 @@
 --                      gives up at 20 (`cancels`).
 --   stepWord p x  ==   the event word that stands for the step x of process p, with its choice.
 --
--- A second reading of the paper: one constructor for each alternative, its guards as premises and its assignments in
--- the paper's order, by the cell setters and the set operations alone; the step of Steps.antt is not used. pc is
--- `location`, lwb is `ahead`, Process is the set of numbers below N, and a flickering write is the choice (4) of
--- section 3.1: any value of the cell's type and the same location again, or the value with the rest of the statement.
--- Assumes nothing.
+-- A second reading of the paper: one constructor for each alternative, and then `cancels`; the guards are premises, the
+-- assignments stand in the paper's order, by the cell setters and the set operations alone. The step of Steps.antt is
+-- not used. pc is `location`, lwb is `ahead`, Process is the set of numbers below N, and a flickering write is the
+-- choice (4) of section 3.1: any value of the cell's type and the same location again, or the value with the rest of
+-- the statement. Assumes nothing.
 use Prim.Native.Nat.{ℕ, _-_, _≤_, _<_}
 use mathlib.Core.Path.{_≡_}
 use mathlib.Core.Bool.{true, _&&_}
@@ -92,7 +92,8 @@ pub data Step (t : Table) (p : ℕ) : Table → Type 0 where
   flickers-40 : (a : ℕ) → row t p .location ≡ 40 → a < 2 → Step t p (assigned t p (withAct a))
   leaves : row t p .location ≡ 40 → Step t p (assigned t p (λ r. withLocation 10 (withAct 0 r)))
   -- ---- not in section 3.2 of the paper: the one move that is added to it
-  -- 20, while act[p] is still being written: goto 40; act[p] keeps what the flickering write left
+  -- 20, while act[p] is still being written: goto 40; act[p] keeps what the flickering write left there. No lwb changes,
+  -- since p does not compete
   cancels : row t p .location ≡ 20 → Step t p (assigned t p (withLocation 40))
 
 -- the word of a step: a FLICKER has the value that the cell gets, a LOOK the process that is looked at

@@ -1,6 +1,6 @@
 // Sets of locations as masks: bit l stands for location l. They are made from machine::LOCATIONS and
-// machine::ALLOWED at constant codes, and the compiler computes them; an array that is indexed by a
-// variable would be built anew at every word.
+// machine::ALLOWED at constant codes: an array that is indexed by a variable would be built anew at
+// every word. Of a constant kind the compiler computes them.
 ghost use mathlib.Core.Path.{_≡_};
 ghost use mathlib.Core.Bool.{_&&_};
 ghost use lib.Dec.{eqb, ltb};

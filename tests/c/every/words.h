@@ -30,7 +30,7 @@ static unsigned together_refusal(uint32_t kind, uint32_t process, uint32_t argum
     return argument > 255 ? 11 : 0;
 }
 
-/* The numbers past 16 are good ones with a further bit, which must not be cut off. */
+/* The numbers past 255 have bits that must not be cut off: with the low bits alone most would be good. */
 static void words_together(void) {
     static const uint32_t kinds[] = {0,  1,  2,  3,  4,  5,  6,  7,     8,       9,          10,
                                      11, 12, 13, 14, 15, 16, 17, 0x101, 0x10001, 0x80000001, 0xFFFFFFFF};

@@ -1,4 +1,4 @@
-//! The state as section 3.2 of the paper has it, and its soundness.
+//! The state as sections 3.2 and 3.4 of the paper have it, and its soundness.
 
 use super::Fault;
 use crate::Row;

@@ -1,4 +1,4 @@
-//! Examples of CANCEL with their answers, on both models, from the fresh table of two.
+//! Examples of CANCEL with their answers, on both models, most of them from the fresh table of two.
 
 use crate::manual::{fresh_rows, on_both, ran, refused, FRESH};
 use reference::generate::inputs::to_bytes;

@@ -48,7 +48,7 @@ const SEEN_OF_3: [Fault; 5] = [
     Fault::TurnComparedAtLevelBelow,
 ];
 
-/// Not seen by a walk of two, nor by one of three.
+/// Not seen by a walk of two, as is tried, nor by one of three, for the reasons given.
 const UNSEEN: [Fault; 43] = [
     // no table that is reached has a process in its own ahead
     Fault::OwnAheadKeptAtGo30,

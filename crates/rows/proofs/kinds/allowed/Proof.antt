@@ -42,7 +42,8 @@ returns-2 c =
 places-requires-3 : tie.Need-places-requires-3
 places-requires-3 c κs =
     let s = c .before .before in
-    kind-low (s .args .kind) (s .pre)
+    let low = kind-low (s .args .kind) (s .pre) in
+    search needs
 
 marked-requires-3 : tie.Need-marked-requires-3
 marked-requires-3 c κs = search needs
