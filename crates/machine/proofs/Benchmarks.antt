@@ -1,6 +1,6 @@
 -- Benchmarks of the definitions (`starred`, `cancels`; MANUAL, "Examples", has most of them), and examples with three
--- processes that tell near errors apart: lists, each evaluated by one theorem. The expected tables of three are those of
--- a separate model. Assumes nothing.
+-- processes that tell near errors apart: lists, each evaluated by one theorem. The expected tables of three are those
+-- of a separate model. Assumes nothing.
 use Prim.Native.Nat.{ℕ}
 use mathlib.Core.Path.{_≡_, refl}
 use mathlib.Core.Bool.{Bool, true, false, _&&_}

@@ -92,8 +92,8 @@ pub data Step (t : Table) (p : ℕ) : Table → Type 0 where
   flickers-40 : (a : ℕ) → row t p .location ≡ 40 → a < 2 → Step t p (assigned t p (withAct a))
   leaves : row t p .location ≡ 40 → Step t p (assigned t p (λ r. withLocation 10 (withAct 0 r)))
   -- ---- not in section 3.2 of the paper: the one move that is added to it
-  -- 20, while act[p] is still being written: goto 40; act[p] keeps what the flickering write left there. No lwb changes,
-  -- since p does not compete
+  -- 20, while act[p] is still being written: goto 40; act[p] keeps what the flickering write left there. No lwb
+  -- changes, since p does not compete
   cancels : row t p .location ≡ 20 → Step t p (assigned t p (withLocation 40))
 
 -- the word of a step: a FLICKER has the value that the cell gets, a LOOK the process that is looked at
