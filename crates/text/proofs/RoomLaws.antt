@@ -17,7 +17,7 @@ use Rattle.machine.specs.Census.{isCritical}
 use Rattle.machine.specs.Runs.{limit}
 use Rattle.machine.specs.Text.{inputText, imageText, postsText, doneText, stopText, line}
 use Rattle.machine.specs.Text.{wordLine, doneLine, stopLine, runLines}
-use Rattle.machine.proofs.OneOfLaws.{by-one}
+use Rattle.machine.proofs.OneOfLaws.{by-test}
 use Rattle.machine.proofs.SoundRows.{sound-row, sound-few}
 use Rattle.machine.proofs.Accepted.{accepted-says}
 use Rattle.machine.proofs.Soundness.{word-keeps-sound, word-keeps-length}
@@ -64,10 +64,7 @@ module _ (t : Table) (sound : tableRefusal t ≡ 0) where
   location-low : (p : ℕ) → p < length t → row t p .location < 100
   location-low p h =
       let l = row t p .location in
-      let low : (v : ℕ) → leb v 99 ≡ true → l ≡ v → l < 100 = λ v small e. omega (arith, leb-true v 99 small) in
-      by-one l locations
-      (low _ refl, (low _ refl, (low _ refl, (low _ refl, (low _ refl, (low _ refl, (low _ refl, (low _ refl, tt))))))))
-      (sound-row t sound p h .location-known)
+      leb-true _ _ (by-test (λ v. leb (suc v) 100) l locations refl (sound-row t sound p h .location-known))
 
   -- a word's refusal has two digits
   refusal-low : (w : ℕ) → refusalOf t w ≤ 11
