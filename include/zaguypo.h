@@ -12,9 +12,9 @@
 
 /* The first number rises with a change that a host compiled before would not survive, the second with any other change of
    an answer or of the interface. CHANGELOG.md says what each version changed. */
-#define ZAGUYPO_VERSION "1.1.0"
+#define ZAGUYPO_VERSION "1.2.0"
 #define ZAGUYPO_VERSION_MAJOR 1
-#define ZAGUYPO_VERSION_MINOR 1
+#define ZAGUYPO_VERSION_MINOR 2
 #define ZAGUYPO_VERSION_PATCH 0
 
 #define ZAGUYPO_MOST_PROCESSES 16
@@ -97,11 +97,15 @@ struct zaguypo_ran zaguypo_run_rows(struct zaguypo_row *rows, size_t size, const
 struct zaguypo_figures {
     uint16_t refusal;   /* 0, 6 or 7 */
     uint16_t critical;  /* processes at 30 */
-    uint16_t waiting;   /* processes at 20 to 24 */
+    uint16_t waiting;   /* processes at 21 to 24, since version 1.2.0 */
     uint16_t below[17]; /* at k: processes at 21 to 30 with a level under k */
     uint16_t held[17];  /* at k: those, and those at 21 to 30, but not at 24, with fewer than k members in ahead */
 };
 
+/* The census of a table. Its waiting figure has had two readings: since version 1.2.0 of the library it counts the processes
+   at 21 to 24, which have completed the first write of their entry; up to version 1.1.0 it counted those at 20 to 24. Today
+   waiting and critical add up to below[size] for every accepted table. Figures where they add up to more are of the old reading:
+   the difference is the number of processes at 20. Under either reading below[size] - critical is what waiting counts today. */
 struct zaguypo_figures zaguypo_census(const struct zaguypo_row *rows, size_t size);
 
 /* ---- images: a table as 5N words ("Images") */

@@ -43,12 +43,12 @@ pub fn critical(cells: &[[u16; 8]]) -> u16
     count_at(cells, 30, 30)
 }
 
-// How many processes wait, at 20 to 24.
+// How many processes wait, at 21 to 24.
 fn waiting(cells: &[[u16; 8]]) -> u16
     requires { ⌜ length (now cells) ≤ 16 ⌝ }
     ensures { λ s. ⌜ s ≡ waiting (rowsOf (now (cells .entry))) ⌝ }
 {
-    count_at(cells, 20, 24)
+    count_at(cells, 21, 24)
 }
 
 // ---- the thresholds of a process
@@ -165,7 +165,7 @@ pub fn census(cells: &[[u16; 8]]) -> Census
     counted(cells)
 }
 
-// The census for C (include/zaguypo.h).
+// The census for C (include/zaguypo.h). Its waiting figure counts 21 to 24; up to version 1.1.0 it counted 20 to 24.
 #[no_mangle]
 pub extern "C" fn zaguypo_census(rows: &[[u16; 8]]) -> Census
     ensures { λ r. ⌜ r ≡ censusOf (rowsOf (now (rows .entry))) ⌝ }

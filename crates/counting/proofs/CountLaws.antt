@@ -3,6 +3,7 @@
 --   count-zero, count-suc, count-next    none below 0, and what a new last number adds (`suc n`, and `n + 1` of a loop)
 --   count-suc-in, -out        the same where the last number has P, and where it has not
 --   count-cong, count-mono    the same numbers, and some of the numbers
+--   count-parts               numbers that have one of two properties, never both
 --   count-strict, count-one   fewer by one number p, and more by at most one number p
 --   count-same-but            counts that agree but at p
 --   count-le, count-none, count-all, count-pos   at most n; 0 where none has P; n where all have; over 0 where one has
@@ -19,7 +20,7 @@ use native.Mathlib.Numerals.{add-one}
 use native.Mathlib.Decide.{ℕ-discrete, decLt}
 use native.Mathlib.Omega.{arith}
 use Rattle.counting.specs.Sums.{bit, sum, count}
-use Rattle.counting.proofs.SumLaws.{sum-cong, sum-mono, sum-one, sum-strict, sum-bound, sum-up, sum-over}
+use Rattle.counting.proofs.SumLaws.{sum-cong, sum-parts, sum-mono, sum-one, sum-strict, sum-bound, sum-up, sum-over}
 
 -- P implies Q at each number below n
 abbrev pub Implies : (ℕ → Bool) → (ℕ → Bool) → ℕ → Type 0
@@ -54,6 +55,12 @@ count-suc-out P n h = let e = count-suc P n ∙ ap (λ (b : Bool). count P n + b
 pub count-cong : (P Q : ℕ → Bool) (n : ℕ) → ((q : ℕ) → q < n → P q ≡ Q q) → count P n ≡ count Q n
 unfolding count
 count-cong P Q n h = sum-cong (λ q. bit (P q)) (λ q. bit (Q q)) n (λ q l. ap bit (h q l))
+
+pub count-parts : (P Q R : ℕ → Bool) (n : ℕ)
+    → ((q : ℕ) → q < n → bit (P q) ≡ bit (Q q) + bit (R q))
+    → count P n ≡ count Q n + count R n
+unfolding count
+count-parts P Q R n h = sum-parts (λ q. bit (P q)) (λ q. bit (Q q)) (λ q. bit (R q)) n h
 
 pub count-mono : (P Q : ℕ → Bool) (n : ℕ) → Implies P Q n → count P n ≤ count Q n
 unfolding count

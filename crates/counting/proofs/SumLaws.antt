@@ -2,6 +2,7 @@
 --
 --   sum-zero, sum-suc, sum-next   the sum over no number, and what a new last number adds (`n + 1` in a loop)
 --   sum-cong            functions that agree below n have the same sum
+--   sum-parts           a function that is the sum of two has the sum of their sums
 --   sum-mono            functions in order below n have sums in order
 --   sum-strict          and strictly, where one place is strict
 --   sum-one             but for one place p, a sum is at most the other and f p
@@ -34,6 +35,14 @@ unfolding sum
 sum-cong f g zero h = refl
 sum-cong f g (suc n) h =
     ap₂ (λ (a b : ℕ). a + b) (sum-cong f g n (λ q l. h q (omega arith))) (h n (omega arith))
+
+pub sum-parts : (f g h : ℕ → ℕ) (n : ℕ) → ((q : ℕ) → q < n → f q ≡ g q + h q) → sum f n ≡ sum g n + sum h n
+unfolding sum
+sum-parts f g h zero e = refl
+sum-parts f g h (suc n) e =
+    let before = sum-parts f g h n (λ q l. e q (omega arith)) in
+    let last = e n (omega arith) in
+    omega arith
 
 pub sum-mono : (f g : ℕ → ℕ) (n : ℕ) → ((q : ℕ) → q < n → f q ≤ g q) → sum f n ≤ sum g n
 unfolding sum

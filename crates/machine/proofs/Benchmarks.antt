@@ -24,7 +24,7 @@ use Rattle.machine.specs.Exports.{printedIn}
 -- ---- evaluation
 
 -- a run, with all that it computes with
-evaluated : Table → List ℕ → Outcome
+unfoldable pub evaluated : Table → List ℕ → Outcome
 unfolding Steps.turned Steps.forgets Steps.flickered Steps.entered Steps.passed Steps.looked Steps.reconsidered
     Steps.pushed Steps.goRow Steps.gone Steps.moved Steps.allowed Steps.argumentFits Steps.wordRefusal Steps.refusalOf
     Steps.afterWord Steps.eventOf soundFrom tableRefusal competitors sum count has setOf size without others runFrom
@@ -273,7 +273,7 @@ nobody-ahead =
       belows = 0 ∷ 0 ∷ 0 ∷ 2 ∷ [];
       helds = 0 ∷ 0 ∷ 1 ∷ 2 ∷ [];
       criticals = 0;
-      waitings = 3;
+      waitings = 2;
     }
 
 pub examples : List Example

@@ -9,6 +9,7 @@ pub mod Accepted
 pub mod SoundCells
 pub mod Soundness
 pub mod Frames
+pub mod Arcs
 pub mod WordLaws
 pub mod Choices
 pub mod OneWord
@@ -18,6 +19,8 @@ pub mod AnswerLaws
 pub mod RunLaws
 pub mod InputLaws
 pub mod WordsAreSteps
+pub mod CensusTheorems
 pub mod Benchmarks
 pub mod ExportExamples
+pub mod CensusExamples
 pub mod WholeText

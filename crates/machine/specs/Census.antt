@@ -3,7 +3,7 @@
 --   below k t   ==  how many processes compete with a level under k.
 --   held k t    ==  those, and the competing processes not at 24 with fewer than k members in ahead.
 --   critical t  ==  how many processes are at 30, in the critical section.
---   waiting t   ==  how many processes are at 20 to 24.
+--   waiting t   ==  how many processes are at 21 to 24: they compete and are not yet in the critical section.
 --   censusOf t  ==  all of these, for each k from 0 to the number of processes; or 6 or 7 and no figures.
 --
 -- Assumes nothing.
@@ -32,8 +32,10 @@ isHeld k r = competes r && (ltb (r .level) k || (not (eqb (r .location) 24) && l
 abbrev pub isCritical : Row → Bool
 isCritical r = eqb (r .location) 30
 
+-- in a competing period and not yet in the critical section: the period starts with entry(p), which is GO at 20, the
+-- completed write of act (the paper, section 4.1)
 abbrev pub isWaiting : Row → Bool
-isWaiting r = leb 20 (r .location) && leb (r .location) 24
+isWaiting r = leb 21 (r .location) && leb (r .location) 24
 
 abbrev pub below : ℕ → Table → ℕ
 below k t = countRows (isBelow k) t

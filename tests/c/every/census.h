@@ -7,7 +7,7 @@ static void counted(const char *what, const struct zaguypo_row *table, size_t si
     check(what, given_back(&rows));
 }
 
-/* 24 counts by its level alone; 20, 10 and 40 do not compete; two at 30 are counted as they are */
+/* 24 counts by its level alone; 20, 10 and 40 do not compete and do not wait; two at 30 are counted as they are */
 static void census_small(void) {
     static const struct zaguypo_row two[2] = {{24, 1, 0, 1, 2, 0, 0, 0}, {30, 1, 0, 0, 0, 0, 1, 0}};
     counted("two", two, 2, (struct zaguypo_figures){0, 1, 1, {0, 1, 2}, {0, 1, 2}});
@@ -15,13 +15,31 @@ static void census_small(void) {
                                                {24, 1, 0, 3, 0, 0, 0, 0},
                                                {22, 1, 0, 2, 0, 0, 3, 0},
                                                {20, 0, 0, 0, 0, 0, 0, 0}};
-    counted("four", four, 4, (struct zaguypo_figures){0, 0, 4, {0, 0, 0, 1, 3}, {0, 1, 1, 2, 3}});
+    counted("four", four, 4, (struct zaguypo_figures){0, 0, 3, {0, 0, 0, 1, 3}, {0, 1, 1, 2, 3}});
     static const struct zaguypo_row five[5] = {{30, 1, 0, 0, 0, 0, 0, 0},
                                                {30, 1, 0, 0, 0, 0, 1, 0},
                                                {40, 1, 0, 0, 0, 0, 0, 0},
                                                {10, 0, 0, 0, 0, 0, 0, 0},
                                                {21, 1, 0, 4, 0, 0, 3, 0}};
     counted("five", five, 5, (struct zaguypo_figures){0, 2, 1, {0, 2, 2, 2, 2, 3}, {0, 2, 2, 3, 3, 3}});
+}
+
+/* process 0 still writes act, process 1 has written it: one waits, and counted from 20 on it would be two */
+static void census_at_20_and_21(void) {
+    static const struct zaguypo_row rows[2] = {{20, 0, 0, 0, 0, 0, 0, 0}, {21, 1, 0, 1, 1, 0, 0, 0}};
+    counted("at 20 and at 21", rows, 2, (struct zaguypo_figures){0, 0, 1, {0, 0, 1}, {0, 1, 1}});
+}
+
+/* a process at each location in turn, with a level that goes with it there, beside one at 10 */
+static void census_at_each_location(void) {
+    static const struct { uint16_t location, level, critical, waiting; } each[8] = {
+        {10, 0, 0, 0}, {20, 0, 0, 0}, {21, 0, 0, 1}, {22, 1, 0, 1}, {23, 1, 0, 1}, {24, 1, 0, 1}, {30, 0, 1, 0}, {40, 0, 0, 0}};
+    for (int i = 0; i < 8; i++) {
+        const struct zaguypo_row rows[2] = {{each[i].location, 0, 0, each[i].level, 0, 0, 0, 0}, IDLE};
+        const struct zaguypo_figures f = zaguypo_census(rows, 2);
+        check("at a location", f.refusal == 0 && f.critical == each[i].critical && f.waiting == each[i].waiting);
+        check("who competes waits or is at 30", f.below[2] == f.waiting + f.critical);
+    }
 }
 
 /* 16 processes at 21, at the highest level: ahead empty, then full */
@@ -51,5 +69,7 @@ static void census(void) {
         }
     }
     census_small();
+    census_at_20_and_21();
+    census_at_each_location();
     census_of_16();
 }

@@ -9,6 +9,7 @@ use crate::row::{at_30, check, Row, MOST};
 pub struct Census {
     pub refusal: u16,
     pub at_30: u16,
+    /// At 21 to 24: the write of act is complete, the critical section not reached.
     pub waiting: u16,
     pub below: [u16; MOST + 1],
     pub held: [u16; MOST + 1],
@@ -21,7 +22,7 @@ pub fn census(rows: &[Row]) -> Census {
         return counts;
     }
     counts.at_30 = at_30(rows);
-    counts.waiting = rows.iter().filter(|row| (20..=24).contains(&row.loc)).count() as u16;
+    counts.waiting = rows.iter().filter(|row| (21..=24).contains(&row.loc)).count() as u16;
     for row in rows {
         let one = u16::from(row.competes());
         counts.below[row.level as usize + 1] += one;

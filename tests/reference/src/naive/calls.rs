@@ -109,12 +109,12 @@ pub fn census(rows: &[Row], fault: Fault) -> Census {
         Ok(system) => system,
         Err(refusal) => return Census { refusal, ..Census::default() },
     };
-    let mut census = Census { at_30: system.at_30(fault) as u16, ..Census::default() };
-    let first = if fault == Fault::WaitingFrom21 { 21 } else { 20 };
+    let mut census = Census {
+        at_30: system.at_30(fault) as u16,
+        waiting: system.waiting(fault) as u16,
+        ..Census::default()
+    };
     for (q, process) in system.processes.iter().enumerate() {
-        if first <= process.location && process.location <= 24 {
-            census.waiting += 1;
-        }
         for k in 0..=system.n() {
             if !system.competes(q, fault) {
                 continue;

@@ -24,7 +24,8 @@ pub enum Fault {
     TurnBeforeSizeOfEst,
     AheadClearedAtGo40,
     OwnRowStoreLostAtGo24,
-    WaitingFrom21,
+    WaitingFrom20,
+    WaitingTo30,
     HeldAlsoAt24,
 
     OwnRowStoreLostAtFlicker,
@@ -100,13 +101,14 @@ pub enum Fault {
 }
 
 impl Fault {
-    pub const ALL: [Fault; 75] = [
+    pub const ALL: [Fault; 76] = [
         Fault::Counts40With30,
         Fault::EstKeptAtGo24,
         Fault::TurnBeforeSizeOfEst,
         Fault::AheadClearedAtGo40,
         Fault::OwnRowStoreLostAtGo24,
-        Fault::WaitingFrom21,
+        Fault::WaitingFrom20,
+        Fault::WaitingTo30,
         Fault::HeldAlsoAt24,
         Fault::OwnRowStoreLostAtFlicker,
         Fault::CompetingFrom20,

@@ -94,6 +94,17 @@ impl System {
         self.processes.iter().filter(|process| counted(process.location)).count()
     }
 
+    /// How many wait: the write of act at 20 is complete, and the critical section not reached.
+    pub fn waiting(&self, fault: Fault) -> usize {
+        let waits = |location| match location {
+            21 | 22 | 23 | 24 => true,
+            20 => fault == Fault::WaitingFrom20,
+            30 => fault == Fault::WaitingTo30,
+            _ => false,
+        };
+        self.processes.iter().filter(|process| waits(process.location)).count()
+    }
+
     /// The system that lent rows hold, or 6 or 7.
     pub fn from_rows(rows: &[Row], fault: Fault) -> Result<System, u16> {
         let n = rows.len();

@@ -1,6 +1,7 @@
 //! All tests of the reference, in one program.
 
 mod cancel;
+mod census;
 mod example;
 mod exclusion;
 mod lent;

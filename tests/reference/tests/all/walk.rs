@@ -6,11 +6,12 @@ use reference::walk::{control, Beside, Finding, Found, EVERY_OF_2, SHORTEST, ZER
 use reference::{Ran, Row, Tally};
 
 /// Seen by a walk of two processes from every fresh table.
-const SEEN: [Fault; 27] = [
+const SEEN: [Fault; 28] = [
     Fault::Counts40With30,
     Fault::AheadClearedAtGo40,
     Fault::OwnRowStoreLostAtGo24,
-    Fault::WaitingFrom21,
+    Fault::WaitingFrom20,
+    Fault::WaitingTo30,
     Fault::HeldAlsoAt24,
     Fault::OwnRowStoreLostAtFlicker,
     Fault::CompetingFrom20,
