@@ -1,7 +1,7 @@
 -- Laws of tests and choices, beside those of mathlib.Core.Bool and borrow.Author.Tests.
 --
 --   or-cases, implied, implies      what a disjunction and an implication say
---   same-test                       tests that imply each other are equal
+--   same-test, beq-true             tests that imply each other are equal, and so are tests that compare as equal
 --   at-one                          from a to a is a itself
 --   split                           a test by cases, with the equation kept
 --   choice-on, choice-off           a choice whose test is known
@@ -101,7 +101,7 @@ every-at P (suc n) t k h = go (ℕ-discrete k n) (every-at P n (and-eq-true-iff 
     go (yes e) below = subst (λ (x : ℕ). P x ≡ true) (sym e) (and-eq-true-iff (P n) (every P n) .0 t .0)
     go (no ne) below = below (omega (arith, ne))
 
-beq-true : (a b : Bool) → Bool·beq a b ≡ true → a ≡ b
+pub beq-true : (a b : Bool) → Bool·beq a b ≡ true → a ≡ b
 beq-true true true h = refl
 beq-true false false h = refl
 beq-true true false h = sym h

@@ -3,12 +3,14 @@
 --   nexts l      ==  the locations to which steps lead from l.
 --   step-leads       every step leads to one of them
 --   by-arc           what holds from each location to each of its nexts, by one computed test, holds of every step
+--   word-arc         and so of every accepted word
+--   same-arc         two tests that agree along every arc agree of an accepted word
 --   begins           what begins along one arc alone begins by a word of the process itself, along this arc
 --
 -- Assumes nothing.
 use Prim.Native.Nat.{ℕ, _<_}
 use mathlib.Core.Path.{_≡_, refl, sym, ap, ap₂, _∙_}
-use mathlib.Core.Bool.{Bool, true, false, cond, _&&_, _||_, not, false≢true, and-eq-true-iff}
+use mathlib.Core.Bool.{Bool, true, false, cond, _&&_, _||_, not, Bool·beq, false≢true, and-eq-true-iff}
 use mathlib.Core.List.{List, [], _∷_, map}
 use native.Mathlib.Decide.{ℕ-discrete}
 use native.Mathlib.Omega.{arith}
@@ -16,7 +18,7 @@ use lib.Dec.{eqb}
 use lib.ListN.{length, set, length-set, length-map}
 use borrow.Author.Tests.{eqb-true}
 use Rattle.counting.specs.Sets.{without}
-use Rattle.counting.proofs.TestLaws.{implied}
+use Rattle.counting.proofs.TestLaws.{implied, beq-true}
 use Rattle.machine.specs.Rows.{withAhead}
 use Rattle.machine.specs.Tables.{Table, row, oneOf, locations}
 use Rattle.machine.specs.Words.{processOf}
@@ -103,6 +105,24 @@ module _ (t : Table) (p : ℕ) (l : p < length t) where
       let each = by-test (λ v. eachPasses (T v) (nexts v)) b locations h known in
       by-test (T b) (row u p .location) (nexts b) each (step-leads x)
 
+-- ---- an accepted word
+
+module _ (t : Table) (w : ℕ) (z : refusalOf t w ≡ 0) where
+  abbrev from : ℕ
+  from = row t (processOf w) .location
+
+  abbrev to : ℕ
+  to = row (afterWord t w) (processOf w) .location
+
+  pub word-arc : (T : ℕ → ℕ → Bool) → everyArc T ≡ true → T from to ≡ true
+  word-arc T h =
+      let l = accepted-process t w z in
+      let known = sound-row t (accepted-table t w z) (processOf w) l .location-known in
+      by-arc t (processOf w) l T h known (accepted-step t w z)
+
+  pub same-arc : (S T : ℕ → ℕ → Bool) → everyArc (λ x y. Bool·beq (S x y) (T x y)) ≡ true → S from to ≡ T from to
+  same-arc S T h = beq-true (S from to) (T from to) (word-arc (λ x y. Bool·beq (S x y) (T x y)) h)
+
 -- ---- what begins along one arc
 
 -- D, which x has not and y has, begins from b to a alone
@@ -134,17 +154,13 @@ module _ (D : ℕ → Bool) (b a : ℕ) (arcs : everyArc (only D b a) ≡ true)
         → (q ≡ p) × (row t q .location ≡ b) × (row u q .location ≡ a)
     begins before after = go (ℕ-discrete q p)
       where
-        l : p < length t
-        l = accepted-process t w z
-
-        step : Step t p u
-        step = accepted-step t w z
-
         rule : only D b a (row t p .location) (row u p .location) ≡ true
-        rule = by-arc t p l (only D b a) arcs (sound-row t (accepted-table t w z) p l .location-known) step
+        rule = word-arc t w z (only D b a) arcs
 
         go : Dec (q ≡ p) → (q ≡ p) × (row t q .location ≡ b) × (row u q .location ≡ a)
-        go (no ne) = absurd (false≢true (sym before ∙ ap D (sym (step-others t u p q step ne .location-same)) ∙ after))
+        go (no ne) =
+            let same = step-others t u p q (accepted-step t w z) ne .location-same in
+            absurd (false≢true (sym before ∙ ap D (sym same) ∙ after))
         go (yes e) =
             let i = ap (λ (x : ℕ). row t x .location) e in
             let j = ap (λ (x : ℕ). row u x .location) e in

@@ -1,10 +1,11 @@
 -- What a step tells, from the row before it: GO at each location, the kinds, an accepted word. Assumes nothing.
 use Prim.Native.Nat.{ℕ}
 use mathlib.Core.Path.{_≡_, refl, sym, ap, subst, _∙_}
-use mathlib.Core.Bool.{Bool, true, not}
+use mathlib.Core.Bool.{Bool, true, false, cond}
 use mathlib.Core.List.{List}
 use lib.Dec.{eqb}
-use borrow.Author.Tests.{not-true, eqb-false}
+use borrow.Author.Tests.{eq-eqb, ne-eqb}
+use Rattle.machine.specs.Rows.{withLocation}
 use Rattle.machine.specs.Tables.{Table, row, tableRefusal}
 use Rattle.machine.specs.Words.{STAY, COME, GO, CANCEL, kindOf, processOf}
 use Rattle.machine.specs.Steps.{gone, moved, wordRefusal, quiet, withEvent, toldOf}
@@ -14,40 +15,42 @@ use Rattle.machine.specs.declared.Told.{Told}
 use Rattle.cells.specs.View.{rowsOf, Becomes}
 use Rattle.steps.specs.Moves.{kindTold, Goes, Moves}
 use Rattle.steps.proofs.MoveLaws.{becomes-as, moved-stay, moved-go}
-use Rattle.steps.proofs.EventLaws.{quiet-elsewhere, quiet-above, arrives, event-told}
+use Rattle.steps.proofs.EventLaws.{event-told}
 
 -- told from its event
 abbrev of : Event → Told
 of e = record { event = e }
 
--- the locations where GO tells nothing, whatever the row
-abbrev pub quietAt : ℕ → Bool
-quietAt l = not (eqb l 21)
-
-go-quiet : (r : Row) (l : ℕ) → r .location ≡ l → quietAt l ≡ true → kindTold GO r ≡ quiet
-go-quiet r l e q =
-    ap of (quiet-elsewhere r (λ z. eqb-false l 21 (not-true (eqb l 21) q) (sym e ∙ z)))
-
 -- ---- GO of cells
 
+abbrev own : List (List ℕ) → ℕ → Row
+own x p = row (rowsOf x) p
+
 module _ {x y : List (List ℕ)} {p : ℕ} where
-  goes : (s : Told) → kindTold GO (row (rowsOf x) p) ≡ s → Becomes x (gone (rowsOf x) p) y → Goes x p y s
-  goes s e b = record { told-is = sym e; becomes = becomes-as b (sym (moved-go (rowsOf x) p 0)) }
-
-  -- where there is nothing to tell
-  pub goes-quiet : (l : ℕ) → row (rowsOf x) p .location ≡ l → quietAt l ≡ true → Becomes x (gone (rowsOf x) p) y
-      → Goes x p y quiet
-  goes-quiet l e q b = goes quiet (go-quiet (row (rowsOf x) p) l e q) b
-
-  -- at 21
-  pub goes-above : (row (rowsOf x) p .level ≡ 0 → ⊥) → Becomes x (gone (rowsOf x) p) y → Goes x p y quiet
-  goes-above ne b = goes quiet (ap of (quiet-above (row (rowsOf x) p) ne)) b
-
-  pub goes-arrives : {s : Told} → s ≡ withEvent Event.Arrival quiet → row (rowsOf x) p .location ≡ 21
-      → row (rowsOf x) p .level ≡ 0
+  -- at location l, where the row tells s
+  pub goes-at : (l : ℕ) {s : Told} → own x p .location ≡ l → s ≡ kindTold GO (withLocation l (own x p))
       → Becomes x (gone (rowsOf x) p) y
       → Goes x p y s
-  goes-arrives {s} o e z b = goes s (ap of (arrives (row (rowsOf x) p) e z) ∙ sym o) b
+  goes-at l there told b =
+      record {
+        told-is = told ∙ ap (λ (v : ℕ). kindTold GO (withLocation v (own x p))) (sym there);
+        becomes = becomes-as b (sym (moved-go (rowsOf x) p 0));
+      }
+
+  -- at 21, by whether the level is 0
+  passes : (b : Bool) {s : Told} → own x p .location ≡ 21 → eqb (own x p .level) 0 ≡ b → s ≡ of (cond b Event.Arrival Event.Quiet)
+      → Becomes x (gone (rowsOf x) p) y
+      → Goes x p y s
+  passes b there level told =
+      goes-at 21 there (told ∙ ap (λ (c : Bool). of (cond c Event.Arrival Event.Quiet)) (sym level))
+
+  pub goes-above : own x p .location ≡ 21 → (own x p .level ≡ 0 → ⊥) → Becomes x (gone (rowsOf x) p) y → Goes x p y quiet
+  goes-above there ne = passes false there (ne-eqb (own x p .level) 0 ne) refl
+
+  pub goes-arrives : {s : Told} → s ≡ withEvent Event.Arrival quiet → own x p .location ≡ 21 → own x p .level ≡ 0
+      → Becomes x (gone (rowsOf x) p) y
+      → Goes x p y s
+  goes-arrives told there z = passes true there (eq-eqb (own x p .level) 0 z) told
 
 -- ---- the kinds that have no argument, with any
 

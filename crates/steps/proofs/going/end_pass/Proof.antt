@@ -3,7 +3,7 @@ use mathlib.Core.Path.{refl, sym}
 use Rattle.machine.proofs.Forms.{gone-22}
 use Rattle.cells.specs.View.{rowsOf}
 use Rattle.steps.proofs.MoveLaws.{becomes-as}
-use Rattle.steps.proofs.ToldLaws.{goes-quiet}
+use Rattle.steps.proofs.ToldLaws.{goes-at}
 use borrow.Author.Needs.{needs}
 use Rattle.steps.proofs.going.end_pass.Statement.{statement}
 use Rattle.steps.proofs.going.end_pass.Tie as tie
@@ -17,7 +17,7 @@ same-length c = search needs
 returns : tie.Need-returns
 returns c =
     let s = c .before .before .before in
-    goes-quiet 22 (s .pre .there) refl
+    goes-at 22 (s .pre .there) refl
     (becomes-as (c .before .go-to .ensures)
     (sym (gone-22 (rowsOf (s .args .cells .now)) (s .args .p) (s .pre .there))))
 

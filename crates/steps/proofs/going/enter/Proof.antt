@@ -1,7 +1,7 @@
 -- `going::enter` meets its contract: GO at 20. Assumes nothing.
 use mathlib.Core.Path.{refl}
 use Rattle.steps.proofs.MoveLaws.{becomes-as, put-entered}
-use Rattle.steps.proofs.ToldLaws.{goes-quiet}
+use Rattle.steps.proofs.ToldLaws.{goes-at}
 use borrow.Author.Needs.{needs}
 use Rattle.steps.proofs.going.enter.Statement.{statement}
 use Rattle.steps.proofs.going.enter.Tie as tie
@@ -29,7 +29,7 @@ returns c =
     let r = c .before .before .before .before in
     let s = r .before .before .before .before in
     let competing = r .before .before .competitors .ensures in
-    goes-quiet 20 (s .pre .there) refl
+    goes-at 20 (s .pre .there) refl
     (becomes-as (c .before .put-row .ensures)
     (put-entered (s .args .cells .now) (s .args .p) _ _ (r .row-at .ensures) _ (s .pre .there) competing
     (c .before .before .entered .ensures)))

@@ -4,7 +4,7 @@ use mathlib.Core.List.{map}
 use Rattle.machine.specs.Steps.{forgets}
 use Rattle.machine.proofs.Forms.{gone-30}
 use Rattle.cells.specs.View.{rowsOf}
-use Rattle.steps.proofs.ToldLaws.{goes-quiet}
+use Rattle.steps.proofs.ToldLaws.{goes-at}
 use borrow.Author.Needs.{needs}
 use Rattle.steps.proofs.going.leave.Statement.{statement}
 use Rattle.steps.proofs.going.leave.Tie as tie
@@ -23,7 +23,7 @@ returns c =
     let s = c .before .before .before .before .before .before in
     let put = c .before .before .before .before .go-to .ensures in
     let left = c .before .forget .ensures in
-    goes-quiet 30 (s .pre .there) refl
+    goes-at 30 (s .pre .there) refl
     (record {
       rows-are =
           left .rows-are

@@ -56,7 +56,8 @@ same-length-2 c = search needs
 returns-2 : tie.Need-returns-2
 returns-2 c =
     let k = c .before in
-    goes-above (λ z. c .if1 .left (level k ∙ z)) (passes k)
+    let there = k .before .before .before .before .before .before .before .pre .there in
+    goes-above there (λ z. c .if1 .left (level k ∙ z)) (passes k)
 
 pub pass-spec : {M : Type 1} → statement M
 pass-spec =

@@ -4,7 +4,7 @@ use native.Mathlib.Omega.{arith}
 use Rattle.machine.specs.Steps.{turned}
 use Rattle.machine.specs.declared.Row.{Row}
 use Rattle.steps.proofs.MoveLaws.{put-pushed}
-use Rattle.steps.proofs.ToldLaws.{goes-quiet}
+use Rattle.steps.proofs.ToldLaws.{goes-at}
 use borrow.Author.Needs.{needs}
 use Rattle.steps.proofs.going.push.Statement.{statement}
 use Rattle.steps.proofs.going.push.Tie as tie
@@ -44,7 +44,7 @@ returns c =
     let competing = r .before .before .competitors .ensures in
     let put = c .before .before .before .before .before .put-row .ensures in
     let turn = c .before .turn-to .ensures in
-    goes-quiet 24 (s .pre .there) refl
+    goes-at 24 (s .pre .there) refl
     (record {
       rows-are =
           turn .rows-are

@@ -4,7 +4,7 @@ use mathlib.Core.Path.{refl, sym, ap, subst}
 use lib.ListN.{length}
 use Rattle.machine.specs.declared.Row.{Row}
 use Rattle.steps.proofs.MoveLaws.{becomes-as, put-reconsidered}
-use Rattle.steps.proofs.ToldLaws.{goes-quiet}
+use Rattle.steps.proofs.ToldLaws.{goes-at}
 use borrow.Author.Needs.{needs}
 use Rattle.steps.proofs.going.reconsider.Statement.{statement}
 use Rattle.steps.proofs.going.reconsider.Tie as tie
@@ -35,7 +35,7 @@ returns c =
     let s = c .before .before .before .before .before .before .before .before .before in
     let own = c .before .before .before .before .before .before .before .row-at .ensures in
     let turn = ap (λ (q : Row). q .turn) (c .before .before .before .before .row-at2 .ensures) in
-    goes-quiet 23 (s .pre .there) refl
+    goes-at 23 (s .pre .there) refl
     (becomes-as (c .before .put-row .ensures)
     (put-reconsidered (s .args .cells .now) (s .args .p) _ _ own _ (s .pre .there) turn
     (c .before .before .reconsidered .ensures)))

@@ -1,7 +1,7 @@
 -- `going::rest` meets its contract: GO at 40. Assumes nothing.
 use mathlib.Core.Path.{refl}
 use Rattle.steps.proofs.MoveLaws.{becomes-as, put-left}
-use Rattle.steps.proofs.ToldLaws.{goes-quiet}
+use Rattle.steps.proofs.ToldLaws.{goes-at}
 use borrow.Author.Needs.{needs}
 use Rattle.steps.proofs.going.rest.Statement.{statement}
 use Rattle.steps.proofs.going.rest.Tie as tie
@@ -22,7 +22,7 @@ returns : tie.Need-returns
 returns c =
     let r = c .before .before .before .before in
     let s = r .before .before in
-    goes-quiet 40 (s .pre .there) refl
+    goes-at 40 (s .pre .there) refl
     (becomes-as (c .before .put-row .ensures)
     (put-left (s .args .cells .now) (s .args .p) _ _ (r .row-at .ensures) (s .pre .there)
     (c .before .before .left .ensures)))
