@@ -1,7 +1,7 @@
 -- Decimal digits: one more possible digit changes nothing, and how many there are. Assumes nothing.
-use mathlib.Core.Path.{_≡_, refl, sym, ap, _∙_}
+use mathlib.Core.Path.{_≡_, refl, sym, ap, ap₂, _∙_}
 use mathlib.Core.Bool.{Bool, true, false}
-use mathlib.Core.List.{List, [], _∷_, _++_}
+use mathlib.Core.List.{List, [], _∷_, _++_, append-assoc}
 use Prim.Native.Nat.{ℕ, zero, suc, _+_, _/_, _%_, _^_, _<_, _≤_}
 use native.Mathlib.Nat.{pow-suc}
 use native.Mathlib.Omega.{arith}
@@ -9,6 +9,7 @@ use lib.Dec.{ltb}
 use lib.ListN.{length, length-append}
 use borrow.Author.Tests.{ltb-true, ltb-false, lt-ltb, le-ltb}
 use Rattle.machine.specs.Text.{digits, decimal}
+use Rattle.text.specs.Appending.{pair}
 
 -- the digits by the test that picks them
 abbrev picked : ℕ → ℕ → Bool → List ℕ
@@ -61,12 +62,29 @@ length-digits (suc j) (suc k) n h = case (length-digits j k (n / 10) (tenth (suc
 pub decimal-one : (n : ℕ) → n < 10 → decimal n ≡ (48 + n) ∷ []
 decimal-one n h = digits-one 19 n h
 
-pub decimal-more : (n : ℕ) → n < 2 ^ 32 → 10 ≤ n → decimal n ≡ decimal (n / 10) ++ ((48 + n % 10) ∷ [])
+decimal-more : (n : ℕ) → n < 2 ^ 32 → 10 ≤ n → decimal n ≡ decimal (n / 10) ++ ((48 + n % 10) ∷ [])
 decimal-more n small h =
     digits-more 19 n h
     ∙ ap (λ (l : List ℕ). l ++ ((48 + n % 10) ∷ [])) (sym (digits-same 18 (n / 10) (omega arith)))
 
+-- two digits
+pub decimal-pair : (n : ℕ) → 10 ≤ n → n < 100 → decimal n ≡ pair n
+decimal-pair n h low =
+    decimal-more n (omega arith) h
+    ∙ ap (λ (l : List ℕ). l ++ ((48 + n % 10) ∷ [])) (decimal-one (n / 10) (omega arith))
+
+-- three or more: the last two after the others
+pub decimal-long : (n : ℕ) → n < 2 ^ 32 → 100 ≤ n → decimal n ≡ decimal (n / 100) ++ pair (n % 100)
+decimal-long n small h =
+    let third : n / 10 / 10 ≡ n / 100 = omega arith in
+    let second : n / 10 % 10 ≡ n % 100 / 10 = omega arith in
+    let first : n % 10 ≡ n % 100 % 10 = omega arith in
+    decimal-more n small (omega arith)
+    ∙ ap (λ (l : List ℕ). l ++ ((48 + n % 10) ∷ [])) (decimal-more (n / 10) (omega arith) (omega arith))
+    ∙ append-assoc (decimal (n / 10 / 10)) ((48 + n / 10 % 10) ∷ []) ((48 + n % 10) ∷ [])
+    ∙ ap (λ (k : ℕ). decimal k ++ ((48 + n / 10 % 10) ∷ (48 + n % 10) ∷ [])) third
+    ∙ ap₂ (λ (a b : ℕ). decimal (n / 100) ++ ((48 + a) ∷ (48 + b) ∷ [])) second first
+
 -- its length
-pub length-decimal-more : (n : ℕ) → n < 2 ^ 32 → 10 ≤ n → length (decimal n) ≡ length (decimal (n / 10)) + 1
-length-decimal-more n small h =
-    ap length (decimal-more n small h) ∙ length-append (decimal (n / 10)) ((48 + n % 10) ∷ [])
+pub length-decimal-long : (n : ℕ) → n < 2 ^ 32 → 100 ≤ n → length (decimal n) ≡ length (decimal (n / 100)) + 2
+length-decimal-long n small h = ap length (decimal-long n small h) ∙ length-append (decimal (n / 100)) (pair (n % 100))

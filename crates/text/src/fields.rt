@@ -5,7 +5,7 @@ ghost use mathlib.Core.List.{_∷_, []};
 ghost use Prim.Native.Nat.{_+_, _<_, _≤_};
 ghost use lib.ListN.{length};
 ghost use Rattle.machine.specs.Text.{decimal};
-ghost use Rattle.text.specs.Appending.{Appended, LongReady, gap};
+ghost use Rattle.text.specs.Appending.{Appended, PairReady, ShortReady, LongReady, pair, gap};
 
 // One byte.
 fn put_byte(out: &mut [u8], at: usize, b: u8) -> usize
@@ -48,26 +48,46 @@ fn digit(n: u32) -> u8
     (48 + n) as u8
 }
 
-// The digits of a number that has two or more: those of its tenth, and the last.
-fn put_long(out: &mut [u8], at: usize, n: u32) -> usize
-    requires { ⌜ LongReady (now out) at n ⌝ }
-    ensures { λ r. ⌜ Appended (now (out .entry)) at (decimal n) (now (out .exit)) r ⌝ }
+// The last two digits of a number below 100.
+fn put_pair(out: &mut [u8], at: usize, n: u32) -> usize
+    requires { ⌜ PairReady (now out) at n ⌝ }
+    ensures { λ r. ⌜ Appended (now (out .entry)) at (pair n) (now (out .exit)) r ⌝ }
 {
-    if n < 100 {
-        let second = put_byte(out, at, digit(n / 10));
-        return put_byte(out, second, digit(n % 10));
-    }
-    let end = put_long(out, at, n / 10);
-    put_byte(out, end, digit(n % 10))
+    let second = put_byte(out, at, digit(n / 10));
+    put_byte(out, second, digit(n % 10))
 }
 
-// The decimal digits of a number.
-pub(crate) fn put_number(out: &mut [u8], at: usize, n: u32) -> usize
-    requires { ⌜ at + length (decimal n) ≤ length (now out) ⌝ }
+// The decimal digits of a number below 100.
+fn put_short(out: &mut [u8], at: usize, n: u32) -> usize
+    requires { ⌜ ShortReady (now out) at n ⌝ }
     ensures { λ r. ⌜ Appended (now (out .entry)) at (decimal n) (now (out .exit)) r ⌝ }
 {
     if n < 10 {
         return put_byte(out, at, digit(n));
+    }
+    put_pair(out, at, n)
+}
+
+// The decimal digits of a number of three or more: those of its hundredth, and the last two.
+fn put_long(out: &mut [u8], at: usize, n: u32) -> usize
+    requires { ⌜ LongReady (now out) at n ⌝ }
+    ensures { λ r. ⌜ Appended (now (out .entry)) at (decimal n) (now (out .exit)) r ⌝ }
+{
+    if n < 10000 {
+        let third = put_short(out, at, n / 100);
+        return put_pair(out, third, n % 100);
+    }
+    let end = put_long(out, at, n / 100);
+    put_pair(out, end, n % 100)
+}
+
+// The decimal digits of a number. Most have one or two, and are put without a call.
+pub(crate) fn put_number(out: &mut [u8], at: usize, n: u32) -> usize
+    requires { ⌜ at + length (decimal n) ≤ length (now out) ⌝ }
+    ensures { λ r. ⌜ Appended (now (out .entry)) at (decimal n) (now (out .exit)) r ⌝ }
+{
+    if n < 100 {
+        return put_short(out, at, n);
     }
     put_long(out, at, n)
 }

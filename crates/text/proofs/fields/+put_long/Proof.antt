@@ -1,21 +1,21 @@
--- `text::fields::put_long` meets its contract: it calls itself for a tenth of the number, which is less.
+-- `text::fields::put_long` meets its contract: it calls itself for a hundredth of the number, which is less.
 -- Assumes nothing.
 use native.Mathlib.Omega.{arith}
-use mathlib.Core.Path.{_≡_, sym, ap, _∙_}
-use mathlib.Core.List.{List, [], _∷_, _++_}
-use Prim.Native.Nat.{ℕ, _+_, _/_, _%_, _^_, _<_, _≤_}
+use mathlib.Core.Path.{sym, _∙_}
+use mathlib.Core.List.{List}
+use Prim.Native.Nat.{ℕ, _/_, _%_, _^_, _<_, _≤_}
 use lib.ListN.{length}
 use Rattle.machine.specs.Text.{decimal}
-use Rattle.text.specs.Appending.{Appended}
+use Rattle.text.specs.Appending.{Appended, pair}
 use Rattle.text.proofs.AppendingLaws.{appended-as, appended-then}
-use Rattle.text.proofs.DigitLaws.{decimal-one, decimal-more, length-decimal-more}
+use Rattle.text.proofs.DigitLaws.{decimal-long, length-decimal-long}
 use borrow.Fn.Kinds.{In}
 use borrow.Fn.PlainCycle.{Measures, is, falls, and}
 use Rattle.text.proofs.fields.put_long.Reads as put-long
 use Rattle.text.proofs.fields.put_long.Kinds as put-long-kinds
 use Rattle.text.proofs.fields.+put_long.Lts-put_long as put-long-lts
-use Rattle.text.proofs.fields.digit.Reads as digit-reads
-use Rattle.text.proofs.fields.put_byte.Reads as put-byte-reads
+use Rattle.text.proofs.fields.put_short.Reads as put-short-reads
+use Rattle.text.proofs.fields.put_pair.Reads as put-pair-reads
 use Rattle.text.proofs.fields.+put_long.{statement}
 use Rattle.text.proofs.fields.+put_long.Tie.{close}
 
@@ -31,110 +31,93 @@ put-long-below t = and 1 put-long-kinds.ps (falls 1 put-long-kinds.ps _<_ μ-put
 -- what is asked of the functions that it calls, and what they tell
 abbrev calls : ℕ → put-long-lts.Claims
 calls t = (
-  digit-reads.Asked,
-  digit-reads.Learnt,
-  put-byte-reads.Asked,
-  put-byte-reads.Learnt,
+  put-short-reads.Asked,
+  put-short-reads.Learnt,
+  put-pair-reads.Asked,
+  put-pair-reads.Learnt,
   put-long-below t,
   put-long.Post,
 )
 
--- the digits of the tenth, and the last
-last-digit : {d y z : List ℕ} {at e f b : ℕ} (n : ℕ) → n < 2 ^ 32 → 10 ≤ n → at ≤ length d → b ≡ 48 + n % 10
-    → Appended d at (decimal (n / 10)) y e → Appended y e (b ∷ []) z f → Appended d at (decimal n) z f
-last-digit n small long inside is tenth put =
-    appended-as (ap (λ (b : ℕ). decimal (n / 10) ++ (b ∷ [])) is ∙ sym (decimal-more n small long))
-    (appended-then inside tenth put)
+-- the digits of the hundredth, and the last two
+last-pair : {d y z : List ℕ} {at e f : ℕ} (n : ℕ) → n < 2 ^ 32 → 100 ≤ n → at ≤ length d
+    → Appended d at (decimal (n / 100)) y e → Appended y e (pair (n % 100)) z f → Appended d at (decimal n) z f
+last-pair n small long inside first last =
+    appended-as (sym (decimal-long n small long)) (appended-then inside first last)
 
 module _ (t : ℕ) where
-  -- ---- two digits
+  -- ---- three or four digits
 
-  digit-requires : put-long-lts.Need-digit-requires (calls t) (put-long-at t) put-long.Post
-  digit-requires c κs = omega (arith, c .before .if1 .taken)
+  put-short-requires : put-long-lts.Need-put-short-requires (calls t) (put-long-at t) put-long.Post
+  put-short-requires c κs =
+      let s = c .before .before .before in
+      let more = length-decimal-long (s .args .n) (s .fits .n .fits) (s .pre .1 .long) in
+      record { low = omega (arith, c .before .if1 .taken); room = omega (arith, s .pre .1 .room) }
 
-  put-byte-requires : put-long-lts.Need-put-byte-requires (calls t) (put-long-at t) put-long.Post
-  put-byte-requires c κs =
-      let s = c .before .before .before .before in
-      omega (arith, length-decimal-more (s .args .n) (s .fits .n .fits) (s .pre .1 .long), s .pre .1 .room)
-
-  digit-requires-2 : put-long-lts.Need-digit-requires-2 (calls t) (put-long-at t) put-long.Post
-  digit-requires-2 c κs = omega arith
-
-  put-byte-requires-2 : put-long-lts.Need-put-byte-requires-2 (calls t) (put-long-at t) put-long.Post
-  put-byte-requires-2 c κs =
-      let p = c .before .before .before .before in
-      let s = p .before .before .before .before .before in
-      let n = s .args .n in
-      let one = ap length (decimal-one (n / 10) (omega (arith, p .before .before .before .if1 .taken))) in
-      omega (
-        arith,
-        length-decimal-more n (s .fits .n .fits) (s .pre .1 .long),
-        p .put-byte .ensures .end-is,
-        p .put-byte .kept .0,
-        s .pre .1 .room,
-      )
+  put-pair-requires : put-long-lts.Need-put-pair-requires (calls t) (put-long-at t) put-long.Post
+  put-pair-requires c κs =
+      let p = c .before .before .before in
+      let s = p .before .before .before .before in
+      let more = length-decimal-long (s .args .n) (s .fits .n .fits) (s .pre .1 .long) in
+      record {
+        low = omega arith;
+        room = omega (arith, p .put-short .kept .0, p .put-short .ensures .end-is, s .pre .1 .room);
+      }
 
   same-length : put-long-lts.Need-same-length (calls t) (put-long-at t) put-long.Post
   same-length c =
-      let b = c .before .before in
-      b .put-byte2 .kept .0 ∙ b .before .before .before .before .before .put-byte .kept .0
+      let p = c .before .before in
+      p .put-pair .kept .0 ∙ p .before .before .before .before .put-short .kept .0
 
   returns : put-long-lts.Need-returns (calls t) (put-long-at t) put-long.Post
   returns c =
-      let b = c .before .before in
-      let p = b .before .before .before .before .before in
-      let d = p .before in
-      let s = d .before .before .before .before in
-      let n = s .args .n in
-      let one = sym (decimal-one (n / 10) (omega (arith, d .before .before .if1 .taken))) in
-      last-digit n (s .fits .n .fits) (s .pre .1 .long) (omega (arith, s .pre .1 .room)) (b .before .digit2 .ensures)
-      (appended-as (ap (λ (v : ℕ). v ∷ []) (d .digit .ensures) ∙ one) (p .put-byte .ensures))
-      (b .put-byte2 .ensures)
+      let p = c .before .before in
+      let first = p .before .before .before .before in
+      let s = first .before .before .before .before in
+      last-pair (s .args .n) (s .fits .n .fits) (s .pre .1 .long) (omega (arith, s .pre .1 .room))
+      (first .put-short .ensures) (p .put-pair .ensures)
 
   -- ---- more
 
   put-long-requires : put-long-lts.Need-put-long-requires (calls t) (put-long-at t) put-long.Post
   put-long-requires c κs =
       let s = c .before .before .before in
-      let more = length-decimal-more (s .args .n) (s .fits .n .fits) (s .pre .1 .long) in (
+      let more = length-decimal-long (s .args .n) (s .fits .n .fits) (s .pre .1 .long) in (
         omega (arith, s .pre .0, s .pre .1 .long),
         record { long = omega (arith, c .before .if1 .left); room = omega (arith, s .pre .1 .room) },
       )
 
-  digit-requires-3 : put-long-lts.Need-digit-requires-3 (calls t) (put-long-at t) put-long.Post
-  digit-requires-3 c κs = omega arith
-
-  put-byte-requires-3 : put-long-lts.Need-put-byte-requires-3 (calls t) (put-long-at t) put-long.Post
-  put-byte-requires-3 c κs =
-      let p = c .before .before .before .before in
+  put-pair-requires-2 : put-long-lts.Need-put-pair-requires-2 (calls t) (put-long-at t) put-long.Post
+  put-pair-requires-2 c κs =
+      let p = c .before .before .before in
       let s = p .before .before .before .before in
-      let more = length-decimal-more (s .args .n) (s .fits .n .fits) (s .pre .1 .long) in
-      omega (arith, p .put-long .kept .0, p .put-long .ensures .end-is, s .pre .1 .room)
+      let more = length-decimal-long (s .args .n) (s .fits .n .fits) (s .pre .1 .long) in
+      record {
+        low = omega arith;
+        room = omega (arith, p .put-long .kept .0, p .put-long .ensures .end-is, s .pre .1 .room);
+      }
 
   same-length-2 : put-long-lts.Need-same-length-2 (calls t) (put-long-at t) put-long.Post
   same-length-2 c =
-      let b = c .before .before in
-      b .put-byte3 .kept .0 ∙ b .before .before .before .before .before .put-long .kept .0
+      let p = c .before .before in
+      p .put-pair2 .kept .0 ∙ p .before .before .before .before .put-long .kept .0
 
   returns-2 : put-long-lts.Need-returns-2 (calls t) (put-long-at t) put-long.Post
   returns-2 c =
-      let b = c .before .before in
-      let p = b .before .before .before .before .before in
-      let s = p .before .before .before .before in
-      last-digit (s .args .n) (s .fits .n .fits) (s .pre .1 .long) (omega (arith, s .pre .1 .room))
-      (b .before .digit3 .ensures) (p .put-long .ensures) (b .put-byte3 .ensures)
+      let p = c .before .before in
+      let first = p .before .before .before .before in
+      let s = first .before .before .before .before in
+      last-pair (s .args .n) (s .fits .n .fits) (s .pre .1 .long) (omega (arith, s .pre .1 .room))
+      (first .put-long .ensures) (p .put-pair2 .ensures)
 
 pub +put-long-spec : {M : Type 1} → statement M
 +put-long-spec =
     close μ-put-long λ t. put-long-lts.spec (calls t) (put-long-at t) put-long.Post
-    (digit-requires t)
-    (put-byte-requires t)
-    (digit-requires-2 t)
-    (put-byte-requires-2 t)
+    (put-short-requires t)
+    (put-pair-requires t)
     (same-length t)
     (returns t)
     (put-long-requires t)
-    (digit-requires-3 t)
-    (put-byte-requires-3 t)
+    (put-pair-requires-2 t)
     (same-length-2 t)
     (returns-2 t)
