@@ -20,7 +20,9 @@ pub mod RunLaws
 pub mod InputLaws
 pub mod WordsAreSteps
 pub mod CensusTheorems
+pub mod CarriedTheorems
 pub mod Benchmarks
 pub mod ExportExamples
 pub mod CensusExamples
+pub mod CarriedExamples
 pub mod WholeText

@@ -1,12 +1,14 @@
 -- A run, an execution of the system by a list of words up to the first that is refused, and its tally, the counters of
--- its events (MANUAL, "Runs").
+-- its events; the number at 30 that goes along (MANUAL, "Runs" and "Census").
 --
 --   counted e h      ==  the tally h after an accepted word with event e.
+--   carried e n      ==  the number at 30 after such a word, from the number n before it.
+--   carriedOver t n ws  ==  that number after words given one by one to table t, where it is n.
 --   runFrom t h ws   ==  the words in order from table t with tally h, up to the first refused one.
 --   runOf t ws       ==  a run: 6, 7, then 12 for more than 8,192 words, before any is taken.
 --
 -- How many words a run took is what its tally says, which is zero at the start. Assumes nothing.
-use Prim.Native.Nat.{ℕ, _+_}
+use Prim.Native.Nat.{ℕ, _+_, _-_}
 use mathlib.Core.Bool.{true, false, cond, not}
 use mathlib.Core.List.{List, [], _∷_}
 use lib.Dec.{eqb, leb}
@@ -15,7 +17,7 @@ use Rattle.machine.specs.Refusals.{accepted, tooManyWords}
 use Rattle.machine.specs.Tables.{Table, tableRefusal}
 use Rattle.machine.specs.Steps.{refusalOf, afterWord, eventOf}
 use Rattle.machine.specs.declared.Event.{Event}
-use Rattle.machine.specs.declared.Event.the-variants.{Quiet, Come, Arrival}
+use Rattle.machine.specs.declared.Event.the-variants.{Quiet, Come, Arrival, Departure}
 use Rattle.machine.specs.declared.Tally.{Tally}
 use Rattle.machine.specs.declared.Ran.{Ran}
 
@@ -30,6 +32,21 @@ abbrev pub counted : Event → Tally → Tally
 counted Quiet h = record { words = h .words + 1; comes = h .comes; arrivals = h .arrivals }
 counted Come h = record { words = h .words + 1; comes = h .comes + 1; arrivals = h .arrivals }
 counted Arrival h = record { words = h .words + 1; comes = h .comes; arrivals = h .arrivals + 1 }
+counted Departure h = record { words = h .words + 1; comes = h .comes; arrivals = h .arrivals }
+
+-- the number at 30 (the holder figure), carried along: one more on an arrival, one less on a departure
+abbrev pub carried : Event → ℕ → ℕ
+carried Quiet n = n
+carried Come n = n
+carried Arrival n = n + 1
+carried Departure n = n - 1
+
+-- the same from word to word; a refused word is passed over
+unfoldable pub carriedOver : Table → ℕ → List ℕ → ℕ
+unfolding refusalOf afterWord eventOf
+carriedOver t n [] = n
+carriedOver t n (w ∷ ws) =
+    let m = cond (eqb (refusalOf t w) accepted) (carried (eventOf t w) n) n in carriedOver (afterWord t w) m ws
 
 -- the table, the tally and the refusal at the end of a run
 pub record Outcome : Type 0 where

@@ -8,7 +8,7 @@
 --   refusalOf t w    ==  the step's refusal: 6, 7, then the word's, or 0.
 --   afterWord t w    ==  the table after the step; the one given where the step refuses.
 --   afterWords t ws  ==  the table after a list of words, given one by one; a refused word is passed over.
---   eventOf t w      ==  the event of an accepted word: a COME, an arrival at 30, or neither.
+--   eventOf t w      ==  the event of an accepted word: a COME, an arrival at 30, a departure from 30, or none of these.
 --   toldOf t w       ==  what the step tells of an accepted word; `quiet` is nothing, `withEvent` sets a field.
 --   answerOf t w     ==  the step's answer: what it tells of an accepted word, or the number of the refusal.
 --   stepAnswerOf t w ==  the step's answer to C.
@@ -167,14 +167,16 @@ quiet = record { event = Event.Quiet }
 abbrev pub withEvent : Event → Told → Told
 withEvent e s = record { event = e }
 
--- the event of an accepted word: a COME; a process that was elsewhere is at 30 now; neither
+-- the event of an accepted word: a COME; its process was elsewhere and is at 30 now; it was at 30 and is elsewhere now;
+-- none of these
 unfoldable pub eventOf : Table → ℕ → Event
 unfolding afterWord
 eventOf t w =
     let before = row t (processOf w) .location in
     let after = row (afterWord t w) (processOf w) .location in
     cond (eqb (kindOf w) COME) Event.Come
-    (cond (not (eqb before 30) && eqb after 30) Event.Arrival Event.Quiet)
+    (cond (not (eqb before 30) && eqb after 30) Event.Arrival
+    (cond (eqb before 30 && not (eqb after 30)) Event.Departure Event.Quiet))
 
 abbrev pub toldOf : Table → ℕ → Told
 toldOf t w = record { event = eventOf t w }

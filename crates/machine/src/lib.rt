@@ -144,11 +144,12 @@ pub enum Reading {
     Refused { number: u16, place: u16 },
 }
 
-// What a tally counts of an accepted word.
+// The event of an accepted word: a COME, an arrival at 30, a departure from 30, or none of these.
 pub enum Event {
     Quiet,
     Come,
     Arrival,
+    Departure,
 }
 
 // What a step tells of an accepted word.

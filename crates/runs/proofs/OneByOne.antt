@@ -1,10 +1,11 @@
 -- A run is single steps: for o = runOf t ws, of a table and words of any kind, the table at the end is that after the
 -- words taken, given one by one (`run-table`). Where the run began, each word taken was accepted, and a run that did
--- not take all words met a word that the step refuses, with the same number (`run-stepwise`).
+-- not take all words met a word that the step refuses, with the same number (`run-stepwise`). The number at 30 that is
+-- carried over the words taken is the census's of the table at the end (`run-critical`).
 --
 -- Assumes nothing.
 use Prim.Native.Nat.{ℕ, zero, suc, _+_, _≤_, _<_}
-use mathlib.Core.Path.{_≡_, refl, ap, sym, subst}
+use mathlib.Core.Path.{_≡_, refl, ap, sym, subst, _∙_}
 use mathlib.Core.List.{List, [], _∷_}
 use native.Mathlib.Decide.{ℕ-discrete, decLt}
 use native.Mathlib.Omega.{arith}
@@ -12,10 +13,12 @@ use lib.ListN.{length, getD, take}
 use Rattle.machine.specs.Refusals.{tooManyWords}
 use Rattle.machine.specs.Tables.{Table, tableRefusal}
 use Rattle.machine.specs.Steps.{refusalOf, afterWord, afterWords, eventOf}
-use Rattle.machine.specs.Runs.{Outcome, ended, untaken, counted, zeroTally, limit, runFrom, runOf}
+use Rattle.machine.specs.Census.{critical, censusOf}
+use Rattle.machine.specs.Runs.{Outcome, ended, untaken, counted, carriedOver, zeroTally, limit, runFrom, runOf}
 use Rattle.machine.specs.declared.Tally.{Tally}
 use Rattle.runs.proofs.RunLaws.{run-more, run-stop, run-end, counted-words}
 use Rattle.machine.proofs.RunLaws.{runOf-table, runOf-words, runOf-taken}
+use Rattle.machine.proofs.CarriedTheorems.{census-carried}
 
 -- k words were taken of ws, from table t, with outcome o
 pub record Taken (t : Table) (ws : List ℕ) (k : ℕ) (o : Outcome) : Type 0 where
@@ -119,3 +122,11 @@ run-table t ws = go (ℕ-discrete (tableRefusal t) 0) (decLt limit (length ws))
     go (no n) d = none-taken t ws (tableRefusal t) (runOf-table t ws (tableRefusal t) refl n)
     go (yes z) (yes m) = none-taken t ws tooManyWords (runOf-words t ws z m)
     go (yes z) (no m) = run-stepwise t ws z (omega (arith, m)) .taken
+
+-- the number at 30, carried over the words taken, which are those up to the first that is refused
+pub run-critical : (t : Table) (ws : List ℕ)
+    → tableRefusal t ≡ 0
+    → carriedOver t (critical t) (take (runOf t ws .tally .words) ws) ≡ censusOf (runOf t ws .table) .critical
+run-critical t ws sound =
+    census-carried t (take (runOf t ws .tally .words) ws) sound
+    ∙ ap (λ (u : Table). censusOf u .critical) (sym (run-table t ws .table-is))

@@ -21,7 +21,7 @@ use Rattle.machine.specs.Tables.{Table}
 use Rattle.machine.specs.Steps.{refusalOf, afterWord, eventOf}
 use Rattle.machine.specs.Runs.{Outcome, ended, counted, ranOf, runFrom}
 use Rattle.machine.specs.declared.Event.{Event}
-use Rattle.machine.specs.declared.Event.the-variants.{Quiet, Come, Arrival}
+use Rattle.machine.specs.declared.Event.the-variants.{Quiet, Come, Arrival, Departure}
 use Rattle.machine.specs.declared.Tally.{Tally}
 use Rattle.machine.proofs.Accepted.{refused-same}
 use Rattle.cells.specs.View.{rowsOf}
@@ -90,16 +90,19 @@ pub counted-words : (e : Event) (h : Tally) → counted e h .words ≡ h .words 
 counted-words Quiet h = refl
 counted-words Come h = refl
 counted-words Arrival h = refl
+counted-words Departure h = refl
 
 pub counted-comes : (e : Event) (h : Tally) → counted e h .comes ≤ h .comes + 1
 counted-comes Quiet h = omega arith
 counted-comes Come h = omega arith
 counted-comes Arrival h = omega arith
+counted-comes Departure h = omega arith
 
 pub counted-arrivals : (e : Event) (h : Tally) → counted e h .arrivals ≤ h .arrivals + 1
 counted-arrivals Quiet h = omega arith
 counted-arrivals Come h = omega arith
 counted-arrivals Arrival h = omega arith
+counted-arrivals Departure h = omega arith
 
 -- ---- the answer of a run
 

@@ -25,7 +25,7 @@ fn counted(event: Event, tally: Tally) -> Tally
     ensures { λ h. ⌜ h ≡ counted event tally ⌝ }
 {
     match event {
-        Event::Quiet => Tally {
+        Event::Quiet | Event::Departure => Tally {
             words: tally.words + 1,
             comes: tally.comes,
             arrivals: tally.arrivals,

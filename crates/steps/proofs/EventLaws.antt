@@ -1,7 +1,7 @@
 -- The event of an accepted word, told from the row before the step: along the arcs of the flow graph it is the location
 -- before that tells it, and at 21 the level. Assumes nothing.
 use Prim.Native.Nat.{ℕ, _<_}
-use mathlib.Core.Path.{_≡_, refl, sym, ap, _∙_}
+use mathlib.Core.Path.{_≡_, refl, sym, ap, ap₂, _∙_}
 use mathlib.Core.Bool.{Bool, true, cond, _&&_, not, and-eq-true-iff}
 use mathlib.Core.List.{[], _∷_}
 use native.Mathlib.Omega.{arith}
@@ -25,26 +25,35 @@ use Rattle.steps.proofs.MoveLaws.{moved-go}
 
 -- ---- along the arcs
 
--- of a process that goes from l to m: it arrives; and so it does from 21 alone
+-- of a process that goes from l to m: it arrives, which it does from 21 alone; it departs, which it does from 30 always
 abbrev arrives : ℕ → ℕ → Bool
 arrives l m = not (eqb l 30) && eqb m 30
 
 abbrev arrives-21 : ℕ → ℕ → Bool
 arrives-21 l m = eqb l 21 && eqb m 30
 
+abbrev departs : ℕ → ℕ → Bool
+departs l m = eqb l 30 && not (eqb m 30)
+
+abbrev departs-30 : ℕ → ℕ → Bool
+departs-30 l m = eqb l 30
+
+-- the event by these two
+abbrev event : Bool → Bool → Event
+event a d = cond a Event.Arrival (cond d Event.Departure Event.Quiet)
+
 abbrev along : ℕ → ℕ → Event
-along l m = cond (arrives-21 l m) Event.Arrival Event.Quiet
+along l m = event (arrives-21 l m) (departs-30 l m)
 
-module _ (t : Table) (w : ℕ) (z : refusalOf t w ≡ 0) where
-  abbrev p : ℕ
-  p = processOf w
-
-  event-along : eventOf t w
-      ≡ cond (eqb (kindOf w) COME) Event.Come (along (row t p .location) (row (afterWord t w) p .location))
-  unfolding eventOf
-  event-along =
-      ap (λ (b : Bool). cond (eqb (kindOf w) COME) Event.Come (cond b Event.Arrival Event.Quiet))
-      (same-arc t w z arrives arrives-21 refl)
+event-along : (t : Table) (w : ℕ)
+    → refusalOf t w ≡ 0
+    → let p = processOf w in
+    eventOf t w ≡ cond (eqb (kindOf w) COME) Event.Come (along (row t p .location) (row (afterWord t w) p .location))
+unfolding eventOf
+event-along t w z =
+    ap₂ (λ (a d : Bool). cond (eqb (kindOf w) COME) Event.Come (event a d))
+    (same-arc t w z arrives arrives-21 refl)
+    (same-arc t w z departs departs-30 refl)
 
 -- ---- the kinds
 
@@ -61,18 +70,16 @@ module _ (t : Table) (p : ℕ) (l : p < length t) where
 
   go-told : along (r .location) (row (gone t p) p .location) ≡ goEvent r
   go-told =
-      split
-      (λ b. cond (b && eqb (row (gone t p) p .location) 30) Event.Arrival Event.Quiet
-      ≡ cond (b && eqb (r .level) 0) Event.Arrival Event.Quiet)
+      let d = eqb (r .location) 30 in
+      split (λ b. event (b && eqb (row (gone t p) p .location) 30) d ≡ event (b && eqb (r .level) 0) d)
       (eqb (r .location) 21)
       (λ e.
-      let g = gone-21 t p (eqb-true _ _ e) in
-      ap (λ (u : Table). cond (eqb (row u p .location) 30) Event.Arrival Event.Quiet) g
-      ∙ ap (λ (s : Row). cond (eqb (s .location) 30) Event.Arrival Event.Quiet) (row-same t p (passed r) l)
-      ∙ ap (λ (b : Bool). cond b Event.Arrival Event.Quiet) passed-told)
+      ap (λ (u : Table). event (eqb (row u p .location) 30) d) (gone-21 t p (eqb-true _ _ e))
+      ∙ ap (λ (s : Row). event (eqb (s .location) 30) d) (row-same t p (passed r) l)
+      ∙ ap (λ (b : Bool). event b d) passed-told)
       (λ e. refl)
 
-  -- the other kinds are not allowed at 21
+  -- the other kinds are allowed neither at 21 nor at 30
   module _ (a : ℕ) where
     abbrev by : ℕ → Event
     by k = along (r .location) (row (moved t k p a) p .location)

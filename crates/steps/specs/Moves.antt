@@ -32,9 +32,11 @@ use Rattle.cells.specs.View.{rowsOf, Becomes}
 
 -- ---- what is told, read before the step
 
--- GO at 21 with level 0 goes to 30, and no other step does
+-- GO at 21 with level 0 goes to 30, GO at 30 goes elsewhere, and no other step does either
 abbrev pub goEvent : Row → Event
-goEvent r = cond (eqb (r .location) 21 && eqb (r .level) 0) Event.Arrival Event.Quiet
+goEvent r =
+    cond (eqb (r .location) 21 && eqb (r .level) 0) Event.Arrival
+    (cond (eqb (r .location) 30) Event.Departure Event.Quiet)
 
 abbrev pub kindEvent : ℕ → Row → Event
 kindEvent k r = cond (eqb k COME) Event.Come (cond (eqb k GO) (goEvent r) Event.Quiet)

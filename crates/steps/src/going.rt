@@ -90,7 +90,7 @@ fn leave(cells: &mut [[u16; 8]], p: u16) -> Told
 {
     go_to(cells, p, 40);
     forget(cells, p);
-    Told::QUIET
+    Told::QUIET.with_event(Event::Departure)
 }
 
 // GO at 40: back to 10.

@@ -1,19 +1,29 @@
--- The text of a run, word by word: which line a word gives, and what the step's answer says of it. Assumes nothing.
+-- The text of a run, word by word: which line a word gives, and what the step's answer says of it and of the number at
+-- 30. Assumes nothing.
 use mathlib.Core.Path.{_≡_, refl, sym, ap, _∙_}
 use mathlib.Core.Bool.{Bool, true, false}
 use mathlib.Core.List.{List, [], _∷_, _++_}
-use Prim.Native.Nat.{ℕ, suc}
+use Prim.Native.Nat.{ℕ, suc, _≤_}
+use native.Mathlib.Omega.{arith}
+use lib.ListN.{length}
 use borrow.Author.Tests.{eq-eqb, ne-eqb}
+use Rattle.counting.proofs.CountLaws.{count-le}
 use Rattle.machine.specs.Refusals.{accepted}
-use Rattle.machine.specs.Tables.{Table, row}
+use Rattle.machine.specs.Tables.{Table, row, tableRefusal}
 use Rattle.machine.specs.Words.{processOf}
-use Rattle.machine.specs.Steps.{refusalOf, afterWord, answerOf}
-use Rattle.machine.specs.Census.{critical}
+use Rattle.machine.specs.Steps.{refusalOf, afterWord, eventOf, answerOf}
+use Rattle.machine.specs.Census.{isCritical, critical}
+use Rattle.machine.specs.Runs.{carried}
 use Rattle.machine.specs.Text.{line, wordLine, doneLine, stopLine, runLines}
+use Rattle.machine.specs.declared.Event.{Event}
 use Rattle.machine.specs.declared.Told.{Told}
 use Rattle.machine.specs.declared.Stepped.{Stepped}
+use Rattle.machine.proofs.SoundRows.{sound-few}
 use Rattle.machine.proofs.AnswerLaws.{answer-moved, answer-refused}
-use Rattle.text.specs.Running.{takes, lineOf}
+use Rattle.machine.proofs.CarriedTheorems.{critical-step, some-departs}
+use Rattle.cells.specs.View.{rowsOf}
+use Rattle.cells.proofs.ViewLaws.{rows-length}
+use Rattle.text.specs.Running.{Carries, takes, lineOf}
 
 -- ---- the line of a word
 
@@ -66,3 +76,36 @@ module _ (t : Table) (w : ℕ) where
 
   pub refused-number : (n : ℕ) → answerOf t w ≡ Stepped.Refused n → refusalOf t w ≡ n
   refused-number n h = sym (answer-refused t w n h .1)
+
+-- ---- the number at 30
+
+-- cells that can be counted
+pub few-cells : (x : List (List ℕ)) → tableRefusal (rowsOf x) ≡ 0 → length x ≤ 16
+few-cells x sound = omega (arith, rows-length x, sound-few (rowsOf x) sound)
+
+-- where the step has moved: n of them before it, and m carried
+
+module _ (t : Table) (w n : ℕ) (s : Told) (moved : answerOf t w ≡ Stepped.Moved s) (is : n ≡ critical t) where
+  taken : refusalOf t w ≡ 0
+  taken = answer-moved t w s moved .0
+
+  event-is : s .event ≡ eventOf t w
+  event-is = ap (λ (d : Told). d .event) (answer-moved t w s moved .1)
+
+  pub may-carry : tableRefusal t ≡ 0 → Carries (s .event) n
+  may-carry sound =
+      record {
+        some = λ e. omega (arith, some-departs t w taken (sym event-is ∙ e));
+        few = omega (arith, count-le (λ q. isCritical (row t q)) (length t), sound-few t sound);
+      }
+
+  pub carried-event : {m : ℕ} → m ≡ carried (s .event) n → m ≡ carried (eventOf t w) n
+  carried-event e = e ∙ ap (λ (v : Event). carried v n) event-is
+
+  -- the count after the step, which is table u
+  pub carried-count : {m : ℕ} {u : Table} → m ≡ carried (s .event) n → u ≡ afterWord t w → m ≡ critical u
+  carried-count e next =
+      carried-event e
+      ∙ ap (carried (eventOf t w)) is
+      ∙ sym (critical-step t w taken)
+      ∙ ap critical (sym next)

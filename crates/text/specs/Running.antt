@@ -1,8 +1,11 @@
 -- What the functions that print a run require and promise.
 --
 --   lineOf t i w          ==   what is printed for word w, which is word i, at table t: its line, or the last line.
---   WordReady x d at i w  <=>  the cells x hold a sound table, and the buffer d has room from `at` on for that line.
---   WordPrinted ..        <=>  the line of a word is in the buffer, and the cells are as the step leaves them.
+--   Carries e n           <=>  the number n at 30 can be carried over a word with event e.
+--   WordReady x n d at i w  <=>  the cells x hold a sound table with n processes at 30, and the buffer d has room from
+--                                `at` on for that line.
+--   WordPrinted ..        <=>  the line of a word is in the buffer, the cells are as the step leaves them, and the number
+--                              at 30 is carried.
 --   RunReady x d at ws    <=>  the cells x hold a sound table, and the buffer d has room from `at` on for its lines.
 --   LinesReady x at ws    <=>  the cells x hold a sound table, and its lines are to start at place `at`.
 --
@@ -15,9 +18,11 @@ use lib.Dec.{eqb}
 use lib.ListN.{length}
 use Rattle.machine.specs.Refusals.{accepted}
 use Rattle.machine.specs.Tables.{Table, tableRefusal}
-use Rattle.machine.specs.Steps.{refusalOf, afterWord}
-use Rattle.machine.specs.Runs.{limit}
+use Rattle.machine.specs.Steps.{refusalOf, afterWord, eventOf}
+use Rattle.machine.specs.Census.{critical}
+use Rattle.machine.specs.Runs.{limit, carried}
 use Rattle.machine.specs.Text.{wordLine, stopLine, runLines}
+use Rattle.machine.specs.declared.Event.{Event}
 use Rattle.cells.specs.View.{rowsOf, Becomes}
 use Rattle.text.specs.Appending.{Appended}
 use Rattle.text.specs.declared.running.Line.{Line}
@@ -33,12 +38,17 @@ lineOf t i w = elim (takes t w) [ true ↦ wordLine t i w | false ↦ stopLine i
 -- ---- the answer to a line
 
 abbrev pub goesOn : Line → Bool
-goesOn (Taken e) = true
+goesOn (Taken e n) = true
 goesOn (Stopped e) = false
 
 abbrev pub endOf : Line → ℕ
-endOf (Taken e) = e
+endOf (Taken e n) = e
 endOf (Stopped e) = e
+
+-- 0 where the run does not go on
+abbrev pub insideOf : Line → ℕ
+insideOf (Taken e n) = n
+insideOf (Stopped e) = 0
 
 -- ---- contracts
 
@@ -52,14 +62,20 @@ lastRoom = 13
 abbrev pub headRoom : ℕ
 headRoom = 22
 
-pub record WordReady (x : List (List ℕ)) (d : List ℕ) (at i w : ℕ) : Type 0 where
+pub record Carries (e : Event) (n : ℕ) : Type 0 where
+  pub some : e ≡ Event.Departure → 1 ≤ n
+  pub few : n ≤ 16
+
+pub record WordReady (x : List (List ℕ)) (n : ℕ) (d : List ℕ) (at i w : ℕ) : Type 0 where
   pub sound : tableRefusal (rowsOf x) ≡ 0
+  pub inside-is : n ≡ critical (rowsOf x)
   pub room : at + length (lineOf (rowsOf x) i w) ≤ length d
 
-pub record WordPrinted (x : List (List ℕ)) (d : List ℕ) (at i w : ℕ)
+pub record WordPrinted (x : List (List ℕ)) (n : ℕ) (d : List ℕ) (at i w : ℕ)
     (y : List (List ℕ)) (e : List ℕ) (r : Line) : Type 0 where
   pub becomes : Becomes x (afterWord (rowsOf x) w) y
   pub taken-is : goesOn r ≡ takes (rowsOf x) w
+  pub carries : takes (rowsOf x) w ≡ true → insideOf r ≡ carried (eventOf (rowsOf x) w) n
   pub appended : Appended d at (lineOf (rowsOf x) i w) e (endOf r)
 
 pub record RunReady (x : List (List ℕ)) (d : List ℕ) (at : ℕ) (ws : List ℕ) : Type 0 where

@@ -3,6 +3,7 @@
 use crate::lines::put_done;
 use crate::printing::put_head;
 use crate::running::Line;
+use crate::running::count_critical;
 use crate::running::put_word;
 use inputs::Opened;
 ghost use mathlib.Core.Path.{_≡_};
@@ -27,11 +28,16 @@ fn run_end(at: usize, cells: &mut [[u16; 8]], words: &[u32]) -> usize
 {
     let mut line = [0u8; LINE_BYTES];
     let mut end = at;
+    let mut inside = count_critical(cells);
     let mut i = 0;
     while i < words.len() {
-        match put_word(&mut line, 0, cells, i as u32, words[i]) {
-            Line::Taken(length) => {
+        match put_word(&mut line, 0, cells, inside, i as u32, words[i]) {
+            Line::Taken {
+                end: length,
+                inside: next_inside,
+            } => {
                 end += length;
+                inside = next_inside;
             }
             Line::Stopped(length) => {
                 return end + length;

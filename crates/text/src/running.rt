@@ -3,6 +3,7 @@ use crate::lines::put_done;
 use crate::lines::put_line;
 use crate::lines::put_stop;
 use cells::access::row_at;
+use machine::Event;
 use machine::Stepped;
 use steps::stepping::advance;
 ghost use mathlib.Core.Path.{_≡_};
@@ -10,14 +11,16 @@ ghost use Prim.Native.Nat.{_≤_};
 ghost use lib.ListN.{length};
 ghost use Rattle.machine.specs.Tables.{row};
 ghost use Rattle.machine.specs.Census.{critical};
+ghost use Rattle.machine.specs.Runs.{carried};
 ghost use Rattle.machine.specs.Text.{runLines};
 ghost use Rattle.cells.specs.View.{rowsOf};
 ghost use Rattle.text.specs.Appending.{Appended};
-ghost use Rattle.text.specs.Running.{WordReady, WordPrinted, RunReady};
+ghost use Rattle.text.specs.Running.{Carries, WordReady, WordPrinted, RunReady};
 
-// Where the line of a word ends, and whether the run goes on after it.
+// Where the line of a word ends, and whether the run goes on after it; then also how many processes
+// are at 30.
 pub enum Line {
-    Taken(usize),
+    Taken { end: usize, inside: u32 },
     Stopped(usize),
 }
 
@@ -31,37 +34,55 @@ fn location_at(cells: &[[u16; 8]], p: u16) -> u32
     row_at(cells, p as usize).location as u32
 }
 
-// How many processes are at 30.
-fn count_critical(cells: &[[u16; 8]]) -> u32
+// How many processes are at 30, counted: where a run starts.
+pub(crate) fn count_critical(cells: &[[u16; 8]]) -> u32
     requires { ⌜ length (now cells) ≤ 16 ⌝ }
     ensures { λ n. ⌜ n ≡ critical (rowsOf (now (cells .entry))) ⌝ }
 {
     census::critical(cells) as u32
 }
 
-// The step of a word, which is the word at `place`, and its line; or the last line where the word
-// is refused.
+// How many processes are at 30 after an accepted word, from how many were before it.
+fn carried(event: Event, inside: u32) -> u32
+    requires { ⌜ Carries event inside ⌝ }
+    ensures { λ n. ⌜ n ≡ carried event inside ⌝ }
+{
+    match event {
+        Event::Arrival => inside + 1,
+        Event::Departure => inside - 1,
+        Event::Quiet | Event::Come => inside,
+    }
+}
+
+// The step of a word, which is the word at `place`, and its line, where `inside` processes are at
+// 30; or the last line where the word is refused.
 pub(crate) fn put_word(
     out: &mut [u8],
     at: usize,
     cells: &mut [[u16; 8]],
+    inside: u32,
     place: u32,
     word: u32,
 ) -> Line
-    requires { ⌜ WordReady (now cells) (now out) at place word ⌝ }
+    requires { ⌜ WordReady (now cells) inside (now out) at place word ⌝ }
     ensures { λ r. ⌜
-        WordPrinted (now (cells .entry)) (now (out .entry)) at place word (now (cells .exit)) (now (out .exit)) r
+        WordPrinted (now (cells .entry)) inside (now (out .entry)) at place word (now (cells .exit)) (now (out .exit)) r
         ⌝ }
 {
     let p = words::process_of(word);
     let before = location_at(cells, p);
     match advance(cells, word) {
-        Stepped::Moved(_) => {
+        Stepped::Moved(told) => {
             let after = location_at(cells, p);
-            let inside = count_critical(cells);
+            let event = told.event;
+            let now_inside = carried(event, inside);
             let process = p as u32;
-            let fields = [place, process, before, after, inside];
-            Line::Taken(put_line(out, at, b"", &fields, b"\n"))
+            let fields = [place, process, before, after, now_inside];
+            let end = put_line(out, at, b"", &fields, b"\n");
+            Line::Taken {
+                end: end,
+                inside: now_inside,
+            }
         }
         Stepped::Refused(why) => Line::Stopped(put_stop(out, at, place, why)),
     }
@@ -76,11 +97,16 @@ pub(crate) fn put_run(out: &mut [u8], at: usize, cells: &mut [[u16; 8]], words: 
         ⌝ }
 {
     let mut end = at;
+    let mut inside = count_critical(cells);
     let mut i = 0;
     while i < words.len() {
-        match put_word(out, end, cells, i as u32, words[i]) {
-            Line::Taken(next) => {
+        match put_word(out, end, cells, inside, i as u32, words[i]) {
+            Line::Taken {
+                end: next,
+                inside: next_inside,
+            } => {
                 end = next;
+                inside = next_inside;
             }
             Line::Stopped(last) => {
                 return last;

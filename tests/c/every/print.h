@@ -76,6 +76,43 @@ static void print_cancel(void) {
            "done 5\n");
 }
 
+/* Processes 0 and 1 are at 30, process 2 at 21 on level 0: 0 departs, 2 arrives beside 1, 0 goes on to 22, 1 departs; a CANCEL at
+   22 is refused. */
+static void print_two_at_30(void) {
+    static const uint32_t nine[9] = {0x40000000, 0x40020000, 0x40000000, 0x20000000, 0x40000000,
+                                     0x40000000, 0x40010000, 0x60000000, 0x40020000};
+    uint32_t words[ZAGUYPO_IMAGE_WORDS(3)];
+    idle_image(words, 3);
+    words[1] |= 0x6200, words[5] |= 0x6200, words[9] |= 0x2200;
+    print_start(), print_words(words, 15), print_words(nine, 9);
+    prints("two at 30",
+           "posts 3\n"
+           "0 0 30 40 1\n"
+           "1 2 21 30 2\n"
+           "2 0 40 10 2\n"
+           "3 0 10 20 2\n"
+           "4 0 20 21 2\n"
+           "5 0 21 22 2\n"
+           "6 1 30 40 1\n"
+           "stop 7 10\n");
+}
+
+/* sixteen at 30 depart one after the other: 15 to 0 are left */
+static void print_departures(void) {
+    char text[400];
+    uint32_t words[ZAGUYPO_IMAGE_WORDS(16)];
+    idle_image(words, 16);
+    for (int q = 0; q < 16; q++) words[1 + 4 * q] |= 0x6200;
+    print_start(), print_words(words, 80);
+    char *at = text + sprintf(text, "posts 16\n");
+    for (unsigned q = 0; q < 16; q++) {
+        print_word(0x40000000 + 0x10000 * q);
+        at += sprintf(at, "%u %u 30 40 %u\n", q, q, 15 - q);
+    }
+    sprintf(at, "done 16\n");
+    prints("sixteen depart", text);
+}
+
 /* the image of two idle processes with one word changed */
 static void print_changed(const char *what, size_t place, uint32_t word, const char *text) {
     uint32_t words[10];
@@ -154,6 +191,8 @@ static void print_longest(void) {
 static void print(void) {
     print_example();
     print_cancel();
+    print_two_at_30();
+    print_departures();
     print_bad_images();
     print_stops();
     print_limits();

@@ -2,18 +2,20 @@
 
 use super::{Answer, Case, Kind};
 use crate::bytes::{read_input, words};
-use crate::row::{Row, LOCATIONS, MOST};
+use crate::row::{at_30, Row, LOCATIONS, MOST};
 use crate::run::{take_all, MOST_WORDS};
 use crate::word::CANCEL;
 
-/// Calls by kind, refusals by kind and number, words taken; and for each number of processes the CANCELs among these,
-/// and visits of each location.
+/// Calls by kind, refusals by kind and number, words taken; and for each number of processes the CANCELs among these, the
+/// lines of printed runs with two or more processes at 30, and visits of each location; lines with ten or more at 30.
 #[derive(Clone, Debug, Default)]
 pub struct Counts {
     pub calls: [u64; Kind::ALL.len()],
     pub refusals: [[u64; 15]; Kind::ALL.len()],
     pub words: u64,
     pub cancels: [u64; MOST + 1],
+    pub together: [u64; MOST + 1],
+    pub ten_together: u64,
     pub visits: [[u64; LOCATIONS.len()]; MOST + 1],
 }
 
@@ -24,26 +26,32 @@ impl Counts {
         self.refusals[kind][answer.refusal() as usize] += 1;
         match (case, answer.refusal()) {
             (_, 1..=7 | 12..) => {}
-            (Case::Call { input, .. } | Case::Print { input, .. }, _) => self.walk_input(&input.bytes),
-            (Case::Text { bytes }, _) => self.walk_input(bytes),
-            (Case::Run { rows, words, .. }, _) => self.walk(&mut rows.clone(), words.iter().copied()),
-            (Case::Step { rows, word }, _) => self.walk(&mut rows.clone(), [*word].into_iter()),
+            (Case::Call { input, .. }, _) => self.walk_input(&input.bytes, false),
+            (Case::Print { input, .. }, _) => self.walk_input(&input.bytes, true),
+            (Case::Text { bytes }, _) => self.walk_input(bytes, true),
+            (Case::Run { rows, words, .. }, _) => self.walk(&mut rows.clone(), words.iter().copied(), false),
+            (Case::Step { rows, word }, _) => self.walk(&mut rows.clone(), [*word].into_iter(), false),
             _ => {}
         }
     }
 
-    fn walk_input(&mut self, bytes: &[u8]) {
+    fn walk_input(&mut self, bytes: &[u8], printed: bool) {
         if let Ok(mut input) = read_input(bytes) {
-            self.walk(&mut input.table, words(input.events));
+            self.walk(&mut input.table, words(input.events), printed);
         }
     }
 
-    fn walk(&mut self, rows: &mut [Row], words: impl Iterator<Item = u32>) {
-        let (visits, cancels) = (&mut self.visits[rows.len()], &mut self.cancels[rows.len()]);
+    fn walk(&mut self, rows: &mut [Row], words: impl Iterator<Item = u32>, printed: bool) {
+        let n = rows.len();
+        let mut inside = at_30(rows);
         let ran = take_all(rows, words.take(MOST_WORDS), |event| {
             let code = LOCATIONS.iter().position(|&loc| loc == event.after).expect("a location");
-            visits[code] += 1;
-            *cancels += u64::from(event.kind == CANCEL);
+            self.visits[n][code] += 1;
+            self.cancels[n] += u64::from(event.kind == CANCEL);
+            inside += u16::from(event.after == 30);
+            inside -= u16::from(event.before == 30);
+            self.together[n] += u64::from(printed && inside >= 2);
+            self.ten_together += u64::from(printed && inside >= 10);
         });
         self.words += u64::from(ran.taken);
     }
@@ -64,6 +72,11 @@ impl Counts {
         }
     }
 
+    /// Whether texts were asked for.
+    fn prints(&self) -> bool {
+        self.calls[Kind::Print as usize] + self.calls[Kind::Text as usize] > 0
+    }
+
     /// What was never met by the kinds of call that were made; empty if the comparison saw everything.
     pub fn unseen(&self) -> Vec<String> {
         let mut unseen = Vec::new();
@@ -79,6 +92,12 @@ impl Counts {
             if self.cancels[n] == 0 {
                 unseen.push(format!("no CANCEL taken with {n} processes"));
             }
+            if self.together[n] == 0 && self.prints() {
+                unseen.push(format!("no line with two at 30 of {n} processes"));
+            }
+        }
+        if self.ten_together == 0 && self.prints() {
+            unseen.push("no line with ten at 30".to_string());
         }
         unseen
     }
@@ -108,10 +127,12 @@ impl Counts {
         let refusals = self.met().into_iter().enumerate().map(|(number, met)| (number.to_string(), met));
         let visits = LOCATIONS.iter().map(|loc| loc.to_string()).zip(total);
         out + &format!(
-            "\nsummary: seed {seed}: calls [{}] words {} cancels {} refusals [{}] visits [{}]",
+            "\nsummary: seed {seed}: calls [{}] words {} cancels {} lines with two at 30 {}, with ten {} refusals [{}] visits [{}]",
             listed(calls),
             self.words,
             self.cancels.iter().sum::<u64>(),
+            self.together.iter().sum::<u64>(),
+            self.ten_together,
             listed(refusals),
             listed(visits)
         )

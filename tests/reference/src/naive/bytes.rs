@@ -71,8 +71,18 @@ pub fn text(input: &[u8], fault: Fault) -> String {
         return out + "stop 0 12\n";
     }
     let mut place = 0;
+    // the number is counted again after each word; `error` is what a fault has made it wrong by
+    let mut error = if fault == Fault::FigureFrom0 { -(system.at_30(fault) as i64) } else { 0 };
     let ran = take_words(&mut system, events, fault, |system, moved| {
-        let inside = system.at_30(fault);
+        let (arrives, departs) = (moved.before != 30 && moved.after == 30, moved.before == 30 && moved.after != 30);
+        error += match (fault, moved.before, moved.after) {
+            (Fault::FigureKeptFrom30To40, 30, 40) => 1,
+            (Fault::FigureLoweredFrom40To10, 40, 10) => -1,
+            (Fault::FigureRaisedFrom21To22, 21, 22) => 1,
+            (Fault::FigureBeforeTheWord, ..) => i64::from(departs) - i64::from(arrives) - error,
+            _ => 0,
+        };
+        let inside = system.at_30(fault) as i64 + error;
         out += &format!("{place} {} {} {} {inside}\n", moved.process, moved.before, moved.after);
         place += 1;
     });

@@ -109,11 +109,8 @@ pub fn census(rows: &[Row], fault: Fault) -> Census {
         Ok(system) => system,
         Err(refusal) => return Census { refusal, ..Census::default() },
     };
-    let mut census = Census {
-        at_30: system.at_30(fault) as u16,
-        waiting: system.waiting(fault) as u16,
-        ..Census::default()
-    };
+    let mut census =
+        Census { at_30: system.at_30(fault) as u16, waiting: system.waiting(fault) as u16, ..Census::default() };
     for (q, process) in system.processes.iter().enumerate() {
         for k in 0..=system.n() {
             if !system.competes(q, fault) {

@@ -15,7 +15,8 @@ pub use image::{read_image, write_image};
 pub use words::{put_together, take_apart};
 
 /// One error put into the model; the first group is of errors that are near, the third of CANCEL and the kinds, the
-/// last that of memory lent by C and of answers in records.
+/// fourth of the printed number at 30, as one that is carried from word to word may have them, the last that of memory lent
+/// by C and of answers in records.
 #[derive(Clone, Copy, Debug, PartialEq, Eq)]
 pub enum Fault {
     None,
@@ -82,6 +83,12 @@ pub enum Fault {
     TogetherRefusesKind6,
     TogetherTakesKind7,
 
+    FigureFrom0,
+    FigureKeptFrom30To40,
+    FigureLoweredFrom40To10,
+    FigureRaisedFrom21To22,
+    FigureBeforeTheWord,
+
     FreshOf17Rows,
     FreshKeepsWhatMayBeAnything,
     ReadLentBeforeWords,
@@ -101,7 +108,7 @@ pub enum Fault {
 }
 
 impl Fault {
-    pub const ALL: [Fault; 76] = [
+    pub const ALL: [Fault; 81] = [
         Fault::Counts40With30,
         Fault::EstKeptAtGo24,
         Fault::TurnBeforeSizeOfEst,
@@ -162,6 +169,11 @@ impl Fault {
         Fault::ApartTakesKind7,
         Fault::TogetherRefusesKind6,
         Fault::TogetherTakesKind7,
+        Fault::FigureFrom0,
+        Fault::FigureKeptFrom30To40,
+        Fault::FigureLoweredFrom40To10,
+        Fault::FigureRaisedFrom21To22,
+        Fault::FigureBeforeTheWord,
         Fault::FreshOf17Rows,
         Fault::FreshKeepsWhatMayBeAnything,
         Fault::ReadLentBeforeWords,

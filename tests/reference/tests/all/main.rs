@@ -7,4 +7,5 @@ mod exclusion;
 mod lent;
 mod manual;
 mod models;
+mod printed;
 mod walk;

@@ -1,6 +1,7 @@
 //! The fast engine against the naive model, and the generated cases against the faults that they must see.
 
 use reference::compare::{make_case, shrink, Case, Counts, Kind, Naive, Reference};
+use reference::generate::inputs::{image_of, to_bytes};
 use reference::generate::Random;
 use reference::naive::Fault;
 use reference::Row;
@@ -48,6 +49,25 @@ fn a_comparison_without_cancels_is_blind() {
         assert_eq!(blind(&counts, 2), !taken);
     }
     assert!((3..=16).all(|n| blind(&counts, n)));
+}
+
+/// Only lines that are printed count, and each number of processes by itself.
+#[test]
+fn a_comparison_without_crowds_is_blind() {
+    let mut counts = Counts::default();
+    let misses = |counts: &Counts, what: &str| counts.unseen().iter().any(|unseen| unseen == what);
+    let (two, ten) = ("no line with two at 30 of 12 processes", "no line with ten at 30");
+    assert!(!misses(&counts, two) && !misses(&counts, ten));
+    for (inside, without_two, without_ten) in [(1, true, true), (2, false, true), (9, false, true), (10, false, false)]
+    {
+        let rows: Vec<Row> = (0..12).map(|q| Row { loc: if q < inside { 30 } else { 10 }, ..Row::IDLE }).collect();
+        let lent = Case::Step { rows: rows.clone(), word: 0x100B0000 };
+        counts.note(&lent, &lent.answer(&Reference));
+        let printed = Case::Text { bytes: [to_bytes(&image_of(&rows)), to_bytes(&[0x100B0000])].concat() };
+        counts.note(&printed, &printed.answer(&Reference));
+        assert_eq!((misses(&counts, two), misses(&counts, ten)), (without_two, without_ten), "{inside}");
+    }
+    assert!(misses(&counts, "no line with two at 30 of 11 processes"));
 }
 
 #[test]

@@ -50,7 +50,7 @@ const SEEN_OF_3: [Fault; 5] = [
 ];
 
 /// Not seen by a walk of two, as is tried, nor by one of three, for the reasons given.
-const UNSEEN: [Fault; 43] = [
+const UNSEEN: [Fault; 48] = [
     // no table that is reached has a process in its own ahead
     Fault::OwnAheadKeptAtGo30,
     // nor a process at 20 in an ahead set
@@ -98,6 +98,11 @@ const UNSEEN: [Fault; 43] = [
     Fault::ApartTakesKind7,
     Fault::TogetherRefusesKind6,
     Fault::TogetherTakesKind7,
+    Fault::FigureFrom0,
+    Fault::FigureKeptFrom30To40,
+    Fault::FigureLoweredFrom40To10,
+    Fault::FigureRaisedFrom21To22,
+    Fault::FigureBeforeTheWord,
     Fault::PrintPartWhenShort,
     Fault::PrintZeroAfterText,
     Fault::PrintAnswers0WhenShort,

@@ -1,5 +1,5 @@
--- `going::leave` meets its contract: GO at 30. Assumes nothing.
-use mathlib.Core.Path.{refl, sym, ap, _∙_}
+-- `going::leave` meets its contract: GO at 30, a departure. Assumes nothing.
+use mathlib.Core.Path.{sym, ap, _∙_}
 use mathlib.Core.List.{map}
 use Rattle.machine.specs.Steps.{forgets}
 use Rattle.machine.proofs.Forms.{gone-30}
@@ -15,15 +15,19 @@ go-to-requires c κs = search needs
 forget-requires : tie.Need-forget-requires
 forget-requires c κs = search needs
 
+with-event-requires : tie.Need-with-event-requires
+with-event-requires c κs = search needs
+
 same-length : tie.Need-same-length
 same-length c = search needs
 
 returns : tie.Need-returns
 returns c =
-    let s = c .before .before .before .before .before .before in
-    let put = c .before .before .before .before .go-to .ensures in
-    let left = c .before .forget .ensures in
-    goes-at 30 (s .pre .there) refl
+    let f = c .before .before in
+    let put = f .before .before .before .go-to .ensures in
+    let s = f .before .before .before .before .before in
+    let left = f .forget .ensures in
+    goes-at 30 (s .pre .there) (c .with-event .ensures)
     (record {
       rows-are =
           left .rows-are
@@ -33,4 +37,4 @@ returns c =
     })
 
 pub leave-spec : {M : Type 1} → statement M
-leave-spec = tie.close (tie.spec go-to-requires forget-requires same-length returns)
+leave-spec = tie.close (tie.spec go-to-requires forget-requires with-event-requires same-length returns)

@@ -1,5 +1,5 @@
--- `text::measuring::run_end` meets its contract. The invariant of its loop: how far the run has come (ProgressLaws).
--- Assumes nothing.
+-- `text::measuring::run_end` meets its contract. The invariant of its loop: how far the run has come, and what has been
+-- carried (ProgressLaws). Assumes nothing.
 use native.Mathlib.Omega.{arith}
 use borrow.Author.Needs.{needs}
 use mathlib.Core.Path.{_≡_, refl, sym, ap, _∙_}
@@ -9,12 +9,14 @@ use lib.ListN.{length, getD, length-append}
 use Rattle.machine.specs.Runs.{limit}
 use Rattle.machine.specs.Text.{runLines}
 use Rattle.cells.specs.View.{rowsOf}
-use Rattle.text.specs.Running.{goesOn, endOf, lineOf, lineRoom, lastRoom}
+use Rattle.text.specs.Running.{goesOn, endOf, insideOf, lineOf, lineRoom, lastRoom}
 use Rattle.text.specs.Printing.{textRoom}
+use Rattle.text.proofs.RunLaws.{few-cells}
 use Rattle.text.proofs.RoomLaws.{length-doneLine, length-lineOf, length-runLines}
 use Rattle.text.proofs.ProgressLaws.{
   Measured,
   progress-none,
+  progress-critical,
   progress-taken,
   progress-stopped,
   progress-room,
@@ -24,16 +26,16 @@ use Rattle.text.proofs.measuring.run_end.Statement.{statement}
 use Rattle.text.proofs.measuring.run_end.Tie as tie
 
 abbrev Inv-loop : tie.InvT-loop
-Inv-loop at cells₀ words line₀ end₀ i₀ cells line end i =
-    Measured at (rowsOf cells₀) words (rowsOf cells) end i
+Inv-loop at cells₀ words line₀ end₀ inside₀ i₀ cells line end inside i =
+    Measured at (rowsOf cells₀) words (rowsOf cells) end inside i
     × (length line ≡ lineRoom)
     × (length cells ≡ length cells₀)
 
 abbrev μ-loop : tie.MeasureT-loop
-μ-loop at cells₀ words line₀ end₀ i₀ cells line end i = length words - i
+μ-loop at cells₀ words line₀ end₀ inside₀ i₀ cells line end inside i = length words - i
 
 abbrev start : tie.At-loop Inv-loop μ-loop → tie.Start Inv-loop μ-loop
-start l = l .before .before
+start l = l .before .before .before .before
 
 -- how long all lines are
 long : (l : tie.At-loop Inv-loop μ-loop)
@@ -43,10 +45,16 @@ long l =
     let s = start l in
     length-runLines (rowsOf (s .args .cells .now)) 0 (s .args .words .now) (s .pre .sound) (omega (arith, s .pre .few))
 
+count-critical-requires : tie.Need-count-critical-requires Inv-loop μ-loop
+count-critical-requires c κs =
+    let s = c .before .before in
+    few-cells (s .args .cells .now) (s .pre .sound)
+
 loop-holds : tie.Need-loop-holds Inv-loop μ-loop
 loop-holds c =
-    let s = c .before in
-    let none = progress-none (rowsOf (s .args .cells .now)) (s .args .words .now) (s .pre .sound) in
+    let s = c .before .before .before in
+    let a = s .args in
+    let none = progress-none (rowsOf (a .cells .now)) (a .words .now) (s .pre .sound) (c .count-critical .ensures) in
     (record { text = []; progress = none; end-is = omega arith }, refl, refl)
 
 slice-aggregate-put-word : tie.Need-slice-aggregate-put-word Inv-loop μ-loop
@@ -70,7 +78,7 @@ put-word-requires c κs =
     let i = l .loop .i in
     let few : i < limit = omega (arith, start l .pre .few) in
     let line = length-lineOf (rowsOf (l .loop .cells)) i (getD (start l .args .words .now) i 0) (p .sound) few in
-    record { sound = p .sound; room = omega (arith, line, l .loop .inv .1) }
+    record { sound = p .sound; inside-is = progress-critical p; room = omega (arith, line, l .loop .inv .1) }
 
 -- ---- after the line of a word
 
@@ -137,10 +145,12 @@ loop-again c =
     let l = loop-of w in
     let is = c .before .length .given .1 in
     let put = w .put-word in
-    let taken = sym (put .ensures .taken-is) ∙ ap goesOn is in (
+    let taken = sym (put .ensures .taken-is) ∙ ap goesOn is in
+    let inside = sym (ap insideOf is) ∙ put .ensures .carries taken in
+    let p = l .loop .inv .0 .progress in (
       record {
         text = _;
-        progress = progress-taken (l .loop .inv .0 .progress) (omega arith) taken (put .ensures .becomes .rows-are);
+        progress = progress-taken p (omega arith) taken (put .ensures .becomes .rows-are) inside;
         end-is = omega (arith, counted w, ap endOf is);
       },
       put .kept .0 ∙ l .loop .inv .1,
@@ -190,6 +200,7 @@ run-end-spec =
     (tie.spec
     Inv-loop
     μ-loop
+    count-critical-requires
     loop-holds
     slice-aggregate-put-word
     cast-put-word

@@ -1,5 +1,5 @@
--- `text::running::put_run` meets its contract. The invariant of its loop: how far the printing has come (ProgressLaws).
--- Assumes nothing.
+-- `text::running::put_run` meets its contract. The invariant of its loop: how far the printing has come, and what has
+-- been carried (ProgressLaws). Assumes nothing.
 use native.Mathlib.Omega.{arith}
 use borrow.Author.Needs.{needs}
 use mathlib.Core.Path.{_≡_, refl, sym, ap, _∙_}
@@ -7,11 +7,13 @@ use mathlib.Core.List.{[]}
 use Prim.Native.Nat.{_-_}
 use lib.ListN.{length}
 use Rattle.cells.specs.View.{rowsOf}
-use Rattle.text.specs.Running.{goesOn}
+use Rattle.text.specs.Running.{goesOn, insideOf}
+use Rattle.text.proofs.RunLaws.{few-cells}
 use Rattle.text.proofs.AppendingLaws.{appended-none, appended-as, appended-then}
 use Rattle.text.proofs.ProgressLaws.{
   Printed,
   progress-none,
+  progress-critical,
   progress-taken,
   progress-stopped,
   progress-done,
@@ -22,22 +24,27 @@ use Rattle.text.proofs.running.put_run.Statement.{statement}
 use Rattle.text.proofs.running.put_run.Tie as tie
 
 abbrev Inv-loop : tie.InvT-loop
-Inv-loop out₀ at cells₀ words end₀ i₀ out cells end i =
-    Printed out₀ at (rowsOf cells₀) words out (rowsOf cells) end i
+Inv-loop out₀ at cells₀ words end₀ inside₀ i₀ out cells end inside i =
+    Printed out₀ at (rowsOf cells₀) words out (rowsOf cells) end inside i
     × (length out ≡ length out₀)
     × (length cells ≡ length cells₀)
 
 abbrev μ-loop : tie.MeasureT-loop
-μ-loop out₀ at cells₀ words end₀ i₀ out cells end i = length words - i
+μ-loop out₀ at cells₀ words end₀ inside₀ i₀ out cells end inside i = length words - i
 
 abbrev start : tie.At-loop Inv-loop μ-loop → tie.Start Inv-loop μ-loop
-start c = c .before .before .before
+start c = c .before .before .before .before .before
+
+count-critical-requires : tie.Need-count-critical-requires Inv-loop μ-loop
+count-critical-requires c κs =
+    let s = c .before .before .before in
+    few-cells (s .args .cells .now) (s .pre .sound)
 
 loop-holds : tie.Need-loop-holds Inv-loop μ-loop
 loop-holds c =
-    let s = c .before .before in
+    let s = c .before .before .before .before in
     let a = s .args in
-    let none = progress-none (rowsOf (a .cells .now)) (a .words .now) (s .pre .sound) in
+    let none = progress-none (rowsOf (a .cells .now)) (a .words .now) (s .pre .sound) (c .count-critical .ensures) in
     (record { text = []; progress = none; appended = appended-none (a .out .now) (a .at) }, refl, refl)
 
 cast-put-word : tie.Need-cast-put-word Inv-loop μ-loop
@@ -58,6 +65,7 @@ put-word-requires c κs =
     let next = progress-room (p .progress) (omega arith) in
     record {
       sound = p .progress .sound;
+      inside-is = progress-critical (p .progress);
       room = omega (arith, next, p .appended .end-is, l .loop .inv .1, start l .pre .room);
     }
 
@@ -110,10 +118,11 @@ loop-again c =
     let l = loop-of w in
     let p = l .loop .inv .0 in
     let is = c .before .next .given .1 in
-    let taken = sym (put .ensures .taken-is) ∙ ap goesOn is in (
+    let taken = sym (put .ensures .taken-is) ∙ ap goesOn is in
+    let inside = sym (ap insideOf is) ∙ put .ensures .carries taken in (
       record {
         text = _;
-        progress = progress-taken (p .progress) (omega arith) taken (put .ensures .becomes .rows-are);
+        progress = progress-taken (p .progress) (omega arith) taken (put .ensures .becomes .rows-are) inside;
         appended =
             appended-then (omega (arith, start l .pre .room)) (p .appended) (rw is at (put .ensures .appended));
       },
@@ -155,6 +164,7 @@ put-run-spec =
     (tie.spec
     Inv-loop
     μ-loop
+    count-critical-requires
     loop-holds
     cast-put-word
     mul-put-word

@@ -1,13 +1,13 @@
 -- `text::running::put_word` meets its contract: one line, of the taken word or of the refused one. Assumes nothing.
 use native.Mathlib.Omega.{arith}
 use mathlib.Core.Path.{_≡_, sym, ap, _∙_}
-use mathlib.Core.Bool.{true, false}
+use mathlib.Core.Bool.{true, false, false≢true}
 use mathlib.Core.List.{[], _∷_}
 use lib.ListN.{length}
 use Rattle.machine.specs.Text.{line, stopLine, wordLine}
-use Rattle.machine.proofs.SoundRows.{sound-few}
+use Rattle.machine.specs.Steps.{answerOf}
+use Rattle.machine.specs.declared.Stepped.{Stepped}
 use Rattle.cells.specs.View.{rowsOf}
-use Rattle.cells.proofs.ViewLaws.{rows-length}
 use Rattle.text.specs.Running.{takes, lineOf}
 use Rattle.text.proofs.AppendingLaws.{appended-as}
 use Rattle.text.proofs.RunLaws.{
@@ -17,6 +17,9 @@ use Rattle.text.proofs.RunLaws.{
   moved-takes,
   refused-takes,
   refused-number,
+  may-carry,
+  carried-event,
+  carried-count,
 }
 use borrow.Author.Needs.{needs}
 use Rattle.text.proofs.running.put_word.Statement.{statement}
@@ -31,8 +34,8 @@ location-at-requires c κs = search needs
 advance-requires : tie.Need-advance-requires
 advance-requires c κs = search needs
 
-enum-told : tie.Need-enum-told
-enum-told c = search needs
+enum-known-told : tie.Need-enum-known-told
+enum-known-told c = search needs
 
 location-at-requires-2 : tie.Need-location-at-requires-2
 location-at-requires-2 c κs = search needs
@@ -42,25 +45,28 @@ location-at-requires-2 c κs = search needs
 abbrev start : tie.After-advance → tie.Start
 start c = c .before .before .before .before .before .before
 
-count-critical-requires : tie.Need-count-critical-requires
-count-critical-requires c κs =
-    let step = c .before .before .before .before .before .before in
-    let s = start step in
-    let x = s .args .cells .now in
-    omega (arith, step .advance .kept .0, rows-length x, sound-few (rowsOf x) (s .pre .sound))
-
 -- ---- a taken word
 
-abbrev stepped : tie.After-enum-told → tie.After-advance
+abbrev stepped : tie.After-told → tie.After-advance
 stepped c = c .before .before .before
 
-taken : (c : tie.After-enum-told)
+moved : (c : tie.After-told)
+    → let a = start (stepped c) .args in
+    answerOf (rowsOf (a .cells .now)) (a .word) ≡ Stepped.Moved (c .told .given .0 .0)
+moved c = sym (stepped c .advance .ensures .answer-is) ∙ c .told .given .1
+
+taken : (c : tie.After-told)
     → let a = start (stepped c) .args in
     takes (rowsOf (a .cells .now)) (a .word) ≡ true
 taken c =
     let a = start (stepped c) .args in
-    let answer = sym (stepped c .advance .ensures .answer-is) ∙ c .enum-told .given .1 in
-    moved-takes (rowsOf (a .cells .now)) (a .word) _ answer
+    moved-takes (rowsOf (a .cells .now)) (a .word) _ (moved c)
+
+carried-requires : tie.Need-carried-requires
+carried-requires c κs =
+    let told = c .before .before .before in
+    let s = start (stepped told) in
+    may-carry (rowsOf (s .args .cells .now)) (s .args .word) _ _ (moved told) (s .pre .inside-is) (s .pre .sound)
 
 cast-process : tie.Need-cast-process
 cast-process c = search needs
@@ -75,33 +81,37 @@ slice-aggregate-put-line-3 : tie.Need-slice-aggregate-put-line-3
 slice-aggregate-put-line-3 c = search needs
 
 -- its five numbers are its line
-printed : (c : tie.After-count-critical)
-    → let l = c .before .before in
-    let step = stepped (l .before .before) in
+printed : (c : tie.After-carried)
+    → let l = c .before in
+    let step = stepped (l .before .before .before) in
     let first = step .before .before in
     let a = start step .args in
     line [] (a .place ∷ first .before .before .process-of .result ∷ first .location-at .result
-    ∷ l .location-at2 .result ∷ c .count-critical .result ∷ [])
+    ∷ l .location-at2 .result ∷ c .carried .result ∷ [])
     ≡ wordLine (rowsOf (a .cells .now)) (a .place) (a .word)
 printed c =
-    let l = c .before .before in
-    let step = stepped (l .before .before) in
+    let l = c .before in
+    let told = l .before .before .before in
+    let step = stepped told in
     let first = step .before .before in
-    let a = start step .args in
-    line-is (rowsOf (a .cells .now)) (rowsOf (step .advance .last .0)) (a .place) (a .word) _ _ _ _
+    let s = start step in
+    let a = s .args in
+    let t = rowsOf (a .cells .now) in
+    let next = step .advance .ensures .becomes .rows-are in
+    line-is t (rowsOf (step .advance .last .0)) (a .place) (a .word) _ _ _ _
     (first .before .before .process-of .ensures)
     (first .location-at .ensures)
-    (step .advance .ensures .becomes .rows-are)
+    next
     (l .location-at2 .ensures)
-    (c .count-critical .ensures)
+    (carried-count t (a .word) _ _ (moved told) (s .pre .inside-is) (c .carried .ensures) next)
 
 put-line-requires : tie.Need-put-line-requires
 put-line-requires c κs =
-    let counted = c .before .before .before .before in
-    let told = counted .before .before .before .before in
+    let put = c .before .before .before .before in
+    let told = put .before .before .before .before in
     let s = start (stepped told) in
     let is = lineOf-taken (rowsOf (s .args .cells .now)) (s .args .place) (s .args .word) (taken told) in
-    omega (arith, ap length (printed counted), ap length is, s .pre .room)
+    omega (arith, ap length (printed put), ap length is, s .pre .room)
 
 -- ---- a refused word
 
@@ -145,15 +155,18 @@ same-length-2 c = search needs
 
 returns : tie.Need-returns
 returns c =
-    let counted = c .before .before .before .before .before .before .before in
-    let told = counted .before .before .before .before in
+    let put = c .before .before .before .before .before .before .before in
+    let told = put .before .before .before .before in
     let step = stepped told in
-    let a = start step .args in
-    let is = lineOf-taken (rowsOf (a .cells .now)) (a .place) (a .word) (taken told) in
+    let s = start step in
+    let a = s .args in
+    let t = rowsOf (a .cells .now) in
+    let is = lineOf-taken t (a .place) (a .word) (taken told) in
     record {
       becomes = step .advance .ensures .becomes;
       taken-is = sym (taken told);
-      appended = appended-as (printed counted ∙ sym is) (c .before .before .put-line .ensures);
+      carries = λ _. carried-event t (a .word) _ _ (moved told) (s .pre .inside-is) (put .carried .ensures);
+      appended = appended-as (printed put ∙ sym is) (c .before .before .put-line .ensures);
     }
 
 same-length-3 : tie.Need-same-length-3
@@ -168,6 +181,7 @@ returns-2 c =
     record {
       becomes = answered why .advance .ensures .becomes;
       taken-is = sym (stopped why);
+      carries = λ h. absurd (false≢true (sym (stopped why) ∙ h));
       appended = appended-as (last-is why) (c .before .before .put-stop .ensures);
     }
 
@@ -178,9 +192,9 @@ put-word-spec =
     process-of-requires
     location-at-requires
     advance-requires
-    enum-told
+    enum-known-told
     location-at-requires-2
-    count-critical-requires
+    carried-requires
     cast-process
     slice-aggregate-put-line
     slice-aggregate-put-line-2
