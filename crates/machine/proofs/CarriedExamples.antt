@@ -1,5 +1,6 @@
--- The number at 30, carried along, evaluated: a sound image with two processes at 30, which no fresh table leads to; one
--- departs, another arrives beside the one that is still there, and no other step changes the number. Assumes nothing.
+-- The number at 30, carried along, evaluated: from a sound image with two processes there, which no fresh table leads
+-- to, one departs, another arrives beside the one that is still there, both depart later, and no other step changes the
+-- number. Assumes nothing.
 use Prim.Native.Nat.{ℕ}
 use mathlib.Core.Path.{_≡_, refl}
 use mathlib.Core.List.{List, [], _∷_, _++_}
@@ -8,7 +9,7 @@ use Rattle.machine.specs.Rows.{idle, withLocation, withAct}
 use Rattle.machine.specs.Tables.{Table}
 use Rattle.machine.specs.Steps.{afterWords, eventOf}
 use Rattle.machine.specs.Census.{critical, upTo, censusOf}
-use Rattle.machine.specs.Runs.{carriedOver}
+use Rattle.machine.specs.Runs.{carriedOver, runOf}
 use Rattle.machine.specs.Images
 use Rattle.machine.specs.Bytes.{wordsIn, bytesOf}
 use Rattle.machine.specs.Inputs.{wordsHold, inputOf}
@@ -56,15 +57,25 @@ pub two-at-30-told :
 unfolding told evaluated
 two-at-30-told = refl
 
--- the image of that table and the words, as bytes
+-- a run counts them as words: 7 were taken, up to the CANCEL, with one COME and one arrival
+pub departure-is-a-word : runOf start words .tally ≡ record { words = 7; comes = 1; arrivals = 1 }
+unfolding evaluated
+departure-is-a-word = refl
+
+-- ---- its text
+
+pub image : List ℕ
+image =
+    0x80000003 ∷ 0x90006200 ∷ 0xA0000000 ∷ 0xB0000000 ∷ 0xC0000000 ∷ 0x90016200 ∷ 0xA0010000 ∷ 0xB0010000 ∷
+    0xC0010000 ∷ 0x90022200 ∷ 0xA0020000 ∷ 0xB0020000 ∷ 0xC0020000 ∷ 0xD0010000 ∷ 0xD0020000 ∷ []
+
+pub two-at-30-image : Images.imageOf start ≡ image
+unfolding image Images.rowSlots Images.turnSlots Images.slots Images.bodyOf Images.wordIn Images.imageOf
+two-at-30-image = refl
+
 pub input : List ℕ
-unfolding bytesOf
-input =
-    bytesOf (
-    (0x80000003 ∷ 0x90006200 ∷ 0xA0000000 ∷ 0xB0000000 ∷ 0xC0000000 ∷ 0x90016200 ∷ 0xA0010000 ∷ 0xB0010000 ∷
-    0xC0010000 ∷ 0x90022200 ∷ 0xA0020000 ∷ 0xB0020000 ∷ 0xC0020000 ∷ 0xD0010000 ∷ 0xD0020000 ∷ [])
-    ++ words
-    )
+unfolding image bytesOf
+input = bytesOf (image ++ words)
 
 pub text : List ℕ
 text =
@@ -88,7 +99,7 @@ text =
     115 ∷ 116 ∷ 111 ∷ 112 ∷ 32 ∷ 55 ∷ 32 ∷ 49 ∷ 48 ∷ 10 ∷ []
 
 pub two-at-30-printed : printed input ≡ text
-unfolding input text evaluated Images.rowSlots Images.turnSlots Images.slots Images.spareBody Images.inRange
+unfolding image input text evaluated Images.rowSlots Images.turnSlots Images.slots Images.spareBody Images.inRange
     Images.slotRefusal Images.firstRefusal Images.rowsIn Images.imageRefusal Images.tableIn printed digits spaced
     runLines textOf inputOf wordsHold wordsIn
 two-at-30-printed = refl

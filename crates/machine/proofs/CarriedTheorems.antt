@@ -11,7 +11,7 @@
 use Prim.Native.Nat.{ℕ, _+_, _≤_}
 use mathlib.Core.Path.{_≡_, refl, sym, ap, _∙_}
 use mathlib.Core.Bool.{Bool, true, false, cond, _&&_, _||_, not}
-use mathlib.Core.List.{List, [], _∷_, _++_}
+use mathlib.Core.List.{List, [], _∷_}
 use native.Mathlib.Omega.{arith}
 use lib.Dec.{eqb}
 use lib.ListN.{length}
@@ -135,12 +135,3 @@ pub census-carried : (t : Table) (ws : List ℕ)
     → carriedOver t (critical t) ws ≡ censusOf (afterWords t ws) .critical
 census-carried t ws sound =
     critical-carried t ws ∙ sym (answered (afterWords t ws) (words-keep-sound t ws sound))
-
--- one word more, at the end
-pub carriedOver-snoc : (t : Table) (n : ℕ) (ws : List ℕ) (w : ℕ)
-    → refusalOf (afterWords t ws) w ≡ 0
-    → carriedOver t n (ws ++ (w ∷ [])) ≡ carried (eventOf (afterWords t ws) w) (carriedOver t n ws)
-unfolding carriedOver afterWords
-carriedOver-snoc t n [] w z =
-    ap (λ (b : Bool). cond b (carried (eventOf t w) n) n) (eq-eqb (refusalOf t w) accepted z)
-carriedOver-snoc t n (v ∷ ws) w z = carriedOver-snoc (afterWord t v) _ ws w z

@@ -1,5 +1,5 @@
 -- A run, an execution of the system by a list of words up to the first that is refused, and its tally, the counters of
--- its events; the number at 30 that goes along (MANUAL, "Runs" and "Census").
+-- words, COMEs and arrivals; the number at 30 that goes along (MANUAL, "Runs" and "Census").
 --
 --   counted e h      ==  the tally h after an accepted word with event e.
 --   carried e n      ==  the number at 30 after such a word, from the number n before it.

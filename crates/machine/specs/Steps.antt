@@ -8,7 +8,7 @@
 --   refusalOf t w    ==  the step's refusal: 6, 7, then the word's, or 0.
 --   afterWord t w    ==  the table after the step; the one given where the step refuses.
 --   afterWords t ws  ==  the table after a list of words, given one by one; a refused word is passed over.
---   eventOf t w      ==  the event of an accepted word: a COME, an arrival at 30, a departure from 30, or none of these.
+--   eventOf t w      ==  the event of an accepted word: a COME, an arrival at 30, a departure from 30, or none.
 --   toldOf t w       ==  what the step tells of an accepted word; `quiet` is nothing, `withEvent` sets a field.
 --   answerOf t w     ==  the step's answer: what it tells of an accepted word, or the number of the refusal.
 --   stepAnswerOf t w ==  the step's answer to C.

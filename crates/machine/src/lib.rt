@@ -177,7 +177,7 @@ pub enum Stepped {
     Refused(u16),
 }
 
-// The tally of a run, counters of its events: words taken, COMEs, arrivals at 30.
+// The tally of a run, its counters: words taken, COMEs, arrivals at 30.
 #[repr(C)]
 pub struct Tally {
     pub words: u32,

@@ -1,7 +1,7 @@
 -- A run is single steps: for o = runOf t ws, of a table and words of any kind, the table at the end is that after the
 -- words taken, given one by one (`run-table`). Where the run began, each word taken was accepted, and a run that did
--- not take all words met a word that the step refuses, with the same number (`run-stepwise`). The number at 30 that is
--- carried over the words taken is the census's of the table at the end (`run-critical`).
+-- not take all words met a word that the step refuses, with the same number (`run-stepwise`). From a sound table the
+-- number at 30 that is carried over the words taken is the census's of the table at the end (`run-critical`).
 --
 -- Assumes nothing.
 use Prim.Native.Nat.{ℕ, zero, suc, _+_, _≤_, _<_}
@@ -16,8 +16,8 @@ use Rattle.machine.specs.Steps.{refusalOf, afterWord, afterWords, eventOf}
 use Rattle.machine.specs.Census.{critical, censusOf}
 use Rattle.machine.specs.Runs.{Outcome, ended, untaken, counted, carriedOver, zeroTally, limit, runFrom, runOf}
 use Rattle.machine.specs.declared.Tally.{Tally}
-use Rattle.runs.proofs.RunLaws.{run-more, run-stop, run-end, counted-words}
-use Rattle.machine.proofs.RunLaws.{runOf-table, runOf-words, runOf-taken}
+use Rattle.machine.proofs.RunLaws.{runOf-table, runOf-words, runOf-taken, counted-words}
+use Rattle.runs.proofs.RunLaws.{run-more, run-stop, run-end}
 use Rattle.machine.proofs.CarriedTheorems.{census-carried}
 
 -- k words were taken of ws, from table t, with outcome o
@@ -123,7 +123,8 @@ run-table t ws = go (ℕ-discrete (tableRefusal t) 0) (decLt limit (length ws))
     go (yes z) (yes m) = none-taken t ws tooManyWords (runOf-words t ws z m)
     go (yes z) (no m) = run-stepwise t ws z (omega (arith, m)) .taken
 
--- the number at 30, carried over the words taken, which are those up to the first that is refused
+-- the number at 30, carried over the words taken, which are those up to the first that is refused; and so after each of
+-- them, for the first words of a list are a list
 pub run-critical : (t : Table) (ws : List ℕ)
     → tableRefusal t ≡ 0
     → carriedOver t (critical t) (take (runOf t ws .tally .words) ws) ≡ censusOf (runOf t ws .table) .critical

@@ -2,7 +2,7 @@
 --
 --   run-more, run-stop, run-end      a word that is accepted, one that is refused, and no word left
 --   run-turn, run-halt, run-past     the same at word i of a list
---   counted-words, -comes, -arrivals how a word counts
+--   counted-comes, counted-arrivals  how a word counts
 --   runs-ended, runs-as              what the answer of a run says of its outcome
 --   runOf-table, runOf-words, runOf-taken    a run with a refused table, with too many words, and the others
 --
@@ -85,12 +85,6 @@ pub run-past : (t : Table) (h : Tally) (ws : List ℕ) (i : ℕ)
 run-past t h ws i e = ap (λ (k : ℕ). runFrom t h (drop k ws)) e ∙ ap (runFrom t h) (drop-length ws) ∙ run-end t h
 
 -- ---- the tally
-
-pub counted-words : (e : Event) (h : Tally) → counted e h .words ≡ h .words + 1
-counted-words Quiet h = refl
-counted-words Come h = refl
-counted-words Arrival h = refl
-counted-words Departure h = refl
 
 pub counted-comes : (e : Event) (h : Tally) → counted e h .comes ≤ h .comes + 1
 counted-comes Quiet h = omega arith

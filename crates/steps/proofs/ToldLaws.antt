@@ -38,13 +38,16 @@ module _ {x y : List (List ℕ)} {p : ℕ} where
       }
 
   -- at 21, by whether the level is 0
-  passes : (b : Bool) {s : Told} → own x p .location ≡ 21 → eqb (own x p .level) 0 ≡ b → s ≡ of (cond b Event.Arrival Event.Quiet)
+  passes : (b : Bool) {s : Told} → own x p .location ≡ 21 → eqb (own x p .level) 0 ≡ b
+      → s ≡ of (cond b Event.Arrival Event.Quiet)
       → Becomes x (gone (rowsOf x) p) y
       → Goes x p y s
   passes b there level told =
       goes-at 21 there (told ∙ ap (λ (c : Bool). of (cond c Event.Arrival Event.Quiet)) (sym level))
 
-  pub goes-above : own x p .location ≡ 21 → (own x p .level ≡ 0 → ⊥) → Becomes x (gone (rowsOf x) p) y → Goes x p y quiet
+  pub goes-above : own x p .location ≡ 21 → (own x p .level ≡ 0 → ⊥)
+      → Becomes x (gone (rowsOf x) p) y
+      → Goes x p y quiet
   goes-above there ne = passes false there (ne-eqb (own x p .level) 0 ne) refl
 
   pub goes-arrives : {s : Told} → s ≡ withEvent Event.Arrival quiet → own x p .location ≡ 21 → own x p .level ≡ 0

@@ -32,7 +32,7 @@ use Rattle.cells.specs.View.{rowsOf, Becomes}
 
 -- ---- what is told, read before the step
 
--- GO at 21 with level 0 goes to 30, GO at 30 goes elsewhere, and no other step does either
+-- GO at 21 with level 0 goes to 30, GO at 30 leaves it, and no other step does either
 abbrev pub goEvent : Row → Event
 goEvent r =
     cond (eqb (r .location) 21 && eqb (r .level) 0) Event.Arrival

@@ -1,4 +1,5 @@
--- Decimal digits: one more possible digit changes nothing, and how many there are. Assumes nothing.
+-- Decimal digits: one more possible digit changes nothing, how many there are, and the last two apart from the others.
+-- Assumes nothing.
 use mathlib.Core.Path.{_≡_, refl, sym, ap, ap₂, _∙_}
 use mathlib.Core.Bool.{Bool, true, false}
 use mathlib.Core.List.{List, [], _∷_, _++_, append-assoc}

@@ -18,9 +18,8 @@ use Rattle.machine.specs.Bytes.{wordsIn, bytesFit}
 use Rattle.machine.specs.Inputs.{imagePart, eventPart, Input, inputOf}
 use Rattle.machine.specs.Text.{postsText, spaced, wordFields, postsLine, doneLine, stopLine, runLines, textOf, printed}
 use Rattle.machine.specs.declared.Event.{Event}
-use Rattle.machine.specs.declared.Event.the-variants.{Quiet, Come, Arrival, Departure}
 use Rattle.machine.specs.declared.Tally.{Tally}
-use Rattle.machine.proofs.RunLaws.{runOf-words, runOf-taken}
+use Rattle.machine.proofs.RunLaws.{runOf-words, runOf-taken, counted-words}
 use Rattle.image_theorems.proofs.InputTheorems.{table-fits, holds-ready, holds-too-many}
 use Rattle.text.specs.Running.{takes, lineOf}
 use Rattle.text.proofs.RunLaws.{lineOf-taken, lineOf-stopped, runLines-taken, runLines-stopped}
@@ -33,10 +32,7 @@ lastLine o =
 -- ---- the lines of a run, and its outcome
 
 counted-suc : (e : Event) (h : Tally) → counted e h .words ≡ suc (h .words)
-counted-suc Quiet h = add-one (h .words)
-counted-suc Come h = add-one (h .words)
-counted-suc Arrival h = add-one (h .words)
-counted-suc Departure h = add-one (h .words)
+counted-suc e h = counted-words e h ∙ add-one (h .words)
 
 -- a text up to a line feed, then the last line
 abbrev Ends : List ℕ → Outcome → Type 0

@@ -15,7 +15,8 @@ use Rattle.machine.specs.Runs.{carried, carriedOver}
 use Rattle.machine.specs.Text.{doneLine, runLines}
 use Rattle.machine.proofs.Accepted.{afterWords-snoc}
 use Rattle.machine.proofs.Soundness.{word-keeps-sound}
-use Rattle.machine.proofs.CarriedTheorems.{critical-carried, carriedOver-snoc}
+use Rattle.machine.proofs.RunLaws.{carriedOver-snoc}
+use Rattle.machine.proofs.CarriedTheorems.{critical-carried}
 use Rattle.text.specs.Appending.{Appended}
 use Rattle.text.specs.Running.{takes, lineOf}
 use Rattle.text.proofs.RunLaws.{runLines-taken, runLines-stopped, runLines-done}

@@ -7,13 +7,11 @@ use native.Mathlib.Omega.{arith}
 use borrow.Author.Tests.{eqb-true, leb-true}
 use lib.Dec.{eqb, ltb, leb}
 use lib.ListN.{length, length-append}
-use Rattle.counting.proofs.CountLaws.{count-le}
 use Rattle.counting.proofs.TestLaws.{cond-le}
 use Rattle.machine.specs.Refusals.{accepted, tooManyWords, badBytes}
 use Rattle.machine.specs.Tables.{Table, row, tableRefusal, locations}
 use Rattle.machine.specs.Words.{kindOf, processOf, argumentOf, formed}
 use Rattle.machine.specs.Steps.{allowed, argumentFits, wordRefusal, refusalOf, afterWord}
-use Rattle.machine.specs.Census.{isCritical}
 use Rattle.machine.specs.Runs.{limit}
 use Rattle.machine.specs.Text.{inputText, imageText, postsText, doneText, stopText, line}
 use Rattle.machine.specs.Text.{wordLine, doneLine, stopLine, runLines}
@@ -25,6 +23,7 @@ use Rattle.text.specs.Running.{takes, lineOf, lineRoom, lastRoom, headRo
 use Rattle.text.proofs.LineLaws.{length-line}
 use Rattle.text.proofs.LineLaws.Within.{last, then}
 use Rattle.text.proofs.RunLaws.{lineOf-taken, lineOf-stopped, runLines-taken, runLines-stopped, runLines-done}
+use Rattle.text.proofs.RunLaws.{few-critical}
 
 -- ---- the last line
 
@@ -87,7 +86,7 @@ module _ (t : Table) (i w : ℕ) (sound : tableRefusal t ≡ 0) (few : i < limit
       let same = word-keeps-length t w in
       let before = location-low t sound p (says .process-in) in
       let after = location-low u (word-keeps-sound t w sound) p (omega (arith, says .process-in)) in
-      let inside = count-le (λ q. isCritical (row u q)) (length u) in
+      let inside = few-critical u (word-keeps-sound t w sound) in
       let most = sound-few t sound in
       let long : length (wordLine t i w) ≤ lineRoom =
       length-line []

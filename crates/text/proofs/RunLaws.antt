@@ -83,8 +83,10 @@ module _ (t : Table) (w : ℕ) where
 pub few-cells : (x : List (List ℕ)) → tableRefusal (rowsOf x) ≡ 0 → length x ≤ 16
 few-cells x sound = omega (arith, rows-length x, sound-few (rowsOf x) sound)
 
--- where the step has moved: n of them before it, and m carried
+pub few-critical : (t : Table) → tableRefusal t ≡ 0 → critical t ≤ 16
+few-critical t sound = omega (arith, count-le (λ q. isCritical (row t q)) (length t), sound-few t sound)
 
+-- where the step has moved: n processes at 30 before it, and m carried
 module _ (t : Table) (w n : ℕ) (s : Told) (moved : answerOf t w ≡ Stepped.Moved s) (is : n ≡ critical t) where
   taken : refusalOf t w ≡ 0
   taken = answer-moved t w s moved .0
@@ -96,7 +98,7 @@ module _ (t : Table) (w n : ℕ) (s : Told) (moved : answerOf t w ≡ Stepped.Mo
   may-carry sound =
       record {
         some = λ e. omega (arith, some-departs t w taken (sym event-is ∙ e));
-        few = omega (arith, count-le (λ q. isCritical (row t q)) (length t), sound-few t sound);
+        few = omega (arith, few-critical t sound);
       }
 
   pub carried-event : {m : ℕ} → m ≡ carried (s .event) n → m ≡ carried (eventOf t w) n

@@ -1,7 +1,7 @@
 -- Bytes put into a lent buffer after those that are there: the one contract of every function that prints.
 --
 --   Appended d at s y e  <=>  the buffer d has become y, with s from place `at` on, and s ends at place e.
---   pair n               ==   the last two digits of a number below 100.
+--   pair n               ==   a number below 100 as two digits, the first 0 below 10.
 --   PairReady d at n     <=>  n is below 100, and d has room from `at` on for two digits.
 --   ShortReady d at n    <=>  n is below 100, and d has room from `at` on for its digits.
 --   LongReady d at n     <=>  d has room from `at` on for the digits of n, which are three or more.

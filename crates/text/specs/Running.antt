@@ -2,10 +2,8 @@
 --
 --   lineOf t i w          ==   what is printed for word w, which is word i, at table t: its line, or the last line.
 --   Carries e n           <=>  the number n at 30 can be carried over a word with event e.
---   WordReady x n d at i w  <=>  the cells x hold a sound table with n processes at 30, and the buffer d has room from
---                                `at` on for that line.
---   WordPrinted ..        <=>  the line of a word is in the buffer, the cells are as the step leaves them, and the number
---                              at 30 is carried.
+--   WordReady ..          <=>  the cells hold a sound table, n of it at 30, and the buffer has room for the line.
+--   WordPrinted ..        <=>  the line is in the buffer, the cells are as the step leaves them, and n is carried.
 --   RunReady x d at ws    <=>  the cells x hold a sound table, and the buffer d has room from `at` on for its lines.
 --   LinesReady x at ws    <=>  the cells x hold a sound table, and its lines are to start at place `at`.
 --

@@ -48,7 +48,7 @@ fn digit(n: u32) -> u8
     (48 + n) as u8
 }
 
-// The last two digits of a number below 100.
+// A number below 100 as two digits, the first 0 below 10.
 fn put_pair(out: &mut [u8], at: usize, n: u32) -> usize
     requires { ⌜ PairReady (now out) at n ⌝ }
     ensures { λ r. ⌜ Appended (now (out .entry)) at (pair n) (now (out .exit)) r ⌝ }
@@ -68,7 +68,7 @@ fn put_short(out: &mut [u8], at: usize, n: u32) -> usize
     put_pair(out, at, n)
 }
 
-// The decimal digits of a number of three or more: those of its hundredth, and the last two.
+// The decimal digits of a number that has three or more: those of its hundredth, and the last two.
 fn put_long(out: &mut [u8], at: usize, n: u32) -> usize
     requires { ⌜ LongReady (now out) at n ⌝ }
     ensures { λ r. ⌜ Appended (now (out .entry)) at (decimal n) (now (out .exit)) r ⌝ }
@@ -81,7 +81,7 @@ fn put_long(out: &mut [u8], at: usize, n: u32) -> usize
     put_pair(out, end, n % 100)
 }
 
-// The decimal digits of a number. Most have one or two, and are put without a call.
+// The decimal digits of a number. Most have one or two, which the compiler puts in line.
 pub(crate) fn put_number(out: &mut [u8], at: usize, n: u32) -> usize
     requires { ⌜ at + length (decimal n) ≤ length (now out) ⌝ }
     ensures { λ r. ⌜ Appended (now (out .entry)) at (decimal n) (now (out .exit)) r ⌝ }

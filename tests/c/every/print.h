@@ -76,8 +76,8 @@ static void print_cancel(void) {
            "done 5\n");
 }
 
-/* Processes 0 and 1 are at 30, process 2 at 21 on level 0: 0 departs, 2 arrives beside 1, 0 goes on to 22, 1 departs; a CANCEL at
-   22 is refused. */
+/* Processes 0 and 1 are at 30, process 2 at 21 on level 0: 0 departs, 2 arrives beside 1, 0 goes on to 22, 1 departs; a
+   CANCEL at 22 is refused. */
 static void print_two_at_30(void) {
     static const uint32_t nine[9] = {0x40000000, 0x40020000, 0x40000000, 0x20000000, 0x40000000,
                                      0x40000000, 0x40010000, 0x60000000, 0x40020000};

@@ -13,8 +13,9 @@ use Rattle.machine.specs.declared.Tally.{Tally}
 use Rattle.machine.proofs.Soundness.{word-keeps-sound}
 use Rattle.cells.specs.View.{rowsOf}
 use Rattle.machine.proofs.AnswerLaws.{answer-moved, answer-refused}
+use Rattle.machine.proofs.RunLaws.{counted-words}
 use Rattle.runs.proofs.RunLaws.{run-turn, run-halt, run-past, runs-ended}
-use Rattle.runs.proofs.RunLaws.{counted-words, counted-comes, counted-arrivals}
+use Rattle.runs.proofs.RunLaws.{counted-comes, counted-arrivals}
 use Rattle.runs.proofs.run_words.Statement.{statement}
 use Rattle.runs.proofs.run_words.Tie as tie
 

@@ -6,8 +6,8 @@ use crate::row::{at_30, Row, LOCATIONS, MOST};
 use crate::run::{take_all, MOST_WORDS};
 use crate::word::CANCEL;
 
-/// Calls by kind, refusals by kind and number, words taken; and for each number of processes the CANCELs among these, the
-/// lines of printed runs with two or more processes at 30, and visits of each location; lines with ten or more at 30.
+/// Calls by kind, refusals by kind and number, words taken; for each number of processes the CANCELs among these, the
+/// lines of printed runs with two or more at 30, and visits of each location; lines with ten or more at 30.
 #[derive(Clone, Debug, Default)]
 pub struct Counts {
     pub calls: [u64; Kind::ALL.len()],
@@ -127,7 +127,8 @@ impl Counts {
         let refusals = self.met().into_iter().enumerate().map(|(number, met)| (number.to_string(), met));
         let visits = LOCATIONS.iter().map(|loc| loc.to_string()).zip(total);
         out + &format!(
-            "\nsummary: seed {seed}: calls [{}] words {} cancels {} lines with two at 30 {}, with ten {} refusals [{}] visits [{}]",
+            "\nsummary: seed {seed}: calls [{}] words {} cancels {} lines with two at 30 {}, with ten {} \
+             refusals [{}] visits [{}]",
             listed(calls),
             self.words,
             self.cancels.iter().sum::<u64>(),

@@ -15,18 +15,18 @@ pub fn fresh_table(rng: &mut Random, n: usize) -> Vec<Row> {
     rows
 }
 
-/// Any sound table, reachable or not. In a crowded one most processes are at 30, or at 21 with level 0, whence they arrive.
+/// Any sound table, reachable or not. In a crowded one most are at 30, or at 21 with level 0, whence they arrive.
 pub fn sound_table(rng: &mut Random, n: usize) -> Vec<Row> {
     let most_level = rng.pick(&[n, n, 2, 3]).min(n);
     let most_code = rng.pick(&[8, 8, 8, 7]);
     let crowded = rng.chance(1, 8);
     (0..n)
         .map(|k| {
-            let waits = crowded && rng.chance(7, 8);
-            let loc = if waits { rng.pick(&[21, 30, 30]) } else { LOCATIONS[rng.below(most_code)] };
+            let in_crowd = crowded && rng.chance(7, 8);
+            let loc = if in_crowd { rng.pick(&[21, 30, 30]) } else { LOCATIONS[rng.below(most_code)] };
             let level = match loc {
                 22..=24 => rng.within(1, (most_level - 1).max(1)),
-                21 if waits => 0,
+                21 if in_crowd => 0,
                 30 => 0,
                 _ => rng.below(most_level),
             };

@@ -15,8 +15,8 @@ pub use image::{read_image, write_image};
 pub use words::{put_together, take_apart};
 
 /// One error put into the model; the first group is of errors that are near, the third of CANCEL and the kinds, the
-/// fourth of the printed number at 30, as one that is carried from word to word may have them, the last that of memory lent
-/// by C and of answers in records.
+/// fourth of the printed number at 30, which may be carried wrongly, the last that of memory lent by C and of answers in
+/// records.
 #[derive(Clone, Copy, Debug, PartialEq, Eq)]
 pub enum Fault {
     None,

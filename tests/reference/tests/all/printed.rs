@@ -13,7 +13,7 @@ fn text(engine: &dyn Engine, rows: &[Row], words: &[u32]) -> String {
     String::from_utf8(engine.text(&input)).expect("a text")
 }
 
-/// Two at 30 in the image: one departs, another arrives beside the one that is there; 40 to 10 and 21 to 22 change nothing.
+/// Two at 30 in the image: one departs, another arrives beside the one there; 40 to 10 and 21 to 22 change nothing.
 #[test]
 fn two_at_30() {
     let at = |loc| Row { loc, act: 1, ..Row::IDLE };

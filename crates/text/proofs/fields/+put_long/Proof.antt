@@ -1,12 +1,12 @@
 -- `text::fields::put_long` meets its contract: it calls itself for a hundredth of the number, which is less.
 -- Assumes nothing.
 use native.Mathlib.Omega.{arith}
-use mathlib.Core.Path.{sym, _∙_}
+use mathlib.Core.Path.{_≡_, sym, _∙_}
 use mathlib.Core.List.{List}
-use Prim.Native.Nat.{ℕ, _/_, _%_, _^_, _<_, _≤_}
+use Prim.Native.Nat.{ℕ, _+_, _/_, _%_, _^_, _<_, _≤_}
 use lib.ListN.{length}
 use Rattle.machine.specs.Text.{decimal}
-use Rattle.text.specs.Appending.{Appended, pair}
+use Rattle.text.specs.Appending.{Appended, PairReady, pair}
 use Rattle.text.proofs.AppendingLaws.{appended-as, appended-then}
 use Rattle.text.proofs.DigitLaws.{decimal-long, length-decimal-long}
 use borrow.Fn.Kinds.{In}
@@ -45,6 +45,12 @@ last-pair : {d y z : List ℕ} {at e f : ℕ} (n : ℕ) → n < 2 ^ 32 → 100 �
 last-pair n small long inside first last =
     appended-as (sym (decimal-long n small long)) (appended-then inside first last)
 
+-- and there is room for these
+pair-fits : {y : List ℕ} {e k : ℕ} (n at : ℕ) → n < 2 ^ 32 → 100 ≤ n → at + length (decimal n) ≤ k → length y ≡ k
+    → e ≡ at + length (decimal (n / 100)) → PairReady y e (n % 100)
+pair-fits n at small long room same end =
+    record { low = omega arith; room = omega (arith, length-decimal-long n small long) }
+
 module _ (t : ℕ) where
   -- ---- three or four digits
 
@@ -58,11 +64,8 @@ module _ (t : ℕ) where
   put-pair-requires c κs =
       let p = c .before .before .before in
       let s = p .before .before .before .before in
-      let more = length-decimal-long (s .args .n) (s .fits .n .fits) (s .pre .1 .long) in
-      record {
-        low = omega arith;
-        room = omega (arith, p .put-short .kept .0, p .put-short .ensures .end-is, s .pre .1 .room);
-      }
+      pair-fits (s .args .n) (s .args .at) (s .fits .n .fits) (s .pre .1 .long) (s .pre .1 .room)
+      (p .put-short .kept .0) (p .put-short .ensures .end-is)
 
   same-length : put-long-lts.Need-same-length (calls t) (put-long-at t) put-long.Post
   same-length c =
@@ -91,11 +94,8 @@ module _ (t : ℕ) where
   put-pair-requires-2 c κs =
       let p = c .before .before .before in
       let s = p .before .before .before .before in
-      let more = length-decimal-long (s .args .n) (s .fits .n .fits) (s .pre .1 .long) in
-      record {
-        low = omega arith;
-        room = omega (arith, p .put-long .kept .0, p .put-long .ensures .end-is, s .pre .1 .room);
-      }
+      pair-fits (s .args .n) (s .args .at) (s .fits .n .fits) (s .pre .1 .long) (s .pre .1 .room)
+      (p .put-long .kept .0) (p .put-long .ensures .end-is)
 
   same-length-2 : put-long-lts.Need-same-length-2 (calls t) (put-long-at t) put-long.Post
   same-length-2 c =
