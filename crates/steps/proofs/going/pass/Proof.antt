@@ -1,5 +1,6 @@
 -- `going::pass` meets its contract: GO at 21, which arrives at level 0. Assumes nothing.
-use mathlib.Core.Path.{_≡_, sym, ap, _∙_}
+use native.Mathlib.Omega.{arith}
+use mathlib.Core.Path.{_≡_, ap}
 use Rattle.machine.specs.Tables.{row}
 use Rattle.machine.specs.Steps.{gone}
 use Rattle.machine.specs.declared.Row.{Row}
@@ -48,7 +49,7 @@ returns : tie.Need-returns
 returns c =
     let k = c .before .before in
     let there = k .before .before .before .before .before .before .before .pre .there in
-    goes-arrives (c .with-event .ensures) there (sym (level k) ∙ c .before .if1 .taken) (passes k)
+    goes-arrives (c .with-event .ensures) there (omega (arith, level k, c .before .if1 .taken)) (passes k)
 
 same-length-2 : tie.Need-same-length-2
 same-length-2 c = search needs
@@ -57,7 +58,7 @@ returns-2 : tie.Need-returns-2
 returns-2 c =
     let k = c .before in
     let there = k .before .before .before .before .before .before .before .pre .there in
-    goes-above there (λ z. c .if1 .left (level k ∙ z)) (passes k)
+    goes-above there (λ z. omega (arith, level k, c .if1 .left)) (passes k)
 
 pub pass-spec : {M : Type 1} → statement M
 pass-spec =
