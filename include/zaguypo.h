@@ -12,9 +12,9 @@
 
 /* The first number rises with a change that a host compiled before would not survive, the second with any other change of
    an answer or of the interface. CHANGELOG.md says what each version changed. */
-#define ZAGUYPO_VERSION "1.2.0"
-#define ZAGUYPO_VERSION_MAJOR 1
-#define ZAGUYPO_VERSION_MINOR 2
+#define ZAGUYPO_VERSION "2.0.0"
+#define ZAGUYPO_VERSION_MAJOR 2
+#define ZAGUYPO_VERSION_MINOR 0
 #define ZAGUYPO_VERSION_PATCH 0
 
 #define ZAGUYPO_MOST_PROCESSES 16
@@ -22,7 +22,7 @@
 #define ZAGUYPO_IMAGE_WORDS(n) (5 * (n))          /* the words of an image of n processes */
 #define ZAGUYPO_IMAGE_BYTES(n) (20 * (n))         /* and its bytes */
 #define ZAGUYPO_INPUT_BYTES 33088                 /* the most bytes of an input */
-#define ZAGUYPO_TEXT_BYTES 139300                 /* room for every printed text */
+#define ZAGUYPO_TEXT_BYTES 180260                 /* room for every printed text */
 
 #ifdef __cplusplus
 extern "C" {
@@ -69,12 +69,24 @@ struct zaguypo_row {
    where there are not 2 to 16 rows, and no row changes. */
 uint16_t zaguypo_fresh(struct zaguypo_row *rows, size_t size);
 
-/* The answer of a step: the refusal or 0. Later versions may add fields. */
-struct zaguypo_stepped {
-    uint16_t refusal;
+/* The shared cell that a word used, since version 2.0.0: act of a process or turn[k], read or written. Where it used none, and
+   where it was refused, all three are 0. A LOOK at process q reads act of q; FLICKER and GO at 20 and at 40 write act of their
+   process, at 24 turn[level]; GO at 23 reads turn[level] where est has at least level members and bb is not 0; no other word uses
+   one. The level is that before the step ("Shared cells"). */
+struct zaguypo_cell {
+    uint16_t access;   /* 0 none, 1 read, 2 written */
+    uint16_t variable; /* 0 none, 1 act, 2 turn */
+    uint16_t index;    /* the process of act, the k of turn[k] */
 };
 
-/* One step by one word. The refusal is 0 and the rows are moved; or it is 6, 7 or 8 to 11, and no row changes. */
+/* The answer of a step: the refusal or 0, and the cell that the word used. Later versions may add fields. */
+struct zaguypo_stepped {
+    uint16_t refusal;
+    struct zaguypo_cell cell;
+};
+
+/* One step by one word. The refusal is 0 and the rows are moved; or it is 6, 7 or 8 to 11, no row changes, and the cell is
+   none. */
 struct zaguypo_stepped zaguypo_step(struct zaguypo_row *rows, size_t size, uint32_t word);
 
 /* What went along with a run. */
@@ -82,9 +94,11 @@ struct zaguypo_tally {
     uint32_t words, comes, arrivals;
 };
 
-/* The answer of a run: how many words were taken, and the refusal or 0. */
+/* The answer of a run: how many words were taken, the refusal or 0, and the cell of the last word taken, which is none where none
+   was. */
 struct zaguypo_ran {
     uint32_t taken, refusal;
+    struct zaguypo_cell cell;
 };
 
 /* A run: the words in order, up to the first that is refused. Refusals 6, 7 and then 12 take no word and change no row. The

@@ -15,18 +15,20 @@ struct given {
     uint8_t input[ZAGUYPO_INPUT_BYTES];
 };
 
-/* No byte is between the fields. The text is last: only its first text_len bytes are ever written. */
+/* No byte is between the fields, so that whole answers can be compared; of struct zaguypo_ran, which ends in padding,
+   the fields are kept. The text is last: only its first text_len bytes are ever written. */
 struct answers {
     uint64_t run, printed;
     struct zaguypo_row fresh[16], stepped[16], run_rows[16], read[16];
     struct zaguypo_tally tally;
-    struct zaguypo_ran ran;
+    uint32_t ran_taken, ran_refusal;
     struct zaguypo_word word;
     uint32_t written[ZAGUYPO_IMAGE_WORDS(16)];
     struct zaguypo_parts parts;
     struct zaguypo_figures figures;
     struct zaguypo_reading reading;
     struct zaguypo_stepped step;
+    struct zaguypo_cell ran_cell;
     uint16_t made, wrote;
     uint8_t image[ZAGUYPO_IMAGE_BYTES(16)];
     char text[ZAGUYPO_TEXT_BYTES];
@@ -45,7 +47,8 @@ static void call_step(const struct given *g, struct answers *a) {
 }
 static void call_run_rows(const struct given *g, struct answers *a) {
     memcpy(a->run_rows, g->rows, sizeof g->rows);
-    a->ran = zaguypo_run_rows(a->run_rows, g->size, g->words, g->count, &a->tally);
+    const struct zaguypo_ran ran = zaguypo_run_rows(a->run_rows, g->size, g->words, g->count, &a->tally);
+    a->ran_taken = ran.taken, a->ran_refusal = ran.refusal, a->ran_cell = ran.cell;
 }
 static void call_census(const struct given *g, struct answers *a) { a->figures = zaguypo_census(g->rows, g->size); }
 static void call_read(const struct given *g, struct answers *a) {

@@ -30,10 +30,13 @@ Words put_together() {
 void step_rows(const Words &words) {
     Table rows{};
     check("fresh", zaguypo_fresh(rows.data(), rows.size()) == 0 && rows[0].location == 10 && rows[2].location == 10);
-    check("step", zaguypo_step(rows.data(), rows.size(), words.come).refusal == 0 && rows[1].location == 20);
+    const zaguypo_stepped stepped = zaguypo_step(rows.data(), rows.size(), words.come);
+    check("step", stepped.refusal == 0 && rows[1].location == 20);
+    check("step, no cell", stepped.cell.access == 0 && stepped.cell.variable == 0 && stepped.cell.index == 0);
     zaguypo_tally tally{};
     const zaguypo_ran ran = zaguypo_run_rows(rows.data(), rows.size(), &words.go, 1, &tally);
     check("run_rows", ran.taken == 1 && ran.refusal == 0 && rows[1].location == 21 && rows[1].est == 5);
+    check("run_rows, act of 1 written", ran.cell.access == 2 && ran.cell.variable == 1 && ran.cell.index == 1);
     check("tally", tally.words == 1 && tally.comes == 0 && tally.arrivals == 0);
     const zaguypo_figures figures = zaguypo_census(rows.data(), rows.size());
     check("census", figures.refusal == 0 && figures.critical == 0 && figures.waiting == 1);
@@ -64,7 +67,7 @@ void run_bytes(const Image &image, const Words &words) {
     check("run, process 1 at 21, act 1, level 2", std::equal(moved.begin(), moved.end(), after.begin() + 20));
     std::string text(zaguypo_print(input.data(), input.size(), nullptr, 0), ' ');
     zaguypo_print(input.data(), input.size(), text.data(), text.size());
-    check("print", text == "posts 3\n0 1 10 20 0\n1 1 20 21 0\ndone 2\n");
+    check("print", text == "posts 3\n0 1 10 20 0 -\n1 1 20 21 0 wa1\ndone 2\n");
 }
 
 } // namespace

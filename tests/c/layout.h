@@ -21,17 +21,25 @@ HAS_AT(zaguypo_row, lis, 10, 2);
 HAS_AT(zaguypo_row, ahead, 12, 2);
 HAS_AT(zaguypo_row, turn, 14, 2);
 
-HAS_SIZE(zaguypo_stepped, 2);
+HAS_SIZE(zaguypo_cell, 6);
+HAS_AT(zaguypo_cell, access, 0, 2);
+HAS_AT(zaguypo_cell, variable, 2, 2);
+HAS_AT(zaguypo_cell, index, 4, 2);
+
+HAS_SIZE(zaguypo_stepped, 8);
 HAS_AT(zaguypo_stepped, refusal, 0, 2);
+HAS_AT(zaguypo_stepped, cell, 2, 6);
 
 HAS_SIZE(zaguypo_tally, 12);
 HAS_AT(zaguypo_tally, words, 0, 4);
 HAS_AT(zaguypo_tally, comes, 4, 4);
 HAS_AT(zaguypo_tally, arrivals, 8, 4);
 
-HAS_SIZE(zaguypo_ran, 8);
+/* two bytes of padding stand at the end */
+HAS_SIZE(zaguypo_ran, 16);
 HAS_AT(zaguypo_ran, taken, 0, 4);
 HAS_AT(zaguypo_ran, refusal, 4, 4);
+HAS_AT(zaguypo_ran, cell, 8, 6);
 
 HAS_SIZE(zaguypo_figures, 74);
 HAS_AT(zaguypo_figures, refusal, 0, 2);
@@ -57,7 +65,7 @@ HAS_AT(zaguypo_word, word, 4, 4);
 
 static_assert(ZAGUYPO_MOST_PROCESSES == 16 && ZAGUYPO_RUN_LIMIT == 8192, "limits");
 static_assert(ZAGUYPO_INPUT_BYTES == 33088, "bytes of an input");
-static_assert(ZAGUYPO_TEXT_BYTES == 139300, "bytes of a text");
+static_assert(ZAGUYPO_TEXT_BYTES == 180260, "bytes of a text");
 static_assert(ZAGUYPO_IMAGE_WORDS(2) == 10 && ZAGUYPO_IMAGE_WORDS(16) == 80, "words of an image");
 static_assert(ZAGUYPO_IMAGE_BYTES(2) == 40 && ZAGUYPO_IMAGE_BYTES(16) == 320, "bytes of an image");
 

@@ -10,25 +10,40 @@
 static uint32_t stays[8193], zeros[8193];
 static const struct zaguypo_tally NONE = {0, 0, 0};
 
+/* the cells that a word may have used: none; act or turn of a number, read or written */
+static const struct zaguypo_cell NO_CELL = {0, 0, 0};
+static struct zaguypo_cell act_read(uint16_t q) { return (struct zaguypo_cell){1, 1, q}; }
+static struct zaguypo_cell act_written(uint16_t q) { return (struct zaguypo_cell){2, 1, q}; }
+static struct zaguypo_cell turn_read(uint16_t k) { return (struct zaguypo_cell){1, 2, k}; }
+static struct zaguypo_cell turn_written(uint16_t k) { return (struct zaguypo_cell){2, 2, k}; }
+
+static int same_cell(struct zaguypo_cell a, struct zaguypo_cell b) {
+    return a.access == b.access && a.variable == b.variable && a.index == b.index;
+}
+
 /* A step on n lent rows. Here and below the pointer is NULL where the length is 0. */
 static void stepped(const struct zaguypo_row *table, size_t n, uint32_t word, unsigned refusal,
-                    const struct zaguypo_row *after) {
+                    struct zaguypo_cell cell, const struct zaguypo_row *after) {
     unsigned long before = failures;
     struct lent rows = lend(table, n * sizeof *table);
     must_hold(&rows, after, n * sizeof *after);
-    check("step, answer", zaguypo_step(lent_memory(&rows), n, word).refusal == refusal);
+    struct zaguypo_stepped s = zaguypo_step(lent_memory(&rows), n, word);
+    check("step, answer", s.refusal == refusal);
+    check("step, cell", same_cell(s.cell, cell));
     check("step, rows", given_back(&rows));
     if (failures > before && before < 20) printf("    %zu rows, word %08x, refusal %u\n", n, (unsigned)word, refusal);
 }
 
-/* A run of lent words with a lent tally, which holds other numbers before. As many words are taken as the tally must have. */
+/* A run of lent words with a lent tally, which holds other numbers before. As many words are taken as the tally must
+   have; the cell is that of the last of them. */
 static void ran(const struct zaguypo_row *table, size_t n, const uint32_t *words, size_t count, unsigned refusal,
-                struct zaguypo_tally tally, const struct zaguypo_row *after) {
+                struct zaguypo_tally tally, struct zaguypo_cell cell, const struct zaguypo_row *after) {
     unsigned long before = failures;
     struct lent rows = lend(table, n * sizeof *table), list = lend(words, 4 * count), held = lend(NULL, sizeof tally);
     must_hold(&rows, after, n * sizeof *after), must_hold(&held, &tally, sizeof tally);
     struct zaguypo_ran r = zaguypo_run_rows(lent_memory(&rows), n, lent_memory(&list), count, lent_memory(&held));
     check("run, answer", r.taken == tally.words && r.refusal == refusal);
+    check("run, cell", same_cell(r.cell, cell));
     check("run, rows", given_back(&rows));
     check("run, words", given_back(&list));
     check("run, tally", given_back(&held));
@@ -37,11 +52,11 @@ static void ran(const struct zaguypo_row *table, size_t n, const uint32_t *words
 
 /* A table that is refused, also before 8 and before 12. */
 static void refused_table(const struct zaguypo_row *table, size_t n, unsigned refusal) {
-    stepped(table, n, 0x10000000, refusal, table);
-    stepped(table, n, 0, refusal, table);
-    ran(table, n, stays, 0, refusal, NONE, table);
-    ran(table, n, zeros, 1, refusal, NONE, table);
-    ran(table, n, stays, 8193, refusal, NONE, table);
+    stepped(table, n, 0x10000000, refusal, NO_CELL, table);
+    stepped(table, n, 0, refusal, NO_CELL, table);
+    ran(table, n, stays, 0, refusal, NONE, NO_CELL, table);
+    ran(table, n, zeros, 1, refusal, NONE, NO_CELL, table);
+    ran(table, n, stays, 8193, refusal, NONE, NO_CELL, table);
 }
 
 static void wrong_sizes(void) {
@@ -74,9 +89,9 @@ static void refused_words(uint32_t n) {
     sound_rows(table, n), table[0] = IDLE;
     for (int i = 0; i < 14; i++) {
         const uint32_t word = refused[i][0], refusal = refused[i][1], four[4] = {0x10000000, 0x10000000, word, 0x10000000};
-        stepped(table, n, word, refusal, table);
-        ran(table, n, &word, 1, refusal, NONE, table);
-        ran(table, n, four, 4, refusal, (struct zaguypo_tally){2, 0, 0}, table);
+        stepped(table, n, word, refusal, NO_CELL, table);
+        ran(table, n, &word, 1, refusal, NONE, NO_CELL, table);
+        ran(table, n, four, 4, refusal, (struct zaguypo_tally){2, 0, 0}, NO_CELL, table);
     }
 }
 
@@ -86,13 +101,13 @@ static void lists(uint32_t n) {
     struct zaguypo_row table[MOST], after[MOST];
     sound_rows(table, n), table[0] = table[n - 1] = IDLE;
     memcpy(after, table, n * sizeof *table), after[n - 1].location = 20;
-    ran(table, n, stays, 0, 0, NONE, table);
-    ran(table, n, stays, 1, 0, (struct zaguypo_tally){1, 0, 0}, table);
-    ran(table, n, stays, 8192, 0, (struct zaguypo_tally){8192, 0, 0}, table);
-    ran(table, n, stays, 8193, 12, NONE, table);
-    ran(table, n, zeros, 8193, 12, NONE, table);
-    ran(table, n, &come, 1, 0, (struct zaguypo_tally){1, 1, 0}, after);
-    stepped(table, n, come, 0, after);
+    ran(table, n, stays, 0, 0, NONE, NO_CELL, table);
+    ran(table, n, stays, 1, 0, (struct zaguypo_tally){1, 0, 0}, NO_CELL, table);
+    ran(table, n, stays, 8192, 0, (struct zaguypo_tally){8192, 0, 0}, NO_CELL, table);
+    ran(table, n, stays, 8193, 12, NONE, NO_CELL, table);
+    ran(table, n, zeros, 8193, 12, NONE, NO_CELL, table);
+    ran(table, n, &come, 1, 0, (struct zaguypo_tally){1, 1, 0}, NO_CELL, after);
+    stepped(table, n, come, 0, NO_CELL, after);
 }
 
 /* process 0 of two idle ones, and what it becomes with each word of the example */
@@ -102,8 +117,9 @@ static void example(void) {
                                             {21, 1, 0, 0, 0, 0, 0, 0}, {30, 1, 0, 0, 0, 0, 0, 0}};
     for (uint32_t i = 1; i <= 7; i++) {
         const struct zaguypo_row idle[2] = {IDLE, IDLE}, before[2] = {r[i - 1], IDLE}, after[2] = {r[i], IDLE};
-        stepped(before, 2, SEVEN[i - 1], 0, after);
-        ran(idle, 2, SEVEN, i, 0, (struct zaguypo_tally){i, 1, i == 7}, after);
+        const struct zaguypo_cell cell = i == 2 ? act_written(0) : i == 4 ? act_read(1) : NO_CELL;
+        stepped(before, 2, SEVEN[i - 1], 0, cell, after);
+        ran(idle, 2, SEVEN, i, 0, (struct zaguypo_tally){i, 1, i == 7}, cell, after);
     }
 }
 
@@ -114,8 +130,9 @@ static void crowd(void) {
         {{22, 1, 1, 2, 6, 4, 7, 0}, {24, 0, 0, 2, 1, 4, 6, 2}, {30, 1, 1, 0, 1, 2, 7, 0}},
         {{22, 1, 1, 2, 6, 4, 7, 0}, {21, 0, 1, 2, 5, 4, 5, 2}, {30, 1, 1, 0, 1, 2, 7, 1}},
         {{22, 1, 1, 2, 6, 4, 3, 0}, {21, 0, 1, 2, 5, 4, 1, 2}, {40, 1, 1, 0, 1, 2, 3, 1}}};
-    for (int i = 0; i < 2; i++) stepped(tables[i], 3, words[i], 0, tables[i + 1]);
-    ran(tables[0], 3, words, 2, 0, (struct zaguypo_tally){2, 0, 0}, tables[2]);
+    for (int i = 0; i < 2; i++) stepped(tables[i], 3, words[i], 0, i == 0 ? turn_written(2) : NO_CELL, tables[i + 1]);
+    ran(tables[0], 3, words, 1, 0, (struct zaguypo_tally){1, 0, 0}, turn_written(2), tables[1]);
+    ran(tables[0], 3, words, 2, 0, (struct zaguypo_tally){2, 0, 0}, NO_CELL, tables[2]);
 }
 
 /* CANCEL of process 0: where it is at 20 its location alone changes, act 0 or 1 and every other cell kept; 11 there, 10 at each
@@ -130,9 +147,45 @@ static void cancelled(void) {
         const struct zaguypo_row table[2] = {at[i], other};
         struct zaguypo_row after[2] = {at[i], other};
         if (i < 2) after[0].location = 40;
-        stepped(table, 2, cancel, i < 2 ? 0 : 10, after);
-        stepped(table, 2, 0x60000001, i < 2 ? 11 : 10, table);
-        ran(table, 2, &cancel, 1, i < 2 ? 0 : 10, (struct zaguypo_tally){i < 2, 0, 0}, after);
+        stepped(table, 2, cancel, i < 2 ? 0 : 10, NO_CELL, after);
+        stepped(table, 2, 0x60000001, i < 2 ? 11 : 10, NO_CELL, table);
+        ran(table, 2, &cancel, 1, i < 2 ? 0 : 10, (struct zaguypo_tally){i < 2, 0, 0}, NO_CELL, after);
+    }
+}
+
+/* Words of process 1 of three, on level 2 where that goes, with turn[2] as given: what they use at each location, GO at
+   23 in its four cases. With an argument that is refused they use none; the run's cell is theirs also where a word of
+   process 0 is refused after them. */
+static void cells(void) {
+    const struct {
+        struct zaguypo_row own;
+        uint16_t turn;
+        uint32_t word;
+        struct zaguypo_cell cell;
+        struct zaguypo_row after;
+    } each[15] = {
+        {{10, 1, 0, 2, 5, 5, 0, 0}, 0, 0x10010000, NO_CELL, {10, 1, 0, 2, 5, 5, 0, 0}},
+        {{20, 0, 0, 2, 5, 5, 0, 0}, 0, 0x30010001, act_written(1), {20, 1, 0, 2, 5, 5, 0, 0}},
+        {{20, 0, 0, 0, 0, 5, 0, 0}, 0, 0x40010000, act_written(1), {21, 1, 0, 2, 5, 5, 0, 0}},
+        {{21, 1, 0, 2, 5, 0, 0, 0}, 0, 0x40010000, NO_CELL, {22, 1, 0, 2, 5, 5, 0, 0}},
+        {{22, 1, 0, 2, 5, 5, 0, 0}, 0, 0x50010002, act_read(2), {22, 1, 0, 2, 1, 1, 0, 0}},
+        {{22, 1, 0, 2, 5, 0, 0, 0}, 0, 0x40010000, NO_CELL, {23, 1, 0, 2, 5, 0, 0, 0}},
+        {{23, 1, 1, 2, 1, 0, 0, 0}, 0, 0x40010000, NO_CELL, {21, 1, 0, 1, 1, 0, 0, 0}},
+        {{23, 1, 0, 2, 5, 0, 0, 0}, 0, 0x40010000, NO_CELL, {24, 1, 0, 2, 5, 0, 0, 0}},
+        {{23, 1, 1, 2, 5, 0, 0, 0}, 0, 0x40010000, turn_read(2), {21, 1, 0, 1, 5, 0, 0, 0}},
+        {{23, 1, 1, 2, 5, 0, 0, 0}, 1, 0x40010000, turn_read(2), {21, 1, 1, 2, 5, 0, 0, 0}},
+        {{24, 1, 0, 2, 5, 0, 0, 0}, 0, 0x30010000, turn_written(2), {24, 1, 0, 2, 5, 0, 0, 0}},
+        {{24, 1, 0, 2, 1, 0, 0, 0}, 1, 0x40010000, turn_written(2), {21, 1, 1, 2, 5, 0, 0, 0}},
+        {{30, 1, 0, 0, 5, 0, 0, 0}, 0, 0x40010000, NO_CELL, {40, 1, 0, 0, 5, 0, 0, 0}},
+        {{40, 1, 0, 0, 5, 0, 0, 0}, 0, 0x30010000, act_written(1), {40, 0, 0, 0, 5, 0, 0, 0}},
+        {{40, 1, 0, 0, 5, 0, 0, 0}, 0, 0x40010000, act_written(1), {10, 0, 0, 0, 5, 0, 0, 0}}};
+    for (int i = 0; i < 15; i++) {
+        const struct zaguypo_row last = {10, 0, 0, 0, 0, 0, 0, each[i].turn};
+        const struct zaguypo_row table[3] = {IDLE, each[i].own, last}, after[3] = {IDLE, each[i].after, last};
+        const uint32_t words[2] = {each[i].word, 0x30000000};
+        stepped(table, 3, words[0], 0, each[i].cell, after);
+        stepped(table, 3, words[0] | 0xFF, 11, NO_CELL, table);
+        ran(table, 3, words, 2, 10, (struct zaguypo_tally){1, 0, 0}, each[i].cell, after);
     }
 }
 
@@ -144,12 +197,12 @@ static void circuits(void) {
     idle_rows(after, MOST), after[0] = (struct zaguypo_row){30, 1, 0, 0, 0, 0, 0, 0};
     for (uint32_t n = 2; n <= 16; n++) {
         give(&g, n, n + 7), g.words[n + 5] = 0x20000000;
-        ran(g.rows, n, g.words, n + 5, 0, (struct zaguypo_tally){n + 5, 1, 1}, after);
-        ran(g.rows, n, g.words, n + 7, 10, (struct zaguypo_tally){n + 5, 1, 1}, after);
+        ran(g.rows, n, g.words, n + 5, 0, (struct zaguypo_tally){n + 5, 1, 1}, NO_CELL, after);
+        ran(g.rows, n, g.words, n + 7, 10, (struct zaguypo_tally){n + 5, 1, 1}, NO_CELL, after);
     }
     give(&g, 16, 8192);
     after[0] = IDLE, after[4] = (struct zaguypo_row){22, 1, 0, 15, 0xFFEE, 0xFFEE, 0, 0};
-    ran(g.rows, 16, g.words, 8192, 0, (struct zaguypo_tally){8192, 357, 356}, after);
+    ran(g.rows, 16, g.words, 8192, 0, (struct zaguypo_tally){8192, 357, 356}, act_read(0), after);
 }
 
 int main(void) {
@@ -159,6 +212,7 @@ int main(void) {
     example();
     crowd();
     cancelled();
+    cells();
     circuits();
     return done("rows");
 }

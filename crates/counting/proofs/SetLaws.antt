@@ -4,6 +4,7 @@
 --   setOf-cong, setOf-lt         the same set, and a bound
 --   has-setOf, setOf-has         members of a set that was made; a set made of its own members
 --   has-over, has-zero           no member past the bound, none in the empty set
+--   member-below                 so a member is below it
 --   set-ext, set-empty           sets with the same members are equal; a set with no member is 0
 --   has-without, has-others      members of a set less p, and of all but p
 --   without-lt, others-lt        their bounds
@@ -71,6 +72,13 @@ has-over s n q h l = ap (λ (x : ℕ). eqb (x % 2) 1) (div-eq-of-lt (lt-of-lt-of
 
 pub has-zero : (q : ℕ) → has 0 q ≡ false
 has-zero q = has-over 0 0 q (omega arith) (omega arith)
+
+pub member-below : (s n q : ℕ) → s < 2 ^ n → has s q ≡ true → q < n
+member-below s n q h m = go (decLt q n)
+  where
+    go : Dec (q < n) → q < n
+    go (yes l) = l
+    go (no nl) = absurd (false≢true (sym (has-over s n q h (omega (arith, nl))) ∙ m))
 
 -- a member below n is a member of the lowest n digits
 pub has-low : (s n q : ℕ) → q < n → has (s % 2 ^ n) q ≡ has s q

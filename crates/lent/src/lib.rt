@@ -7,6 +7,7 @@ use cells::sizes::lesser;
 use machine::MOST_PROCESSES;
 use machine::Ran;
 use machine::Row;
+use machine::SharedCell;
 use machine::StepAnswer;
 use machine::Stepped;
 use machine::Tally;
@@ -20,7 +21,7 @@ ghost use lib.ListN.{length};
 ghost use Rattle.cells.specs.View.{cellsOf, rowOf};
 ghost use Rattle.lent.specs.Contracts.{StepsTo, RunsTo};
 ghost use Rattle.lent.specs.Written.{written};
-ghost use Rattle.lent.specs.Within.{refusalIn, Within};
+ghost use Rattle.lent.specs.Within.{toC, Within};
 
 // The rows written over the cells, as many as there are of both. Proved by hand.
 fn load(rows: &[Row], cells: &mut [[u16; 8]])
@@ -56,13 +57,22 @@ struct Task {
     word: u32,
 }
 
-// The refusal that the answer of a step gives, or 0.
-fn refusal_in(answer: Stepped) -> u16
-    ensures { λ r. ⌜ r ≡ refusalIn answer ⌝ }
+// The answer of a step as C gets it: the refusal or 0, and the shared cell, none on a refusal.
+fn to_c(answer: Stepped) -> StepAnswer
+    ensures { λ r. ⌜ r ≡ toC answer ⌝ }
 {
     match answer {
-        Stepped::Moved(_) => 0,
-        Stepped::Refused(why) => why,
+        Stepped::Moved(told) => {
+            let cell = told.cell;
+            StepAnswer {
+                refusal: 0,
+                cell: cell,
+            }
+        }
+        Stepped::Refused(why) => StepAnswer {
+            refusal: why,
+            cell: SharedCell::NONE,
+        },
     }
 }
 
@@ -72,14 +82,10 @@ fn step_within(cells: &mut [[u16; 8]], n: usize, _words: &[u32], task: Task) -> 
     ensures { λ r. ⌜ Within (StepsTo (task .word) r) n (now (cells .entry)) (now (cells .exit)) ⌝ }
 {
     if MOST_PROCESSES < n {
-        return StepAnswer {
-            refusal: WRONG_SIZE,
-        };
+        return to_c(Stepped::Refused(WRONG_SIZE));
     }
     let answer = step(&mut cells[..n], task.word);
-    StepAnswer {
-        refusal: refusal_in(answer),
-    }
+    to_c(answer)
 }
 
 // A run on the first n of 16 rows of cells; 6 where there are more than 16 rows.
@@ -122,8 +128,8 @@ fn run_rows(rows: &mut [Row], words: &[u32], task: Task) -> RunAnswer
     answer
 }
 
-// A step of the lent rows by a word: the refusal, or 0. A refused word changes no row. Proved by
-// hand.
+// A step of the lent rows by a word: the refusal or 0, and the shared cell that the word used. A
+// refused word changes no row and uses no cell. Proved by hand.
 #[no_mangle]
 pub extern "C" fn zaguypo_step(rows: &mut [Row], word: u32) -> StepAnswer
     ensures { λ r. ⌜ StepsTo word r (now (rows .entry)) (now (rows .exit)) ⌝ }
@@ -132,9 +138,9 @@ pub extern "C" fn zaguypo_step(rows: &mut [Row], word: u32) -> StepAnswer
     step_rows(rows, &none, Task { word: word })
 }
 
-// A run of the lent rows by the words: how many were taken, and the refusal or 0. The rows are left
-// as the taken words make them, and the tally, whatever it held, is that of this run. Proved by
-// hand.
+// A run of the lent rows by the words: how many were taken, the refusal or 0, and the shared cell of
+// the last word taken. The rows are left as the taken words make them, and the tally, whatever it
+// held, is that of this run. Proved by hand.
 #[no_mangle]
 pub extern "C" fn zaguypo_run_rows(rows: &mut [Row], words: &[u32], tally: &mut Tally) -> Ran
     ensures { λ r. ⌜

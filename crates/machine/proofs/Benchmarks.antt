@@ -294,20 +294,20 @@ pub exampleText : List ℕ
 exampleText =
     -- posts 2
     112 ∷ 111 ∷ 115 ∷ 116 ∷ 115 ∷ 32 ∷ 50 ∷ 10 ∷
-    -- 0 0 10 20 0
-    48 ∷ 32 ∷ 48 ∷ 32 ∷ 49 ∷ 48 ∷ 32 ∷ 50 ∷ 48 ∷ 32 ∷ 48 ∷ 10 ∷
-    -- 1 0 20 21 0
-    49 ∷ 32 ∷ 48 ∷ 32 ∷ 50 ∷ 48 ∷ 32 ∷ 50 ∷ 49 ∷ 32 ∷ 48 ∷ 10 ∷
-    -- 2 0 21 22 0
-    50 ∷ 32 ∷ 48 ∷ 32 ∷ 50 ∷ 49 ∷ 32 ∷ 50 ∷ 50 ∷ 32 ∷ 48 ∷ 10 ∷
-    -- 3 0 22 22 0
-    51 ∷ 32 ∷ 48 ∷ 32 ∷ 50 ∷ 50 ∷ 32 ∷ 50 ∷ 50 ∷ 32 ∷ 48 ∷ 10 ∷
-    -- 4 0 22 23 0
-    52 ∷ 32 ∷ 48 ∷ 32 ∷ 50 ∷ 50 ∷ 32 ∷ 50 ∷ 51 ∷ 32 ∷ 48 ∷ 10 ∷
-    -- 5 0 23 21 0
-    53 ∷ 32 ∷ 48 ∷ 32 ∷ 50 ∷ 51 ∷ 32 ∷ 50 ∷ 49 ∷ 32 ∷ 48 ∷ 10 ∷
-    -- 6 0 21 30 1
-    54 ∷ 32 ∷ 48 ∷ 32 ∷ 50 ∷ 49 ∷ 32 ∷ 51 ∷ 48 ∷ 32 ∷ 49 ∷ 10 ∷
+    -- 0 0 10 20 0 -
+    48 ∷ 32 ∷ 48 ∷ 32 ∷ 49 ∷ 48 ∷ 32 ∷ 50 ∷ 48 ∷ 32 ∷ 48 ∷ 32 ∷ 45 ∷ 10 ∷
+    -- 1 0 20 21 0 wa0
+    49 ∷ 32 ∷ 48 ∷ 32 ∷ 50 ∷ 48 ∷ 32 ∷ 50 ∷ 49 ∷ 32 ∷ 48 ∷ 32 ∷ 119 ∷ 97 ∷ 48 ∷ 10 ∷
+    -- 2 0 21 22 0 -
+    50 ∷ 32 ∷ 48 ∷ 32 ∷ 50 ∷ 49 ∷ 32 ∷ 50 ∷ 50 ∷ 32 ∷ 48 ∷ 32 ∷ 45 ∷ 10 ∷
+    -- 3 0 22 22 0 ra1
+    51 ∷ 32 ∷ 48 ∷ 32 ∷ 50 ∷ 50 ∷ 32 ∷ 50 ∷ 50 ∷ 32 ∷ 48 ∷ 32 ∷ 114 ∷ 97 ∷ 49 ∷ 10 ∷
+    -- 4 0 22 23 0 -
+    52 ∷ 32 ∷ 48 ∷ 32 ∷ 50 ∷ 50 ∷ 32 ∷ 50 ∷ 51 ∷ 32 ∷ 48 ∷ 32 ∷ 45 ∷ 10 ∷
+    -- 5 0 23 21 0 -
+    53 ∷ 32 ∷ 48 ∷ 32 ∷ 50 ∷ 51 ∷ 32 ∷ 50 ∷ 49 ∷ 32 ∷ 48 ∷ 32 ∷ 45 ∷ 10 ∷
+    -- 6 0 21 30 1 -
+    54 ∷ 32 ∷ 48 ∷ 32 ∷ 50 ∷ 49 ∷ 32 ∷ 51 ∷ 48 ∷ 32 ∷ 49 ∷ 32 ∷ 45 ∷ 10 ∷
     -- done 7
     100 ∷ 111 ∷ 110 ∷ 101 ∷ 32 ∷ 55 ∷ 10 ∷ []
 
@@ -324,16 +324,16 @@ pub cancelText : List ℕ
 cancelText =
     -- posts 2
     112 ∷ 111 ∷ 115 ∷ 116 ∷ 115 ∷ 32 ∷ 50 ∷ 10 ∷
-    -- 0 0 10 20 0
-    48 ∷ 32 ∷ 48 ∷ 32 ∷ 49 ∷ 48 ∷ 32 ∷ 50 ∷ 48 ∷ 32 ∷ 48 ∷ 10 ∷
-    -- 1 0 20 20 0
-    49 ∷ 32 ∷ 48 ∷ 32 ∷ 50 ∷ 48 ∷ 32 ∷ 50 ∷ 48 ∷ 32 ∷ 48 ∷ 10 ∷
-    -- 2 0 20 40 0
-    50 ∷ 32 ∷ 48 ∷ 32 ∷ 50 ∷ 48 ∷ 32 ∷ 52 ∷ 48 ∷ 32 ∷ 48 ∷ 10 ∷
-    -- 3 0 40 40 0
-    51 ∷ 32 ∷ 48 ∷ 32 ∷ 52 ∷ 48 ∷ 32 ∷ 52 ∷ 48 ∷ 32 ∷ 48 ∷ 10 ∷
-    -- 4 0 40 10 0
-    52 ∷ 32 ∷ 48 ∷ 32 ∷ 52 ∷ 48 ∷ 32 ∷ 49 ∷ 48 ∷ 32 ∷ 48 ∷ 10 ∷
+    -- 0 0 10 20 0 -
+    48 ∷ 32 ∷ 48 ∷ 32 ∷ 49 ∷ 48 ∷ 32 ∷ 50 ∷ 48 ∷ 32 ∷ 48 ∷ 32 ∷ 45 ∷ 10 ∷
+    -- 1 0 20 20 0 wa0
+    49 ∷ 32 ∷ 48 ∷ 32 ∷ 50 ∷ 48 ∷ 32 ∷ 50 ∷ 48 ∷ 32 ∷ 48 ∷ 32 ∷ 119 ∷ 97 ∷ 48 ∷ 10 ∷
+    -- 2 0 20 40 0 -
+    50 ∷ 32 ∷ 48 ∷ 32 ∷ 50 ∷ 48 ∷ 32 ∷ 52 ∷ 48 ∷ 32 ∷ 48 ∷ 32 ∷ 45 ∷ 10 ∷
+    -- 3 0 40 40 0 wa0
+    51 ∷ 32 ∷ 48 ∷ 32 ∷ 52 ∷ 48 ∷ 32 ∷ 52 ∷ 48 ∷ 32 ∷ 48 ∷ 32 ∷ 119 ∷ 97 ∷ 48 ∷ 10 ∷
+    -- 4 0 40 10 0 wa0
+    52 ∷ 32 ∷ 48 ∷ 32 ∷ 52 ∷ 48 ∷ 32 ∷ 49 ∷ 48 ∷ 32 ∷ 48 ∷ 32 ∷ 119 ∷ 97 ∷ 48 ∷ 10 ∷
     -- done 5
     100 ∷ 111 ∷ 110 ∷ 101 ∷ 32 ∷ 53 ∷ 10 ∷ []
 
@@ -341,11 +341,11 @@ pub cancel-printed : printed cancelInput ≡ cancelText
 unfolding cancelInput cancelText evaluated passes printed digits spaced runLines textOf inputOf wordsHold wordsIn
 cancel-printed = refl
 
--- the first example in 99 lent bytes, as many as it has; in one more; in one fewer
+-- the first example in 117 lent bytes, as many as it has; in one more; in one fewer
 pub printed-examples :
-    (printedIn exampleInput (replicate 99 255) ≡ record { number = 99; lent = exampleText })
-    × (printedIn exampleInput (replicate 100 255) ≡ record { number = 99; lent = exampleText ++ (255 ∷ []) })
-    × (printedIn exampleInput (replicate 98 255) ≡ record { number = 99; lent = replicate 98 255 })
+    (printedIn exampleInput (replicate 117 255) ≡ record { number = 117; lent = exampleText })
+    × (printedIn exampleInput (replicate 118 255) ≡ record { number = 117; lent = exampleText ++ (255 ∷ []) })
+    × (printedIn exampleInput (replicate 116 255) ≡ record { number = 117; lent = replicate 116 255 })
 unfolding exampleInput exampleText evaluated passes printed digits spaced runLines textOf inputOf wordsHold wordsIn
     placed printedIn
 printed-examples = (refl, refl, refl)

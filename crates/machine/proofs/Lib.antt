@@ -21,8 +21,13 @@ pub mod InputLaws
 pub mod WordsAreSteps
 pub mod CensusTheorems
 pub mod CarriedTheorems
+pub mod CellLaws
+pub mod CellBounds
+pub mod CellEffects
+pub mod CellTheorems
 pub mod Benchmarks
 pub mod ExportExamples
 pub mod CensusExamples
 pub mod CarriedExamples
+pub mod CellExamples
 pub mod WholeText

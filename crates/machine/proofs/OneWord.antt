@@ -1,5 +1,6 @@
 -- Every step of a process has one word, and every accepted word is that of a step.
 --
+--   member-low   a process to be looked at fits in a word
 --   same-word    accepted words of one process with the same table after them are the same
 --   one-word     a step of a sound table is what its word does, and no other word of its process
 --   word-step    an accepted word is the word of a step
@@ -16,7 +17,7 @@ use lib.Dec.{eqb, ltb}
 use lib.ListN.{length, set}
 use borrow.Author.Tests.{eq-eqb, ne-eqb, lt-ltb, le-ltb}
 use Rattle.counting.specs.Sets.{has}
-use Rattle.counting.proofs.SetLaws.{has-over, has-zero}
+use Rattle.counting.proofs.SetLaws.{member-below, has-zero}
 use Rattle.machine.specs.Rows.{withAct}
 use Rattle.machine.specs.Tables.{Table, row, oneOf, sound, tableRefusal, competitors}
 use Rattle.machine.specs.Words.{STAY, COME, FLICKER, GO, LOOK, CANCEL, isKind, kindOf, processOf, argumentOf}
@@ -171,6 +172,13 @@ module _ (t : Table) (p : ℕ) (z : tableRefusal t ≡ 0) (l : p < length t) whe
       (ap (λ (b : Bool). cond b (ltb a (length t)) (ltb a 2)) (ne-eqb _ _ away) ∙ lt-ltb a 2 h)
       (omega arith) (flickered-act t p a away)
 
+  -- a member of lis fits in a word
+  pub member-low : (q : ℕ) → has (row t p .lis) q ≡ true → q < 256
+  member-low q h =
+      let few = sound-few t z in
+      let low = member-below (row t p .lis) (length t) q (sound-row t z p l .lis-low) h in
+      omega arith
+
   -- LOOK at a member of lis
   chosen-look : {u : Table} (q : ℕ)
       → row t p .location ≡ 22
@@ -183,14 +191,7 @@ module _ (t : Table) (p : ℕ) (z : tableRefusal t ≡ 0) (l : p < length t) whe
       chosen LOOK q refl
       (and-eq-true-iff (eqb (row t p .location) 22) (not (eqb (row t p .lis) 0)) .1
       (eq-eqb _ _ e, ap not (ne-eqb _ _ some)))
-      h (member-low (decLt q 256)) m
-    where
-      member-low : Dec (q < 256) → q < 256
-      member-low (yes k) = k
-      member-low (no nk) =
-          let few = sound-few t z in
-          let none = has-over (row t p .lis) (length t) q (sound-row t z p l .lis-low) (omega (arith, nk)) in
-          absurd (false≢true (sym none ∙ h))
+      h (member-low q h) m
 
   one : {u : Table} (x : Step t p u) → One t p u (stepWord p x)
   unfolding allowed argumentFits moved entered competitors passed looked reconsidered

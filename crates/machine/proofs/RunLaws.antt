@@ -7,6 +7,7 @@ use lib.ListN.{length}
 use borrow.Author.Tests.{eq-eqb, ne-eqb, le-leb, lt-leb}
 use Rattle.machine.specs.Refusals.{accepted, tooManyWords}
 use Rattle.machine.specs.Tables.{Table, tableRefusal}
+use Rattle.machine.specs.Shared.{noCell}
 use Rattle.machine.specs.Steps.{refusalOf, afterWord, afterWords, eventOf}
 use Rattle.machine.specs.Runs.{limit, zeroTally, counted, carried, carriedOver, runFrom, untaken, runOf}
 use Rattle.machine.specs.declared.Event.{Event}
@@ -24,7 +25,7 @@ module _ (t : Table) (ws : List ℕ) where
   unfolding runOf
   runOf-words e l = rw (eq-eqb (tableRefusal t) 0 e, lt-leb (length ws) limit l) refl
 
-  pub runOf-taken : tableRefusal t ≡ 0 → length ws ≤ limit → runOf t ws ≡ runFrom t zeroTally ws
+  pub runOf-taken : tableRefusal t ≡ 0 → length ws ≤ limit → runOf t ws ≡ runFrom t zeroTally noCell ws
   unfolding runOf
   runOf-taken e l = rw (eq-eqb (tableRefusal t) 0 e, le-leb (length ws) limit l) refl
 

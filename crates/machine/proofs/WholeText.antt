@@ -9,11 +9,15 @@ use lib.Dec.{eqb, ltb}
 use lib.ListN.{length}
 use borrow.Author.Tests.{ne-eqb, ltb-true}
 use Rattle.machine.specs.Refusals.{accepted, tooManyWords, badBytes}
-use Rattle.machine.specs.Tables.{Table}
-use Rattle.machine.specs.Steps.{refusalOf, afterWord}
+use Rattle.machine.specs.Tables.{Table, row}
+use Rattle.machine.specs.Words.{processOf}
+use Rattle.machine.specs.Shared.{READ, ACT}
+use Rattle.machine.specs.Steps.{refusalOf, afterWord, cellOf}
+use Rattle.machine.specs.Census.{critical}
 use Rattle.machine.specs.Inputs.{Input, inputOf}
 use Rattle.machine.specs.Inputs.Input.{BadBytes, BadImage, TooMany, Ready}
 use Rattle.machine.specs.Text
+use Rattle.machine.specs.declared.SharedCell.{SharedCell}
 
 -- ---- lines
 
@@ -154,46 +158,78 @@ spaced-plain (n ∷ m ∷ ns) =
     plain-append (Text.decimal n) (32 ∷ Text.spaced (m ∷ ns)) (digits-plain (Text.decimal n) (number-digits 20 n))
     (refl, spaced-plain (m ∷ ns))
 
+-- a shared cell
+cell-plain : (c : SharedCell) → Plain (Text.cellText c)
+cell-plain c =
+    by (eqb (c .access) 0) (eqb (c .access) READ) (eqb (c .variable) ACT)
+    (digits-plain (Text.decimal (c .index)) (number-digits 20 (c .index)))
+  where
+    by : (none read act : Bool) → Plain (Text.decimal (c .index))
+        → Plain (cond none (45 ∷ []) (cond read 114 119 ∷ cond act 97 116 ∷ Text.decimal (c .index)))
+    by true read act p = (refl, tt)
+    by false true true p = (refl, (refl, p))
+    by false true false p = (refl, (refl, p))
+    by false false true p = (refl, (refl, p))
+    by false false false p = (refl, (refl, p))
+
 -- ---- the lines of a text
 
--- a line that begins with f, and then r
-module _ (s ns r : List ℕ) (f : ℕ) (l : List ℕ) (is : s ++ Text.spaced ns ≡ f ∷ l) (plain : Plain s)
-    (after : Sealed (Text.beginsLast f) r) where
-  split : Text.line s ns ++ r ≡ (f ∷ l) ++ (10 ∷ r)
-  split =
-      append-assoc s (Text.spaced ns ++ (10 ∷ [])) r
-      ∙ ap (λ (m : List ℕ). s ++ m) (append-assoc (Text.spaced ns) (10 ∷ []) r)
-      ∙ sym (append-assoc s (Text.spaced ns) (10 ∷ r))
-      ∙ ap (λ (m : List ℕ). m ++ (10 ∷ r)) is
+-- a line b that begins with f, and then r
+sealed-then : (b r : List ℕ) (f : ℕ) (l : List ℕ) → b ≡ f ∷ l → Plain b → Sealed (Text.beginsLast f) r
+    → Sealed false ((b ++ (10 ∷ [])) ++ r)
+sealed-then b r f l is plain after =
+    subst (Sealed false) (sym (append-assoc b (10 ∷ []) r ∙ ap (λ (m : List ℕ). m ++ (10 ∷ r)) is))
+    (sealed-line f l r (subst Plain is plain) after)
 
-  sealed-then : Sealed false (Text.line s ns ++ r)
-  sealed-then =
-      subst (Sealed false) (sym split)
-      (sealed-line f l r (subst Plain is (plain-append s (Text.spaced ns) plain (spaced-plain ns))) after)
+-- a line of a text s, which begins with f, and of numbers; and then r
+sealed-text-line : (s ns r : List ℕ) (f : ℕ) (l : List ℕ) → s ≡ f ∷ l → isPlain s ≡ true → Sealed (Text.beginsLast f) r
+    → Sealed false (Text.line s ns ++ r)
+sealed-text-line s ns r f l is plain after =
+    subst (λ (m : List ℕ). Sealed false (m ++ r)) (append-assoc s (Text.spaced ns) (10 ∷ []))
+    (sealed-then (s ++ Text.spaced ns) r f (l ++ Text.spaced ns) (ap (λ (m : List ℕ). m ++ Text.spaced ns) is)
+    (plain-append s (Text.spaced ns) (plain-of s plain) (spaced-plain ns)) after)
 
 -- a last line, with the text s before its numbers
 sealed-last : (s ns : List ℕ) (f : ℕ) (l : List ℕ) → s ≡ f ∷ l → Text.beginsLast f ≡ true → isPlain s ≡ true
     → Sealed false (Text.line s ns)
 sealed-last s ns f l is last plain =
     subst (Sealed false) (append-nil (Text.line s ns))
-    (sealed-then s ns [] f (l ++ Text.spaced ns) (ap (λ (m : List ℕ). m ++ Text.spaced ns) is) (plain-of s plain)
-    (subst (λ (b : Bool). Sealed b []) (sym last) sealed-nothing))
+    (sealed-text-line s ns [] f l is plain (subst (λ (b : Bool). Sealed b []) (sym last) sealed-nothing))
 
--- a line of numbers alone, and then r
-sealed-numbers : (n m : ℕ) (ns r : List ℕ) → Sealed false r → Sealed false (Text.line [] (n ∷ m ∷ ns) ++ r)
-unfolding Text.spaced
-sealed-numbers n m ns r after =
+-- a line that begins with a number, and then r
+sealed-number : (n : ℕ) (b r : List ℕ) → Plain b → Sealed false r
+    → Sealed false (((Text.decimal n ++ b) ++ (10 ∷ [])) ++ r)
+sealed-number n b r plain after =
     let d = number-begins n in
     let digit = subst Digits (d .is) (number-digits 20 n) in
-    sealed-then [] (n ∷ m ∷ ns) r (d .first) (d .rest ++ (32 ∷ Text.spaced (m ∷ ns)))
-    (ap (λ (l : List ℕ). l ++ (32 ∷ Text.spaced (m ∷ ns))) (d .is)) tt
+    sealed-then (Text.decimal n ++ b) r (d .first) (d .rest ++ b) (ap (λ (l : List ℕ). l ++ b) (d .is))
+    (plain-append (Text.decimal n) b (digits-plain (Text.decimal n) (number-digits 20 n)) plain)
     (subst (λ (b : Bool). Sealed b r) (sym (digit-begins (d .first) (digit .0) (digit .1))) after)
 
 sealed-stop : (i why : ℕ) → Sealed false (Text.stopLine i why)
 sealed-stop i why = sealed-last Text.stopText (i ∷ why ∷ []) 115 _ refl refl refl
 
 sealed-word : (t : Table) (i w : ℕ) (r : List ℕ) → Sealed false r → Sealed false (Text.wordLine t i w ++ r)
-sealed-word t i w r after = sealed-numbers i _ _ r after
+unfolding Text.spaced
+sealed-word t i w r after =
+    subst (λ (m : List ℕ). Sealed false (m ++ r))
+    (ap (λ (m : List ℕ). m ++ (10 ∷ [])) (sym whole) ∙ append-assoc fields cell (10 ∷ []))
+    (sealed-number i ((32 ∷ Text.spaced others) ++ cell) r
+    (plain-append (32 ∷ Text.spaced others) cell (refl, spaced-plain others) (refl, cell-plain (cellOf t w))) after)
+  where
+    others : List ℕ
+    others =
+        let p = processOf w in
+        p ∷ row t p .location ∷ row (afterWord t w) p .location ∷ critical (afterWord t w) ∷ []
+
+    fields : List ℕ
+    fields = Text.spaced (Text.wordFields t i w)
+
+    cell : List ℕ
+    cell = 32 ∷ Text.cellText (cellOf t w)
+
+    whole : fields ++ cell ≡ Text.decimal i ++ ((32 ∷ Text.spaced others) ++ cell)
+    whole = append-assoc (Text.decimal i) (32 ∷ Text.spaced others) cell
 
 sealed-run : (t : Table) (i : ℕ) (ws : List ℕ) → Sealed false (Text.runLines t i ws)
 unfolding Text.runLines
@@ -210,7 +246,7 @@ sealed-run t i (w ∷ ws) = by (eqb (refusalOf t w) accepted) (sealed-run (after
 
 sealed-posts : (t : Table) (r : List ℕ) → Sealed false r → Sealed false (Text.postsLine t ++ r)
 sealed-posts t r after =
-    sealed-then Text.postsText (length t ∷ []) r 112 _ refl (plain-of Text.postsText refl) after
+    sealed-text-line Text.postsText (length t ∷ []) r 112 _ refl refl after
 
 sealed-text : (i : Input) → Sealed false (Text.textOf i)
 unfolding Text.textOf

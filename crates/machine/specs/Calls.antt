@@ -13,6 +13,7 @@ use lib.ListN.{length}
 use Rattle.counting.specs.Placing.{placed}
 use Rattle.machine.specs.Refusals.{tooManyWords, tooFewLent, badBytes}
 use Rattle.machine.specs.Tables.{Table}
+use Rattle.machine.specs.Shared.{noCell}
 use Rattle.machine.specs.Runs.{zeroTally, runFrom}
 use Rattle.machine.specs.Images.{imageLength, imageOf}
 use Rattle.machine.specs.Bytes.{bytesOf}
@@ -39,7 +40,7 @@ roomFor t = 4 * imageLength (length t)
 unfoldable pub ranCall : Table → List ℕ → List ℕ → Called
 unfolding runFrom imageOf bytesOf placed
 ranCall t ws l =
-    let o = runFrom t zeroTally ws in
+    let o = runFrom t zeroTally noCell ws in
     record {
       number = numberOf (o .tally .words) (o .refusal);
       lent = placed l 0 (bytesOf (imageOf (o .table)));

@@ -4,7 +4,9 @@ pub mod Refusals
 pub mod Rows
 pub mod Tables
 pub mod Words
+pub mod Shared
 pub mod Steps
+pub mod Local
 pub mod System
 pub mod Census
 pub mod Runs

@@ -1,10 +1,11 @@
 -- A run, an execution of the system by a list of words up to the first that is refused, and its tally, the counters of
--- words, COMEs and arrivals; the number at 30 that goes along (MANUAL, "Runs" and "Census").
+-- words, COMEs and arrivals; the number at 30 that goes along (MANUAL, "Runs", "Shared cells" and "Census").
 --
 --   counted e h      ==  the tally h after an accepted word with event e.
 --   carried e n      ==  the number at 30 after such a word, from the number n before it.
 --   carriedOver t n ws  ==  that number after words given one by one to table t, where it is n.
---   runFrom t h ws   ==  the words in order from table t with tally h, up to the first refused one.
+--   runFrom t h c ws ==  the words in order from table t with tally h, up to the first refused one; c is the shared cell
+--                        of the word before them.
 --   runOf t ws       ==  a run: 6, 7, then 12 for more than 8,192 words, before any is taken.
 --
 -- How many words a run took is what its tally says, which is zero at the start. Assumes nothing.
@@ -15,9 +16,11 @@ use lib.Dec.{eqb, leb}
 use lib.ListN.{length}
 use Rattle.machine.specs.Refusals.{accepted, tooManyWords}
 use Rattle.machine.specs.Tables.{Table, tableRefusal}
-use Rattle.machine.specs.Steps.{refusalOf, afterWord, eventOf}
+use Rattle.machine.specs.Shared.{noCell}
+use Rattle.machine.specs.Steps.{refusalOf, afterWord, eventOf, cellOf}
 use Rattle.machine.specs.declared.Event.{Event}
 use Rattle.machine.specs.declared.Event.the-variants.{Quiet, Come, Arrival, Departure}
+use Rattle.machine.specs.declared.SharedCell.{SharedCell}
 use Rattle.machine.specs.declared.Tally.{Tally}
 use Rattle.machine.specs.declared.Ran.{Ran}
 
@@ -48,36 +51,37 @@ carriedOver t n [] = n
 carriedOver t n (w ∷ ws) =
     let m = cond (eqb (refusalOf t w) accepted) (carried (eventOf t w) n) n in carriedOver (afterWord t w) m ws
 
--- the table, the tally and the refusal at the end of a run
+-- the table, the tally, the shared cell of the last word taken and the refusal at the end of a run
 pub record Outcome : Type 0 where
   pub table : Table
   pub tally : Tally
+  pub cell : SharedCell
   pub refusal : ℕ
 
 -- a run that has ended
-abbrev pub ended : Table → Tally → ℕ → Outcome
-ended t h n = record { table = t; tally = h; refusal = n }
+abbrev pub ended : Table → Tally → SharedCell → ℕ → Outcome
+ended t h c n = record { table = t; tally = h; cell = c; refusal = n }
 
 -- a run that is refused before any word is taken
 abbrev pub untaken : Table → ℕ → Outcome
-untaken t n = ended t zeroTally n
+untaken t n = ended t zeroTally noCell n
 
--- what a run answers: how many words were taken, and the refusal or 0
+-- what a run answers: how many words were taken, the refusal or 0, and the cell of the last word taken, none if none was
 abbrev pub ranOf : Outcome → Ran
-ranOf o = record { taken = o .tally .words; refusal = o .refusal }
+ranOf o = record { taken = o .tally .words; refusal = o .refusal; cell = o .cell }
 
-unfoldable pub runFrom : Table → Tally → List ℕ → Outcome
-unfolding refusalOf afterWord eventOf
-runFrom t h [] = ended t h accepted
-runFrom t h (w ∷ ws) =
+unfoldable pub runFrom : Table → Tally → SharedCell → List ℕ → Outcome
+unfolding refusalOf afterWord eventOf cellOf
+runFrom t h c [] = ended t h c accepted
+runFrom t h c (w ∷ ws) =
     elim (eqb (refusalOf t w) accepted) [
-      | true ↦ runFrom (afterWord t w) (counted (eventOf t w) h) ws
-      | false ↦ ended t h (refusalOf t w)
+      | true ↦ runFrom (afterWord t w) (counted (eventOf t w) h) (cellOf t w) ws
+      | false ↦ ended t h c (refusalOf t w)
     ]
 
 unfoldable pub runOf : Table → List ℕ → Outcome
 unfolding tableRefusal runFrom
 runOf t ws =
-    let taken = runFrom t zeroTally ws in
+    let taken = runFrom t zeroTally noCell ws in
     cond (not (eqb (tableRefusal t) accepted)) (untaken t (tableRefusal t))
     (cond (not (leb (length ws) limit)) (untaken t tooManyWords) taken)

@@ -1,5 +1,5 @@
 -- One step of one process, with the ahead sets, lists of words, and what a step tells (MANUAL, "Steps", "Ahead sets",
--- "Lists of words" and "The functions of the crates").
+-- "Lists of words", "Shared cells" and "The functions of the crates").
 --
 --   goRow n p c v r  ==  row r of process p after GO; c is the set of those that compete, v what turn[level] holds.
 --   moved t k p a    ==  the table after kind k, process p and argument a, where they are allowed.
@@ -9,7 +9,8 @@
 --   afterWord t w    ==  the table after the step; the one given where the step refuses.
 --   afterWords t ws  ==  the table after a list of words, given one by one; a refused word is passed over.
 --   eventOf t w      ==  the event of an accepted word: a COME, an arrival at 30, a departure from 30, or none.
---   toldOf t w       ==  what the step tells of an accepted word; `quiet` is nothing, `withEvent` sets a field.
+--   cellOf t w       ==  the shared cell that a word uses; none where it is refused.
+--   toldOf t w       ==  what the step tells of an accepted word; `quiet` is nothing, `withX` sets a field.
 --   answerOf t w     ==  the step's answer: what it tells of an accepted word, or the number of the refusal.
 --   stepAnswerOf t w ==  the step's answer to C.
 --
@@ -24,8 +25,10 @@ use Rattle.machine.specs.Refusals.{accepted, badKind, noProcess, notAllo
 use Rattle.machine.specs.Rows.{withLocation, withAct, withBb, withLevel, withEst, withLis, withAhead, withTurn}
 use Rattle.machine.specs.Tables.{Table, row, oneOf, tableRefusal, competitors}
 use Rattle.machine.specs.Words.{STAY, COME, FLICKER, GO, LOOK, CANCEL, kindOf, processOf, argumentOf, formed}
+use Rattle.machine.specs.Shared.{noCell, cellAt}
 use Rattle.machine.specs.declared.Row.{Row}
 use Rattle.machine.specs.declared.Event.{Event}
+use Rattle.machine.specs.declared.SharedCell.{SharedCell}
 use Rattle.machine.specs.declared.Told.{Told}
 use Rattle.machine.specs.declared.Stepped.{Stepped}
 use Rattle.machine.specs.declared.StepAnswer.{StepAnswer}
@@ -161,11 +164,15 @@ afterWords t (w ∷ ws) = afterWords (afterWord t w) ws
 
 -- there is nothing to tell
 abbrev pub quiet : Told
-quiet = record { event = Event.Quiet }
+quiet = record { event = Event.Quiet; cell = noCell }
 
 -- the same but for the event
 abbrev pub withEvent : Event → Told → Told
-withEvent e s = record { event = e }
+withEvent e s = record { event = e; cell = s .cell }
+
+-- the same but for the shared cell
+abbrev pub withCell : SharedCell → Told → Told
+withCell c s = record { event = s .event; cell = c }
 
 -- the event of an accepted word: a COME; its process was elsewhere and is at 30 now; it was at 30 and is elsewhere now;
 -- none of these
@@ -178,13 +185,20 @@ eventOf t w =
     (cond (not (eqb before 30) && eqb after 30) Event.Arrival
     (cond (eqb before 30 && not (eqb after 30)) Event.Departure Event.Quiet))
 
+-- the shared cell that a word used: none on a refusal, act of q read or written, turn[k] read or written
+unfoldable pub cellOf : Table → ℕ → SharedCell
+unfolding refusalOf cellAt
+cellOf t w =
+    let used = cellAt (kindOf w) (processOf w) (argumentOf w) (row t (processOf w)) in
+    cond (eqb (refusalOf t w) accepted) used noCell
+
 abbrev pub toldOf : Table → ℕ → Told
-toldOf t w = record { event = eventOf t w }
+toldOf t w = record { event = eventOf t w; cell = cellOf t w }
 
 unfoldable pub answerOf : Table → ℕ → Stepped
-unfolding refusalOf eventOf
+unfolding refusalOf eventOf cellOf
 answerOf t w =
     cond (eqb (refusalOf t w) accepted) (Stepped.Moved (toldOf t w)) (Stepped.Refused (refusalOf t w))
 
 abbrev pub stepAnswerOf : Table → ℕ → StepAnswer
-stepAnswerOf t w = record { refusal = refusalOf t w }
+stepAnswerOf t w = record { refusal = refusalOf t w; cell = cellOf t w }

@@ -4,6 +4,7 @@
 --   Step t p u    <=>  process p, by one alternative of the numbered statement at which it is, goes from t to u; or it
 --                      gives up at 20 (`cancels`).
 --   stepWord p x  ==   the event word that stands for the step x of process p, with its choice.
+--   stepCell p x  ==   the shared cell that this step reads or writes.
 --
 -- A second reading of the paper: one constructor for each alternative, and then `cancels`; the guards are premises, the
 -- assignments stand in the paper's order, by the cell setters and the set operations alone. The step of Steps.antt is
@@ -20,7 +21,9 @@ use Rattle.counting.specs.Sets.{has, setOf, size, without, others}
 use Rattle.machine.specs.Rows.{withLocation, withAct, withBb, withLevel, withEst, withLis, withAhead, withTurn}
 use Rattle.machine.specs.Tables.{Table, row}
 use Rattle.machine.specs.Words.{STAY, COME, FLICKER, GO, LOOK, CANCEL, wordOf}
+use Rattle.machine.specs.Shared.{noCell, actRead, actWritten, turnRead, turnWritten}
 use Rattle.machine.specs.declared.Row.{Row}
+use Rattle.machine.specs.declared.SharedCell.{SharedCell}
 
 -- the assignment of private variables of p, and of act[p]
 abbrev pub assigned : Table → ℕ → (Row → Row) → Table
@@ -117,3 +120,26 @@ stepWord p (exits e) = wordOf GO p 0
 stepWord p (flickers-40 a e h) = wordOf FLICKER p a
 stepWord p (leaves e) = wordOf GO p 0
 stepWord p (cancels e) = wordOf CANCEL p 0
+
+-- the shared variable in the alternative that is taken: act[p], which p writes at 20 and 40; act[q], which it reads at
+-- 22; turn[level], which it writes at 24 and reads at 23 in the last two alternatives, before level changes
+abbrev pub stepCell : {t u : Table} (p : ℕ) → Step t p u → SharedCell
+stepCell p (rests e) = noCell
+stepCell p (comes e) = noCell
+stepCell p (flickers-20 a e h) = actWritten p
+stepCell p (enters e) = actWritten p
+stepCell p (starts-pass e h) = noCell
+stepCell p (wins e h) = noCell
+stepCell p (discards q e h a) = actRead q
+stepCell p (keeps q e h a) = actRead q
+stepCell p (ends-pass e h) = noCell
+stepCell p (lowers e h) = noCell
+stepCell p (to-push e h b) = noCell
+stepCell {t} p (waits e h b v) = turnRead (row t p .level)
+stepCell {t} p (skips e h b v) = turnRead (row t p .level)
+stepCell {t} p (flickers-24 a e h) = turnWritten (row t p .level)
+stepCell {t} p (pushes e) = turnWritten (row t p .level)
+stepCell p (exits e) = noCell
+stepCell p (flickers-40 a e h) = actWritten p
+stepCell p (leaves e) = actWritten p
+stepCell p (cancels e) = noCell

@@ -2,6 +2,7 @@
 --
 --   decimal n       ==  the decimal digits of n, as ASCII codes.
 --   line s ns       ==  a line: the text s and the numbers ns, with a space between two.
+--   cellText c      ==  a shared cell, as `-`, `ra3`, `wa0`, `rt1`, `wt15`.
 --   runLines t i ws ==  a line for each taken word, the first of which is word i, and the last line.
 --   textOf i        ==  the text for what an input holds.
 --   printed bs      ==  the same for the input bytes bs.
@@ -16,10 +17,12 @@ use lib.ListN.{length}
 use Rattle.machine.specs.Refusals.{accepted, tooManyWords, badBytes}
 use Rattle.machine.specs.Tables.{Table, row, oneOf}
 use Rattle.machine.specs.Words.{processOf}
-use Rattle.machine.specs.Steps.{refusalOf, afterWord}
+use Rattle.machine.specs.Shared.{READ, ACT}
+use Rattle.machine.specs.Steps.{refusalOf, afterWord, cellOf}
 use Rattle.machine.specs.Census.{critical}
 use Rattle.machine.specs.Inputs.{Input, inputOf}
 use Rattle.machine.specs.Inputs.Input.{BadBytes, BadImage, TooMany, Ready}
+use Rattle.machine.specs.declared.SharedCell.{SharedCell}
 
 -- ---- the fixed byte strings
 
@@ -64,17 +67,25 @@ spaced (n ∷ m ∷ ns) = decimal n ++ (32 ∷ spaced (m ∷ ns))
 abbrev pub line : List ℕ → List ℕ → List ℕ
 line s ns = s ++ (spaced ns ++ (10 ∷ []))
 
+-- a shared cell: `-` for none; else `r` where it is read and `w` where it is written, `a` for act and `t` for turn, and
+-- its index
+abbrev pub cellText : SharedCell → List ℕ
+cellText c =
+    cond (eqb (c .access) 0) (45 ∷ [])
+    (cond (eqb (c .access) READ) 114 119 ∷ cond (eqb (c .variable) ACT) 97 116 ∷ decimal (c .index))
+
 -- ---- the text of a run
 
--- the fields of a taken word: its place, its process, its location before and after, the number at 30 after
+-- the numbers of a taken word: its place, its process, its location before and after, the number at 30 after
 abbrev pub wordFields : Table → ℕ → ℕ → List ℕ
 wordFields t i w =
     let p = processOf w in
     let u = afterWord t w in
     i ∷ p ∷ row t p .location ∷ row u p .location ∷ critical u ∷ []
 
+-- these numbers, a space, the shared cell of the word, a line feed
 abbrev pub wordLine : Table → ℕ → ℕ → List ℕ
-wordLine t i w = line [] (wordFields t i w)
+wordLine t i w = spaced (wordFields t i w) ++ (32 ∷ cellText (cellOf t w) ++ (10 ∷ []))
 
 -- the first line, and the last one of a run that took i words: all of them, or up to one that is refused
 abbrev pub postsLine : Table → List ℕ
@@ -87,7 +98,7 @@ abbrev pub stopLine : ℕ → ℕ → List ℕ
 stopLine i why = line stopText (i ∷ why ∷ [])
 
 unfoldable pub runLines : Table → ℕ → List ℕ → List ℕ
-unfolding spaced refusalOf afterWord
+unfolding spaced refusalOf afterWord cellOf
 runLines t i [] = doneLine i
 runLines t i (w ∷ ws) =
     elim (eqb (refusalOf t w) accepted) [

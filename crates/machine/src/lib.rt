@@ -1,7 +1,8 @@
 // The declared types and constants of the engine, and setters of what a step tells. What they mean
 // is said in specs/.
 ghost use mathlib.Core.Path.{_≡_};
-ghost use Rattle.machine.specs.Steps.{withEvent};
+ghost use Rattle.machine.specs.Shared.{actRead, actWritten, turnRead, turnWritten};
+ghost use Rattle.machine.specs.Steps.{quiet, withEvent, withCell};
 
 // One process: its location (program counter), its shared flag act, its private variables, its
 // history set ahead, and the shared cell turn[k] in the row of process k.
@@ -82,7 +83,7 @@ pub const INPUT_WORDS: usize = IMAGE_WORDS + RUN_LIMIT;
 pub const INPUT_BYTES: usize = 4 * INPUT_WORDS;
 
 // Room for the bytes of every text.
-pub const TEXT_BYTES: usize = 139300;
+pub const TEXT_BYTES: usize = 180260;
 
 // The refusals by number; specs/Refusals.antt says what each means.
 pub const NO_HEADER: u16 = 1;
@@ -152,22 +153,109 @@ pub enum Event {
     Departure,
 }
 
+// The shared cell that a step used: whether it was read or written, whether it is an act or a turn
+// cell, and its index; all 0 where it used none.
+#[repr(C)]
+pub struct SharedCell {
+    pub access: u16,
+    pub variable: u16,
+    pub index: u16,
+}
+
+// The accesses, and the shared variables; 0 is none of them.
+pub const READ: u16 = 1;
+
+pub const WRITTEN: u16 = 2;
+
+pub const ACT: u16 = 1;
+
+pub const TURN: u16 = 2;
+
+impl SharedCell {
+    pub const NONE: SharedCell = SharedCell {
+        access: 0,
+        variable: 0,
+        index: 0,
+    };
+}
+
 // What a step tells of an accepted word.
 pub struct Told {
     pub event: Event,
+    pub cell: SharedCell,
 }
 
 impl Told {
     // There is nothing to tell.
     pub const QUIET: Told = Told {
         event: Event::Quiet,
+        cell: SharedCell::NONE,
     };
 
     // The same but for the event.
     pub fn with_event(self, event: Event) -> Told
         ensures { λ s. ⌜ s ≡ withEvent event self ⌝ }
     {
-        Told { event: event }
+        let cell = self.cell;
+        Told {
+            event: event,
+            cell: cell,
+        }
+    }
+
+    // The same but for the shared cell.
+    pub fn with_cell(self, cell: SharedCell) -> Told
+        ensures { λ s. ⌜ s ≡ withCell cell self ⌝ }
+    {
+        let event = self.event;
+        Told {
+            event: event,
+            cell: cell,
+        }
+    }
+
+    // The act of process q was read.
+    pub fn act_read(q: u16) -> Told
+        ensures { λ s. ⌜ s ≡ withCell (actRead q) quiet ⌝ }
+    {
+        Told::QUIET.with_cell(SharedCell {
+            access: READ,
+            variable: ACT,
+            index: q,
+        })
+    }
+
+    // The act of process q was written.
+    pub fn act_written(q: u16) -> Told
+        ensures { λ s. ⌜ s ≡ withCell (actWritten q) quiet ⌝ }
+    {
+        Told::QUIET.with_cell(SharedCell {
+            access: WRITTEN,
+            variable: ACT,
+            index: q,
+        })
+    }
+
+    // The cell turn[k] was read.
+    pub fn turn_read(k: u16) -> Told
+        ensures { λ s. ⌜ s ≡ withCell (turnRead k) quiet ⌝ }
+    {
+        Told::QUIET.with_cell(SharedCell {
+            access: READ,
+            variable: TURN,
+            index: k,
+        })
+    }
+
+    // The cell turn[k] was written.
+    pub fn turn_written(k: u16) -> Told
+        ensures { λ s. ⌜ s ≡ withCell (turnWritten k) quiet ⌝ }
+    {
+        Told::QUIET.with_cell(SharedCell {
+            access: WRITTEN,
+            variable: TURN,
+            index: k,
+        })
     }
 }
 
@@ -193,17 +281,20 @@ impl Tally {
     };
 }
 
-// The answer of a run: how many words were taken, and the refusal or 0.
+// The answer of a run: how many words were taken, the refusal or 0, and the shared cell of the last
+// word taken.
 #[repr(C)]
 pub struct Ran {
     pub taken: u32,
     pub refusal: u32,
+    pub cell: SharedCell,
 }
 
-// The answer of a step to C: the refusal, or 0.
+// The answer of a step to C: the refusal or 0, and the shared cell that the word used.
 #[repr(C)]
 pub struct StepAnswer {
     pub refusal: u16,
+    pub cell: SharedCell,
 }
 
 // The answer of taking a word apart to C: the refusal or 0, and the parts; these are 0 where the word

@@ -5,6 +5,7 @@ ghost use mathlib.Core.Path.{_≡_};
 ghost use Prim.Native.Nat.{_-_, _<_};
 ghost use Rattle.sets.specs.Bounds.{Among};
 ghost use Rattle.machine.specs.Rows.{withLocation, withAct};
+ghost use Rattle.machine.specs.Shared.{asksTurn};
 ghost use Rattle.machine.specs.Steps.{entered, passed, looked, reconsidered, pushed, forgets};
 
 // To a location, with everything else kept.
@@ -89,6 +90,14 @@ pub fn reconsidered(p: u16, v: u16, r: Row) -> Row
         s.bb = 0;
     }
     s
+}
+
+// Whether GO at 23 asks for turn[level]: not where est has fewer members than level, nor where bb is 0.
+pub fn asks_turn(r: Row) -> bool
+    ensures { λ b. ⌜ b ≡ asksTurn r ⌝ }
+{
+    let low = sets::size(r.est) < r.level;
+    !low & (r.bb != 0)
 }
 
 // One less, or 0.

@@ -18,10 +18,11 @@ use lib.ListN.{length, getD, drop}
 use lib.Seq.{drop-cons, drop-length}
 use borrow.Author.Tests.{eq-eqb, ne-eqb}
 use Rattle.machine.specs.Tables.{Table}
-use Rattle.machine.specs.Steps.{refusalOf, afterWord, eventOf}
+use Rattle.machine.specs.Steps.{refusalOf, afterWord, eventOf, cellOf}
 use Rattle.machine.specs.Runs.{Outcome, ended, counted, ranOf, runFrom}
 use Rattle.machine.specs.declared.Event.{Event}
 use Rattle.machine.specs.declared.Event.the-variants.{Quiet, Come, Arrival, Departure}
+use Rattle.machine.specs.declared.SharedCell.{SharedCell}
 use Rattle.machine.specs.declared.Tally.{Tally}
 use Rattle.machine.proofs.Accepted.{refused-same}
 use Rattle.cells.specs.View.{rowsOf}
@@ -30,59 +31,64 @@ use Rattle.runs.specs.declared.RunAnswer.{RunAnswer}
 
 -- ---- word by word
 
-module _ (t : Table) (h : Tally) (w : ℕ) (ws : List ℕ) where
+module _ (t : Table) (h : Tally) (c : SharedCell) (w : ℕ) (ws : List ℕ) where
   -- the run from w on, by whether w is accepted
   unfoldable from : Bool → Outcome
   from b =
       elim b [
-        | true ↦ runFrom (afterWord t w) (counted (eventOf t w) h) ws
-        | false ↦ ended t h (refusalOf t w)
+        | true ↦ runFrom (afterWord t w) (counted (eventOf t w) h) (cellOf t w) ws
+        | false ↦ ended t h c (refusalOf t w)
       ]
 
-  from-is : runFrom t h (w ∷ ws) ≡ from (eqb (refusalOf t w) 0)
+  from-is : runFrom t h c (w ∷ ws) ≡ from (eqb (refusalOf t w) 0)
   unfolding runFrom from
   from-is = refl
 
-  pub run-more : refusalOf t w ≡ 0 → runFrom t h (w ∷ ws) ≡ runFrom (afterWord t w) (counted (eventOf t w) h) ws
+  pub run-more : refusalOf t w ≡ 0
+      → runFrom t h c (w ∷ ws) ≡ runFrom (afterWord t w) (counted (eventOf t w) h) (cellOf t w) ws
   unfolding from
   run-more e = from-is ∙ ap from (eq-eqb _ _ e)
 
   pub run-stop : (refusalOf t w ≡ 0 → ⊥)
-      → runFrom t h (w ∷ ws) ≡ ended t h (refusalOf t w)
+      → runFrom t h c (w ∷ ws) ≡ ended t h c (refusalOf t w)
   unfolding from
   run-stop e = from-is ∙ ap from (ne-eqb _ _ e)
 
-pub run-end : (t : Table) (h : Tally) → runFrom t h [] ≡ ended t h 0
+pub run-end : (t : Table) (h : Tally) (c : SharedCell) → runFrom t h c [] ≡ ended t h c 0
 unfolding runFrom
-run-end t h = refl
+run-end t h c = refl
 
--- word i of a list met: accepted, with u the table and g the tally after it
-pub run-turn : (t u : Table) (h g : Tally) (ws : List ℕ) (i : ℕ)
+-- word i of a list met: accepted, with u the table and g the tally after it, and it used the cell d
+pub run-turn : (t u : Table) (h g : Tally) (c d : SharedCell) (ws : List ℕ) (i : ℕ)
     → i < length ws
     → refusalOf t (getD ws i 0) ≡ 0
     → u ≡ afterWord t (getD ws i 0)
     → g ≡ counted (eventOf t (getD ws i 0)) h
-    → runFrom t h (drop i ws) ≡ runFrom u g (drop (i + 1) ws)
-run-turn t u h g ws i l e a b =
-    ap (runFrom t h) (drop-cons ws i 0 l) ∙ run-more t h (getD ws i 0) (drop (suc i) ws) e ∙ rw (a, b, add-one i) refl
+    → d ≡ cellOf t (getD ws i 0)
+    → runFrom t h c (drop i ws) ≡ runFrom u g d (drop (i + 1) ws)
+run-turn t u h g c d ws i l e a b f =
+    ap (runFrom t h c) (drop-cons ws i 0 l)
+    ∙ run-more t h c (getD ws i 0) (drop (suc i) ws) e
+    ∙ rw (a, b, f, add-one i) refl
 
 -- or refused with v, and the table after it is the same
-pub run-halt : (t u : Table) (h : Tally) (ws : List ℕ) (i v : ℕ)
+pub run-halt : (t u : Table) (h : Tally) (c : SharedCell) (ws : List ℕ) (i v : ℕ)
     → i < length ws
     → (refusalOf t (getD ws i 0) ≡ 0 → ⊥)
     → u ≡ afterWord t (getD ws i 0)
     → v ≡ refusalOf t (getD ws i 0)
-    → runFrom t h (drop i ws) ≡ ended u h v
-run-halt t u h ws i v l n a b =
-    ap (runFrom t h) (drop-cons ws i 0 l)
-    ∙ run-stop t h (getD ws i 0) (drop (suc i) ws) n
+    → runFrom t h c (drop i ws) ≡ ended u h c v
+run-halt t u h c ws i v l n a b =
+    ap (runFrom t h c) (drop-cons ws i 0 l)
+    ∙ run-stop t h c (getD ws i 0) (drop (suc i) ws) n
     ∙ rw (a ∙ refused-same t (getD ws i 0) n, b) refl
 
 -- past the last word
-pub run-past : (t : Table) (h : Tally) (ws : List ℕ) (i : ℕ)
+pub run-past : (t : Table) (h : Tally) (c : SharedCell) (ws : List ℕ) (i : ℕ)
     → i ≡ length ws
-    → runFrom t h (drop i ws) ≡ ended t h 0
-run-past t h ws i e = ap (λ (k : ℕ). runFrom t h (drop k ws)) e ∙ ap (runFrom t h) (drop-length ws) ∙ run-end t h
+    → runFrom t h c (drop i ws) ≡ ended t h c 0
+run-past t h c ws i e =
+    ap (λ (k : ℕ). runFrom t h c (drop k ws)) e ∙ ap (runFrom t h c) (drop-length ws) ∙ run-end t h c
 
 -- ---- the tally
 
@@ -100,13 +106,13 @@ counted-arrivals Departure h = omega arith
 
 -- ---- the answer of a run
 
--- a run that ended with table y, tally h and refusal v, and answers so
-pub runs-ended : (x y : List (List ℕ)) (o : Outcome) (h : Tally) (v : ℕ) (r : RunAnswer)
+-- a run that ended with table y, tally h, last cell c and refusal v, and answers so
+pub runs-ended : (x y : List (List ℕ)) (o : Outcome) (h : Tally) (c : SharedCell) (v : ℕ) (r : RunAnswer)
     → length y ≡ length x
-    → o ≡ ended (rowsOf y) h v
-    → r ≡ answered h v
+    → o ≡ ended (rowsOf y) h c v
+    → r ≡ answered h c v
     → Runs x o y r
-runs-ended x y o h v r l e a =
+runs-ended x y o h c v r l e a =
     record {
       becomes = record { rows-are = sym (ap (λ (k : Outcome). k .table) e); size-is = l };
       ran-is = ap (λ (k : RunAnswer). k .ran) a ∙ sym (ap ranOf e);

@@ -1,6 +1,6 @@
 -- What a run promises of cells, and what it answers.
 --
---   answered h v      ==   the answer of a run that ended with tally h and refusal v, or 0.
+--   answered h c v    ==   the answer of a run that ended with tally h, last cell c and refusal v, or 0.
 --   Runs x o y r      <=>  the cells x have become y, and r is the answer, by a run with outcome o.
 --   RunsSound x o y r <=>  and the table is sound again.
 --
@@ -10,12 +10,13 @@ use mathlib.Core.Path.{_≡_}
 use mathlib.Core.List.{List}
 use Rattle.machine.specs.Tables.{tableRefusal}
 use Rattle.machine.specs.Runs.{Outcome, ranOf}
+use Rattle.machine.specs.declared.SharedCell.{SharedCell}
 use Rattle.machine.specs.declared.Tally.{Tally}
 use Rattle.cells.specs.View.{rowsOf, Becomes}
 use Rattle.runs.specs.declared.RunAnswer.{RunAnswer}
 
-abbrev pub answered : Tally → ℕ → RunAnswer
-answered h v = record { ran = record { taken = h .words; refusal = v }; tally = h }
+abbrev pub answered : Tally → SharedCell → ℕ → RunAnswer
+answered h c v = record { ran = record { taken = h .words; refusal = v; cell = c }; tally = h }
 
 pub record Runs (x : List (List ℕ)) (o : Outcome) (y : List (List ℕ)) (r : RunAnswer) : Type 0 where
   pub becomes : Becomes x (o .table) y

@@ -3,17 +3,19 @@
 use cells::checks::check;
 use machine::Event;
 use machine::Ran;
+use machine::SharedCell;
 use machine::Stepped;
 use machine::Tally;
 use steps::stepping::advance;
 ghost use mathlib.Core.Path.{_≡_};
+ghost use Rattle.machine.specs.Shared.{noCell};
 ghost use Rattle.machine.specs.Runs.{counted, zeroTally, runFrom, runOf};
 ghost use Rattle.cells.specs.View.{rowsOf};
 ghost use Rattle.runs.specs.Outcomes.{answered, Runs, RunsSound};
 ghost use Rattle.runs.specs.Bounds.{Room, Runnable};
 
-// What a run hands back: how many words it took, the refusal or 0, and the tally of the words
-// taken.
+// What a run hands back: how many words it took, the refusal or 0, the shared cell of the last of
+// them, and the tally.
 pub struct RunAnswer {
     pub ran: Ran,
     pub tally: Tally,
@@ -43,14 +45,15 @@ fn counted(event: Event, tally: Tally) -> Tally
     }
 }
 
-// The answer of a run that ends with a refusal, or with 0.
-fn answer(refusal: u16, tally: Tally) -> RunAnswer
-    ensures { λ r. ⌜ r ≡ answered tally refusal ⌝ }
+// The answer of a run that ends with a refusal, or with 0, after a word that used the cell.
+fn answer(refusal: u16, cell: SharedCell, tally: Tally) -> RunAnswer
+    ensures { λ r. ⌜ r ≡ answered tally cell refusal ⌝ }
 {
     RunAnswer {
         ran: Ran {
             taken: tally.words,
             refusal: refusal as u32,
+            cell: cell,
         },
         tally: tally,
     }
@@ -58,9 +61,9 @@ fn answer(refusal: u16, tally: Tally) -> RunAnswer
 
 // The answer of a run that is refused before any word is taken.
 pub fn untaken(refusal: u16) -> RunAnswer
-    ensures { λ r. ⌜ r ≡ answered zeroTally refusal ⌝ }
+    ensures { λ r. ⌜ r ≡ answered zeroTally noCell refusal ⌝ }
 {
-    answer(refusal, Tally::ZERO)
+    answer(refusal, SharedCell::NONE, Tally::ZERO)
 }
 
 // At most 8,192 words at a table that is known to be sound, which is not checked again.
@@ -68,26 +71,28 @@ pub fn run_words(cells: &mut [[u16; 8]], words: &[u32]) -> RunAnswer
     requires { ⌜ Runnable (now cells) (now words) ⌝ }
     ensures { λ r. ⌜
         RunsSound (now (cells .entry))
-        (runFrom (rowsOf (now (cells .entry))) zeroTally (now (words .entry)))
+        (runFrom (rowsOf (now (cells .entry))) zeroTally noCell (now (words .entry)))
         (now (cells .exit)) r
         ⌝ }
 {
     let n = words.len();
     let mut tally = Tally::ZERO;
+    let mut cell = SharedCell::NONE;
     let mut i = 0;
     while i < n {
         match advance(cells, words[i]) {
             Stepped::Moved(told) => {
                 let event = told.event;
                 tally = counted(event, tally);
+                cell = told.cell;
             }
             Stepped::Refused(refusal) => {
-                return answer(refusal, tally);
+                return answer(refusal, cell, tally);
             }
         }
         i += 1;
     }
-    answer(0, tally)
+    answer(0, cell, tally)
 }
 
 // A run at a table of any size and content: 6 or 7 for the table, then 12 for more than 8,192

@@ -8,16 +8,20 @@ fn figure(before: &[u8], n: u32) {
     io::print_decimal(STDOUT_FILENO, n as u64);
 }
 
-// A location and what stands before it.
-fn place(before: &[u8], location: u16) {
-    figure(before, location as u32);
+// A number of 16 bits and what stands before it.
+fn place(before: &[u8], n: u16) {
+    figure(before, n as u32);
 }
 
-// A run: words taken, the refusal or 0, then its tally.
+// A run: words taken, the refusal or 0, the shared cell of the last word as access, variable and
+// index, then its tally.
 fn show(name: &[u8], r: RunAnswer) {
     io::write_all(STDOUT_FILENO, name);
     figure(b" taken ", r.ran.taken);
     figure(b" refusal ", r.ran.refusal);
+    place(b" cell ", r.ran.cell.access);
+    place(b" ", r.ran.cell.variable);
+    place(b" ", r.ran.cell.index);
     figure(b" words ", r.tally.words);
     figure(b" comes ", r.tally.comes);
     figure(b" arrivals ", r.tally.arrivals);
@@ -80,6 +84,19 @@ fn stops() {
     );
 }
 
+// The last word taken reads or writes a shared cell; a refused word after it changes nothing.
+fn shared() {
+    let mut at_22 = [[22, 1, 0, 1, 2, 2, 0, 0], [10, 0, 0, 0, 0, 0, 0, 0]];
+    show(b"looks", runs::run(&mut at_22, &[0x5000_0001]));
+    let mut at_23 = [[23, 1, 1, 1, 2, 0, 0, 0], [10, 0, 0, 0, 0, 0, 0, 0]];
+    show(b"reconsiders", runs::run(&mut at_23, &[0x4000_0000]));
+    let mut at_24 = [[24, 1, 0, 1, 2, 0, 0, 0], [10, 0, 0, 0, 0, 0, 0, 0]];
+    show(
+        b"flickers",
+        runs::run(&mut at_24, &[0x3000_0001, 0x1000_0000]),
+    );
+}
+
 // Tables that are refused before any word is taken, and before the words are counted.
 fn tables() {
     let words = [0x1000_0000; 8193];
@@ -95,5 +112,6 @@ fn main() {
     arrival();
     cancel();
     stops();
+    shared();
     tables();
 }

@@ -102,19 +102,21 @@ module _ (x : List (List ℕ)) (w : ℕ) where
       word-refusal : wordRefusal (rowsOf x) w ≡ refusal
       word-refusal = refused-at (rowsOf x) w f (subst (λ (m : ℕ). processOf w < m) (sym (rows-length x)) k)
 
-      told : refusal ≡ 0 → toldOf (rowsOf x) w ≡ kindTold (kindOf w) (row (rowsOf x) (processOf w))
+      abbrev tells : Told
+      tells = kindTold (kindOf w) (processOf w) (argumentOf w) (row (rowsOf x) (processOf w))
+
+      told : refusal ≡ 0 → toldOf (rowsOf x) w ≡ tells
       told e = word-told (rowsOf x) w z (word-refusal ∙ e)
 
       answer-taken : answerOf (rowsOf x) w
-          ≡ cond (eqb refusal 0) (Stepped.Moved (kindTold (kindOf w) (row (rowsOf x) (processOf w))))
-          (Stepped.Refused refusal)
+          ≡ cond (eqb refusal 0) (Stepped.Moved tells) (Stepped.Refused refusal)
       unfolding answerOf
       answer-taken =
           ap (λ (m : ℕ). cond (eqb m 0) (Stepped.Moved (toldOf (rowsOf x) w)) (Stepped.Refused m))
           (refusal-word (rowsOf x) w z ∙ word-refusal)
           ∙ split (λ b. (eqb refusal 0 ≡ b)
           → cond b (Stepped.Moved (toldOf (rowsOf x) w)) (Stepped.Refused refusal)
-          ≡ cond b (Stepped.Moved (kindTold (kindOf w) (row (rowsOf x) (processOf w)))) (Stepped.Refused refusal))
+          ≡ cond b (Stepped.Moved tells) (Stepped.Refused refusal))
           (eqb refusal 0)
           (λ _ h. ap (λ (g : Told). Stepped.Moved g) (told (eqb-true refusal 0 h)))
           (λ _ h. refl)

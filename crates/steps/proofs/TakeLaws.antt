@@ -1,15 +1,12 @@
 -- A kind with an argument at cells: refused and nothing moved, or taken. Assumes nothing.
-use Prim.Native.Nat.{ℕ, _<_}
+use Prim.Native.Nat.{ℕ}
 use mathlib.Core.Path.{_≡_, refl, sym, ap, _∙_}
-use mathlib.Core.Bool.{Bool, true, false, false≢true, cond, not, and-eq-true-iff}
+use mathlib.Core.Bool.{Bool, true, false, cond, not, and-eq-true-iff}
 use mathlib.Core.Logic.{_⊎_, inl, inr, ⊎-elim}
 use mathlib.Core.List.{List}
-use native.Mathlib.Decide.{decLt}
-use native.Mathlib.Omega.{arith}
 use lib.ListN.{length}
 use borrow.Author.Tests.{eq-eqb, ne-eqb}
-use Rattle.counting.specs.Sets.{has}
-use Rattle.counting.proofs.SetLaws.{has-over}
+use Rattle.counting.proofs.SetLaws.{member-below}
 use Rattle.machine.specs.Refusals.{accepted, badArgument}
 use Rattle.machine.specs.Tables.{Table, row}
 use Rattle.machine.specs.Words.{STAY, COME, FLICKER, GO, LOOK, CANCEL, isKind, kindOf, spareClear, formed}
@@ -71,28 +68,22 @@ module _ (t : Table) (k p a : ℕ) where
 
 -- ---- what is not refused, from the number v that the check found, may be done
 
-pub may-go : {x : List (List ℕ)} {p v : ℕ} (a : ℕ) → Ready x p → v ≡ refusalAt (rowsOf x) GO p a → v ≡ 0 → Free x p
-may-go {x} {p} a ready why z = record { ready = ready; may-go = allowed-there (rowsOf x) GO p a (sym why ∙ z) }
+pub may-move : {x : List (List ℕ)} {p v : ℕ} (k a : ℕ) → Ready x p → v ≡ refusalAt (rowsOf x) k p a → v ≡ 0
+    → Free x k p
+may-move {x} {p} k a ready why z = record { ready = ready; may = allowed-there (rowsOf x) k p a (sym why ∙ z) }
 
 -- LOOK is at a member of lis, which is a process
 pub may-look : {x : List (List ℕ)} {p a v : ℕ} → Ready x p → v ≡ refusalAt (rowsOf x) LOOK p a → v ≡ 0 → Sees x p a
 unfolding argumentFits
-may-look {x} {p} {a} ready why z = record { ready = ready; seen = go (decLt a (length x)) }
-  where
-    member : has (row (rowsOf x) p .lis) a ≡ true
-    member = argument-fits (rowsOf x) LOOK p a (sym why ∙ z)
-
-    go : Dec (a < length x) → a < length x
-    go (yes k) = k
-    go (no k) =
-        let over = has-over (row (rowsOf x) p .lis) (length x) a (ready .listed) (omega (arith, k)) in
-        absurd (false≢true (sym over ∙ member))
+may-look {x} {p} {a} ready why z =
+    let member = argument-fits (rowsOf x) LOOK p a (sym why ∙ z) in
+    record { ready = ready; seen = member-below (row (rowsOf x) p .lis) (length x) a (ready .listed) member }
 
 -- ---- refused, or moved
 
 module _ (x : List (List ℕ)) (k p a : ℕ) where
   abbrev answers : Bool → Stepped
-  answers b = cond b (Stepped.Moved (kindTold k (row (rowsOf x) p))) (Stepped.Refused (refusalAt (rowsOf x) k p a))
+  answers b = cond b (Stepped.Moved (kindTold k p a (row (rowsOf x) p))) (Stepped.Refused (refusalAt (rowsOf x) k p a))
 
   abbrev tables : Bool → Table
   tables b = cond b (moved (rowsOf x) k p a) (rowsOf x)

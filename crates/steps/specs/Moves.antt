@@ -1,10 +1,10 @@
 -- What the functions inside the step require and ensure.
 --
 --   kindEvent k r     ==   the event of an allowed kind at a row, read before the step; goEvent r is that of GO.
---   kindTold k r      ==   what the step tells of it.
+--   kindTold k p a r  ==   what the step tells of it, of process p with argument a.
 --   Ready x p         <=>  process p of the cells x can move: what a sound table gives.
 --   At x p l          <=>  it can, and is at location l.
---   Free x p          <=>  it can, and GO is allowed where it is.
+--   Free x k p        <=>  it can, and kind k is allowed where it is.
 --   Sees x p q        <=>  it can, and q is a process.
 --   Asked x k p       <=>  it can, and k is a kind.
 --   Jumping x k p     <=>  it can, and k is STAY, COME or CANCEL, which change no cell but the location.
@@ -23,6 +23,7 @@ use lib.ListN.{length}
 use Rattle.machine.specs.Refusals.{accepted}
 use Rattle.machine.specs.Tables.{row}
 use Rattle.machine.specs.Words.{STAY, COME, GO, CANCEL, isKind}
+use Rattle.machine.specs.Shared.{cellAt}
 use Rattle.machine.specs.Steps.{moved, allowed, refusalAt}
 use Rattle.machine.specs.declared.Row.{Row}
 use Rattle.machine.specs.declared.Event.{Event}
@@ -41,8 +42,8 @@ goEvent r =
 abbrev pub kindEvent : ℕ → Row → Event
 kindEvent k r = cond (eqb k COME) Event.Come (cond (eqb k GO) (goEvent r) Event.Quiet)
 
-abbrev pub kindTold : ℕ → Row → Told
-kindTold k r = record { event = kindEvent k r }
+abbrev pub kindTold : ℕ → ℕ → ℕ → Row → Told
+kindTold k p a r = record { event = kindEvent k r; cell = cellAt k p a r }
 
 -- ---- what the functions require
 
@@ -56,9 +57,9 @@ pub record At (x : List (List ℕ)) (p l : ℕ) : Type 0 where
   pub ready : Ready x p
   pub there : row (rowsOf x) p .location ≡ l
 
-pub record Free (x : List (List ℕ)) (p : ℕ) : Type 0 where
+pub record Free (x : List (List ℕ)) (k p : ℕ) : Type 0 where
   pub ready : Ready x p
-  pub may-go : allowed GO (row (rowsOf x) p) ≡ true
+  pub may : allowed k (row (rowsOf x) p) ≡ true
 
 pub record Sees (x : List (List ℕ)) (p q : ℕ) : Type 0 where
   pub ready : Ready x p
@@ -75,7 +76,7 @@ pub record Jumping (x : List (List ℕ)) (k p : ℕ) : Type 0 where
 -- ---- what the functions ensure
 
 pub record Moves (x : List (List ℕ)) (k p a : ℕ) (y : List (List ℕ)) (s : Told) : Type 0 where
-  pub told-is : s ≡ kindTold k (row (rowsOf x) p)
+  pub told-is : s ≡ kindTold k p a (row (rowsOf x) p)
   pub becomes : Becomes x (moved (rowsOf x) k p a) y
 
 -- GO has no argument
@@ -84,6 +85,6 @@ Goes x p y s = Moves x GO p 0 y s
 
 pub record Takes (x : List (List ℕ)) (k p a : ℕ) (y : List (List ℕ)) (s : Stepped) : Type 0 where
   pub answer-is : s
-      ≡ cond (eqb (refusalAt (rowsOf x) k p a) accepted) (Stepped.Moved (kindTold k (row (rowsOf x) p)))
+      ≡ cond (eqb (refusalAt (rowsOf x) k p a) accepted) (Stepped.Moved (kindTold k p a (row (rowsOf x) p)))
       (Stepped.Refused (refusalAt (rowsOf x) k p a))
   pub becomes : Becomes x (cond (eqb (refusalAt (rowsOf x) k p a) accepted) (moved (rowsOf x) k p a) (rowsOf x)) y

@@ -11,6 +11,7 @@ use machine::Told;
 ghost use lib.ListN.{set};
 ghost use Rattle.machine.specs.Rows.{withLocation};
 ghost use Rattle.machine.specs.Tables.{row};
+ghost use Rattle.machine.specs.Words.{GO};
 ghost use Rattle.cells.specs.View.{rowsOf, Becomes};
 ghost use Rattle.steps.specs.Moves.{Ready, At, Free, Goes};
 
@@ -34,7 +35,7 @@ fn enter(cells: &mut [[u16; 8]], p: u16) -> Told
     let c = competitors(cells);
     let r = row_at(cells, p as usize);
     put_row(cells, p as usize, rows::moves::entered(n, p, c, r));
-    Told::QUIET
+    Told::act_written(p)
 }
 
 // GO at 21: to 22, or at level 0 into the critical section.
@@ -59,7 +60,7 @@ fn end_pass(cells: &mut [[u16; 8]], p: u16) -> Told
     Told::QUIET
 }
 
-// GO at 23: what est, bb and the turn cell of its level say.
+// GO at 23: what est, bb and the turn cell of its level say, where est and bb ask for that cell.
 fn reconsider(cells: &mut [[u16; 8]], p: u16) -> Told
     requires { ⌜ At (now cells) p 23 ⌝ }
     ensures { λ s. ⌜ Goes (now (cells .entry)) p (now (cells .exit)) s ⌝ }
@@ -67,6 +68,9 @@ fn reconsider(cells: &mut [[u16; 8]], p: u16) -> Told
     let r = row_at(cells, p as usize);
     let v = row_at(cells, r.level as usize).turn;
     put_row(cells, p as usize, rows::moves::reconsidered(p, v, r));
+    if rows::moves::asks_turn(r) {
+        return Told::turn_read(r.level);
+    }
     Told::QUIET
 }
 
@@ -80,7 +84,7 @@ fn push(cells: &mut [[u16; 8]], p: u16) -> Told
     let r = row_at(cells, p as usize);
     put_row(cells, p as usize, rows::moves::pushed(n, p, c, r));
     turn_to(cells, r.level as usize, p);
-    Told::QUIET
+    Told::turn_written(r.level)
 }
 
 // GO at 30: out of the critical section and out of every ahead set.
@@ -100,13 +104,13 @@ fn rest(cells: &mut [[u16; 8]], p: u16) -> Told
 {
     let r = row_at(cells, p as usize);
     put_row(cells, p as usize, rows::moves::left(r));
-    Told::QUIET
+    Told::act_written(p)
 }
 
 // GO of process p where it is allowed. What is left for the last arm is 40: as a case of its own it
 // makes a run of two processes 7 percent slower.
 pub(crate) fn go(cells: &mut [[u16; 8]], p: u16) -> Told
-    requires { ⌜ Free (now cells) p ⌝ }
+    requires { ⌜ Free (now cells) GO p ⌝ }
     ensures { λ s. ⌜ Goes (now (cells .entry)) p (now (cells .exit)) s ⌝ }
 {
     let l = row_at(cells, p as usize).location;

@@ -11,13 +11,16 @@ use lib.Dec.{eqb}
 use lib.ListN.{length}
 use Rattle.machine.specs.Refusals.{accepted, tooManyWords}
 use Rattle.machine.specs.Tables.{Table, tableRefusal}
-use Rattle.machine.specs.Steps.{refusalOf, afterWord, eventOf}
+use Rattle.machine.specs.Shared.{noCell}
+use Rattle.machine.specs.Steps.{refusalOf, afterWord, eventOf, cellOf}
 use Rattle.machine.specs.Runs.{limit, Outcome, ended, counted, zeroTally, runFrom, runOf}
 use Rattle.machine.specs.Images.{imageRefusal, tableIn}
 use Rattle.machine.specs.Bytes.{wordsIn, bytesFit}
 use Rattle.machine.specs.Inputs.{imagePart, eventPart, Input, inputOf}
-use Rattle.machine.specs.Text.{postsText, spaced, wordFields, postsLine, doneLine, stopLine, runLines, textOf, printed}
+use Rattle.machine.specs.Text.{postsText, spaced, cellText, wordFields, wordLine, postsLine, doneLine, stopLine}
+use Rattle.machine.specs.Text.{runLines, textOf, printed}
 use Rattle.machine.specs.declared.Event.{Event}
+use Rattle.machine.specs.declared.SharedCell.{SharedCell}
 use Rattle.machine.specs.declared.Tally.{Tally}
 use Rattle.machine.proofs.RunLaws.{runOf-words, runOf-taken, counted-words}
 use Rattle.image_theorems.proofs.InputTheorems.{table-fits, holds-ready, holds-too-many}
@@ -44,34 +47,37 @@ between y fields rest =
     ap (λ (l : List ℕ). y ++ (10 ∷ l)) (append-assoc fields (10 ∷ []) rest)
     ∙ sym (append-assoc y (10 ∷ fields) (10 ∷ rest))
 
-run-ends : (y : List ℕ) (t : Table) (h : Tally) (ws : List ℕ)
-    → Ends (y ++ (10 ∷ runLines t (h .words) ws)) (runFrom t h ws)
+run-ends : (y : List ℕ) (t : Table) (h : Tally) (c : SharedCell) (ws : List ℕ)
+    → Ends (y ++ (10 ∷ runLines t (h .words) ws)) (runFrom t h c ws)
 unfolding runLines runFrom
-run-ends y t h [] = (y, refl)
-run-ends y t h (w ∷ ws) =
-    go (run-ends (y ++ (10 ∷ fields)) (afterWord t w) (counted (eventOf t w) h) ws) (takes t w) refl
+run-ends y t h c [] = (y, refl)
+run-ends y t h c (w ∷ ws) =
+    go (run-ends (y ++ (10 ∷ fields)) (afterWord t w) (counted (eventOf t w) h) (cellOf t w) ws) (takes t w) refl
   where
     i : ℕ
     i = h .words
 
     fields : List ℕ
-    fields = spaced (wordFields t i w)
+    fields = spaced (wordFields t i w) ++ (32 ∷ cellText (cellOf t w))
+
+    line-is : lineOf t i w ≡ wordLine t i w → lineOf t i w ≡ fields ++ (10 ∷ [])
+    line-is e = e ∙ sym (append-assoc (spaced (wordFields t i w)) (32 ∷ cellText (cellOf t w)) (10 ∷ []))
 
     next : Outcome
-    next = runFrom (afterWord t w) (counted (eventOf t w) h) ws
+    next = runFrom (afterWord t w) (counted (eventOf t w) h) (cellOf t w) ws
 
     outcome : (b : Bool) → takes t w ≡ b
-        → runFrom t h (w ∷ ws) ≡ elim b [ true ↦ next | false ↦ ended t h (refusalOf t w) ]
-    outcome b e = ap (λ (c : Bool). elim c [ true ↦ next | false ↦ ended t h (refusalOf t w) ]) e
+        → runFrom t h c (w ∷ ws) ≡ elim b [ true ↦ next | false ↦ ended t h c (refusalOf t w) ]
+    outcome b e = ap (λ (d : Bool). elim d [ true ↦ next | false ↦ ended t h c (refusalOf t w) ]) e
 
     go : Ends ((y ++ (10 ∷ fields)) ++ (10 ∷ runLines (afterWord t w) (counted (eventOf t w) h .words) ws)) next
         → (b : Bool) → takes t w ≡ b
-        → Ends (y ++ (10 ∷ runLines t (h .words) (w ∷ ws))) (runFrom t h (w ∷ ws))
+        → Ends (y ++ (10 ∷ runLines t (h .words) (w ∷ ws))) (runFrom t h c (w ∷ ws))
     go rest true e = (
       rest .0,
       ap (λ (l : List ℕ). y ++ (10 ∷ l))
           (runLines-taken t i w ws e
-          ∙ ap (λ (l : List ℕ). l ++ runLines (afterWord t w) (suc i) ws) (lineOf-taken t i w e))
+          ∙ ap (λ (l : List ℕ). l ++ runLines (afterWord t w) (suc i) ws) (line-is (lineOf-taken t i w e)))
           ∙ between y fields (runLines (afterWord t w) (suc i) ws)
           ∙ ap (λ (k : ℕ). (y ++ (10 ∷ fields)) ++ (10 ∷ runLines (afterWord t w) k ws))
           (sym (counted-suc (eventOf t w) h))
@@ -103,7 +109,7 @@ module _ (bs : List ℕ) (t : Table) (ws : List ℕ) (sound : tableRefusal t ≡
   pub ready-last-line : inputOf bs ≡ Input.Ready t ws → length ws ≤ limit → Ends (printed bs) (runOf t ws)
   unfolding printed textOf
   ready-last-line holds few =
-      let end = run-ends (posts t) t zeroTally ws in (
+      let end = run-ends (posts t) t zeroTally noCell ws in (
         end .0,
         ap textOf holds
             ∙ after-posts t (runLines t 0 ws)

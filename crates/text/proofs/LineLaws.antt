@@ -1,11 +1,16 @@
 -- A line number by number, and how long it is. Assumes nothing.
 use mathlib.Core.Path.{_≡_, refl, ap, _∙_, sym}
+use mathlib.Core.Bool.{Bool, true, false, cond}
 use mathlib.Core.List.{List, [], _∷_, _++_, append-assoc}
 use Prim.Native.Nat.{ℕ, zero, suc, _+_, _^_, _≤_, _<_}
 use native.Mathlib.Omega.{arith}
+use lib.Dec.{eqb}
 use lib.ListN.{length, getD, take, length-append}
-use Rattle.machine.specs.Text.{decimal, spaced, line}
-use Rattle.text.specs.Appending.{gap, lineWith}
+use borrow.Author.Tests.{eq-eqb, ne-eqb}
+use Rattle.machine.specs.Shared.{READ, ACT}
+use Rattle.machine.specs.Text.{decimal, spaced, line, cellText}
+use Rattle.machine.specs.declared.SharedCell.{SharedCell}
+use Rattle.text.specs.Appending.{gap, lineWith, takenLine}
 use Rattle.text.proofs.DigitLaws.{length-digits}
 
 -- ---- one number more
@@ -58,6 +63,19 @@ room-next ns i h =
       spaced-start ns (suc i),
     )
 
+-- ---- a shared cell
+
+module _ (c : SharedCell) where
+  -- two letters and the index
+  abbrev pub lettered : List ℕ
+  lettered = cond (eqb (c .access) READ) 114 119 ∷ cond (eqb (c .variable) ACT) 97 116 ∷ decimal (c .index)
+
+  pub cell-none : c .access ≡ 0 → cellText c ≡ 45 ∷ []
+  cell-none z = ap (λ (b : Bool). cond b (45 ∷ []) lettered) (eq-eqb (c .access) 0 z)
+
+  pub cell-some : (c .access ≡ 0 → ⊥) → cellText c ≡ lettered
+  cell-some ne = ap (λ (b : Bool). cond b (45 ∷ []) lettered) (ne-eqb (c .access) 0 ne)
+
 -- ---- how long a line is
 
 -- numbers that take at most m bytes, with a byte after each
@@ -65,7 +83,7 @@ pub data Within : List ℕ → ℕ → Type 0 where
   last : {n : ℕ} (k : ℕ) → n < 10 ^ suc k → Within (n ∷ []) (suc (suc k))
   then : {n o m : ℕ} {ns : List ℕ} (k : ℕ) → n < 10 ^ suc k → Within (o ∷ ns) m → Within (n ∷ o ∷ ns) (suc (suc k) + m)
 
-length-spaced : {ns : List ℕ} {m : ℕ} → Within ns m → length (spaced ns) < m
+pub length-spaced : {ns : List ℕ} {m : ℕ} → Within ns m → length (spaced ns) < m
 unfolding spaced
 length-spaced (last {n} k h) = omega (arith, length-digits 20 k n h)
 length-spaced (then {n} {o} {ns = ns} k h more) =
@@ -78,6 +96,19 @@ length-spaced (then {n} {o} {ns = ns} k h more) =
 
 pub length-lineWith : (s ns e : List ℕ) → length (lineWith s ns e) ≡ length s + (length (spaced ns) + length e)
 length-lineWith s ns e = omega (arith, length-append s (spaced ns ++ e), length-append (spaced ns) e)
+
+-- the cell of a taken word
+pub length-cellText : (c : SharedCell) → c .index < 100 → length (cellText c) ≤ 4
+length-cellText c low = by (eqb (c .access) 0) (length-digits 20 1 (c .index) low)
+  where
+    by : (none : Bool) → length (decimal (c .index)) ≤ 2 → length (cond none (45 ∷ []) (lettered c)) ≤ 4
+    by true two = omega arith
+    by false two = omega arith
+
+pub length-takenLine : (ns : List ℕ) (c : SharedCell)
+    → length (takenLine ns c) ≡ length (spaced ns) + (length (cellText c) + 2)
+length-takenLine ns c =
+    omega (arith, length-append (spaced ns) (32 ∷ cellText c ++ (10 ∷ [])), length-append (cellText c) (10 ∷ []))
 
 pub length-line : (s : List ℕ) {ns : List ℕ} {m : ℕ} → Within ns m → length (line s ns) ≤ length s + m
 length-line s {ns} fits = omega (arith, length-lineWith s ns (10 ∷ []), length-spaced fits)

@@ -11,16 +11,17 @@ use Rattle.counting.proofs.TestLaws.{cond-le}
 use Rattle.machine.specs.Refusals.{accepted, tooManyWords, badBytes}
 use Rattle.machine.specs.Tables.{Table, row, tableRefusal, locations}
 use Rattle.machine.specs.Words.{kindOf, processOf, argumentOf, formed}
-use Rattle.machine.specs.Steps.{allowed, argumentFits, wordRefusal, refusalOf, afterWord}
+use Rattle.machine.specs.Steps.{allowed, argumentFits, wordRefusal, refusalOf, afterWord, cellOf}
 use Rattle.machine.specs.Runs.{limit}
 use Rattle.machine.specs.Text.{inputText, imageText, postsText, doneText, stopText, line}
-use Rattle.machine.specs.Text.{wordLine, doneLine, stopLine, runLines}
+use Rattle.machine.specs.Text.{wordFields, doneLine, stopLine, runLines}
 use Rattle.machine.proofs.OneOfLaws.{by-test}
 use Rattle.machine.proofs.SoundRows.{sound-row, sound-few}
 use Rattle.machine.proofs.Accepted.{accepted-says}
+use Rattle.machine.proofs.CellBounds.{cell-index}
 use Rattle.machine.proofs.Soundness.{word-keeps-sound, word-keeps-length}
 use Rattle.text.specs.Running.{takes, lineOf, lineRoom, lastRoom, headRoom}
-use Rattle.text.proofs.LineLaws.{length-line}
+use Rattle.text.proofs.LineLaws.{length-spaced, length-cellText, length-takenLine, length-line}
 use Rattle.text.proofs.LineLaws.Within.{last, then}
 use Rattle.text.proofs.RunLaws.{lineOf-taken, lineOf-stopped, runLines-taken, runLines-stopped, runLines-done}
 use Rattle.text.proofs.RunLaws.{few-critical}
@@ -82,20 +83,21 @@ module _ (t : Table) (i w : ℕ) (sound : tableRefusal t ≡ 0) (few : i < limit
   length-taken e =
       let p = processOf w in
       let u = afterWord t w in
-      let says = accepted-says t w (eqb-true (refusalOf t w) 0 e) in
+      let z = eqb-true (refusalOf t w) 0 e in
+      let says = accepted-says t w z in
       let same = word-keeps-length t w in
       let before = location-low t sound p (says .process-in) in
       let after = location-low u (word-keeps-sound t w sound) p (omega (arith, says .process-in)) in
       let inside = few-critical u (word-keeps-sound t w sound) in
       let most = sound-few t sound in
-      let long : length (wordLine t i w) ≤ lineRoom =
-      length-line []
+      let cell = length-cellText (cellOf t w) (omega (arith, cell-index t w z)) in
+      let numbers = length-spaced {ns = wordFields t i w}
       (then 3 (omega arith)
       (then 1 (omega (arith, says .process-in))
       (then 1 (omega arith)
       (then 1 (omega arith)
       (last 1 (omega arith)))))) in
-      omega (arith, ap length (lineOf-taken t i w e))
+      omega (arith, ap length (lineOf-taken t i w e), length-takenLine (wordFields t i w) (cellOf t w))
 
   length-stopped : takes t w ≡ false → length (lineOf t i w) ≤ lastRoom
   length-stopped e =

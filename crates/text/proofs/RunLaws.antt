@@ -11,11 +11,12 @@ use Rattle.counting.proofs.CountLaws.{count-le}
 use Rattle.machine.specs.Refusals.{accepted}
 use Rattle.machine.specs.Tables.{Table, row, tableRefusal}
 use Rattle.machine.specs.Words.{processOf}
-use Rattle.machine.specs.Steps.{refusalOf, afterWord, eventOf, answerOf}
+use Rattle.machine.specs.Steps.{refusalOf, afterWord, eventOf, cellOf, answerOf}
 use Rattle.machine.specs.Census.{isCritical, critical}
 use Rattle.machine.specs.Runs.{carried}
-use Rattle.machine.specs.Text.{line, wordLine, doneLine, stopLine, runLines}
+use Rattle.machine.specs.Text.{wordLine, doneLine, stopLine, runLines}
 use Rattle.machine.specs.declared.Event.{Event}
+use Rattle.machine.specs.declared.SharedCell.{SharedCell}
 use Rattle.machine.specs.declared.Told.{Told}
 use Rattle.machine.specs.declared.Stepped.{Stepped}
 use Rattle.machine.proofs.SoundRows.{sound-few}
@@ -23,6 +24,7 @@ use Rattle.machine.proofs.AnswerLaws.{answer-moved, answer-refused}
 use Rattle.machine.proofs.CarriedTheorems.{critical-step, some-departs}
 use Rattle.cells.specs.View.{rowsOf}
 use Rattle.cells.proofs.ViewLaws.{rows-length}
+use Rattle.text.specs.Appending.{takenLine}
 use Rattle.text.specs.Running.{Carries, takes, lineOf}
 
 -- ---- the line of a word
@@ -55,15 +57,16 @@ pub runLines-done : (t : Table) (i : ℕ) → runLines t i [] ≡ doneLine i
 unfolding runLines
 runLines-done t i = refl
 
--- the five numbers of a line as the code has them: p, what it reads before the step, and what after
-pub line-is : (t u : Table) (i w p before after inside : ℕ)
+-- the five numbers of a line and its cell as the code has them: p, what it reads before the step, and what after
+pub line-is : (t u : Table) (i w p before after inside : ℕ) (c : SharedCell)
     → p ≡ processOf w
     → before ≡ row t p .location
     → u ≡ afterWord t w
     → after ≡ row u p .location
     → inside ≡ critical u
-    → line [] (i ∷ p ∷ before ∷ after ∷ inside ∷ []) ≡ wordLine t i w
-line-is t u i w p before after inside pe be ue ae ie = cc
+    → c ≡ cellOf t w
+    → takenLine (i ∷ p ∷ before ∷ after ∷ inside ∷ []) c ≡ wordLine t i w
+line-is t u i w p before after inside c pe be ue ae ie ce = cc
 
 -- ---- the step's answer
 
@@ -90,6 +93,9 @@ few-critical t sound = omega (arith, count-le (λ q. isCritical (row t q)) (leng
 module _ (t : Table) (w n : ℕ) (s : Told) (moved : answerOf t w ≡ Stepped.Moved s) (is : n ≡ critical t) where
   taken : refusalOf t w ≡ 0
   taken = answer-moved t w s moved .0
+
+  pub cell-is : s .cell ≡ cellOf t w
+  cell-is = ap (λ (d : Told). d .cell) (answer-moved t w s moved .1)
 
   event-is : s .event ≡ eventOf t w
   event-is = ap (λ (d : Told). d .event) (answer-moved t w s moved .1)

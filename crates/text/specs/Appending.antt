@@ -7,13 +7,15 @@
 --   LongReady d at n     <=>  d has room from `at` on for the digits of n, which are three or more.
 --   gap i                ==   what stands before number i of a line.
 --   lineWith s ns e      ==   the text s, the numbers ns with a space between two, and the text e.
+--   takenLine ns c       ==   the line of a taken word: the numbers ns and the shared cell c.
 --
 -- Assumes nothing.
 use Prim.Native.Nat.{ℕ, zero, suc, _+_, _/_, _%_, _≤_, _<_}
 use mathlib.Core.Path.{_≡_}
 use mathlib.Core.List.{List, [], _∷_, _++_}
 use lib.ListN.{length}
-use Rattle.machine.specs.Text.{decimal, spaced}
+use Rattle.machine.specs.Text.{decimal, spaced, cellText}
+use Rattle.machine.specs.declared.SharedCell.{SharedCell}
 use Rattle.counting.specs.Placing.{placed}
 
 pub record Appended (d : List ℕ) (at : ℕ) (s y : List ℕ) (e : ℕ) : Type 0 where
@@ -42,3 +44,6 @@ gap (suc i) = 32 ∷ []
 -- a line of machine/specs/Text has the line feed for its last text
 abbrev pub lineWith : List ℕ → List ℕ → List ℕ → List ℕ
 lineWith s ns e = s ++ (spaced ns ++ e)
+
+abbrev pub takenLine : List ℕ → SharedCell → List ℕ
+takenLine ns c = spaced ns ++ (32 ∷ cellText c ++ (10 ∷ []))

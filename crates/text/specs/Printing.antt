@@ -19,9 +19,9 @@ use Rattle.inputs.specs.Opening.{tableOf, part, Opens}
 use Rattle.inputs.specs.declared.Opened.{Opened}
 use Rattle.inputs.specs.declared.Opened.the-variants.{BadBytes, BadImage, TooMany, Ready}
 
--- 8,192 lines of at most 17 bytes, a first one of at most 9 and a last one of at most 13
+-- 8,192 lines of at most 22 bytes, a first one of at most 9 and a last one of at most 13
 abbrev pub textRoom : ℕ
-textRoom = 139300
+textRoom = 180260
 
 -- ---- the text of an answer
 

@@ -52,7 +52,7 @@ insideOf (Stopped e) = 0
 
 -- the most bytes of a word's line, of the last line, and of all that stands before the lines of a run
 abbrev pub lineRoom : ℕ
-lineRoom = 17
+lineRoom = 22
 
 abbrev pub lastRoom : ℕ
 lastRoom = 13

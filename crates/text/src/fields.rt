@@ -1,10 +1,12 @@
-// Bytes and numbers put into a lent buffer from place `at` on. Each function answers where what it
+// Bytes, numbers and shared cells put into a lent buffer from place `at` on. Each function answers where what it
 // has put ends.
+use machine::SharedCell;
 ghost use mathlib.Core.Path.{_≡_};
+ghost use mathlib.Core.Bool.{cond};
 ghost use mathlib.Core.List.{_∷_, []};
 ghost use Prim.Native.Nat.{_+_, _<_, _≤_};
 ghost use lib.ListN.{length};
-ghost use Rattle.machine.specs.Text.{decimal};
+ghost use Rattle.machine.specs.Text.{decimal, cellText};
 ghost use Rattle.text.specs.Appending.{Appended, PairReady, ShortReady, LongReady, pair, gap};
 
 // One byte.
@@ -90,4 +92,27 @@ pub(crate) fn put_number(out: &mut [u8], at: usize, n: u32) -> usize
         return put_short(out, at, n);
     }
     put_long(out, at, n)
+}
+
+// One of two letters.
+fn letter(first: bool, one: u8, other: u8) -> u8
+    ensures { λ b. ⌜ b ≡ cond first one other ⌝ }
+{
+    if first {
+        return one;
+    }
+    other
+}
+
+// A shared cell: `-` for none; else `r` or `w`, `a` or `t`, and its index.
+pub(crate) fn put_cell(out: &mut [u8], at: usize, cell: SharedCell) -> usize
+    requires { ⌜ at + length (cellText cell) ≤ length (now out) ⌝ }
+    ensures { λ r. ⌜ Appended (now (out .entry)) at (cellText cell) (now (out .exit)) r ⌝ }
+{
+    if cell.access == 0 {
+        return put_byte(out, at, 45);
+    }
+    let second = put_byte(out, at, letter(cell.access == machine::READ, 114, 119));
+    let third = put_byte(out, second, letter(cell.variable == machine::ACT, 97, 116));
+    put_number(out, third, cell.index as u32)
 }

@@ -1,5 +1,5 @@
 // The printed run, byte for byte (machine/specs/Text.antt says what it is).
-pub mod fields; // bytes and numbers
+pub mod fields; // bytes, numbers and shared cells
 pub mod lines; // a line of fields
 pub mod running; // the lines of a run
 pub mod printing; // the text for what an input holds

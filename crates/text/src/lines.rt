@@ -1,13 +1,15 @@
 // A line is a list of fields, put into a lent buffer from place `at` on. Each function answers where
 // what it has put ends.
+use crate::fields::put_cell;
 use crate::fields::put_gap;
 use crate::fields::put_number;
 use crate::fields::put_text;
+use machine::SharedCell;
 ghost use mathlib.Core.List.{_∷_, []};
 ghost use Prim.Native.Nat.{_+_, _≤_};
 ghost use lib.ListN.{length};
 ghost use Rattle.machine.specs.Text.{spaced, line, inputText, imageText, postsText, doneLine, stopLine};
-ghost use Rattle.text.specs.Appending.{Appended, lineWith};
+ghost use Rattle.text.specs.Appending.{Appended, lineWith, takenLine};
 
 // Numbers with a space between two.
 fn put_numbers(out: &mut [u8], at: usize, numbers: &[u32]) -> usize
@@ -41,6 +43,18 @@ pub(crate) fn put_line(
     let first = put_text(out, at, head);
     let last = put_numbers(out, first, numbers);
     put_text(out, last, tail)
+}
+
+// The line of a taken word: its numbers and its shared cell.
+pub(crate) fn put_taken(out: &mut [u8], at: usize, numbers: &[u32], cell: SharedCell) -> usize
+    requires { ⌜ at + length (takenLine (now numbers) cell) ≤ length (now out) ⌝ }
+    ensures { λ r. ⌜
+        Appended (now (out .entry)) at (takenLine (now (numbers .entry)) cell) (now (out .exit)) r
+        ⌝ }
+{
+    let first = put_line(out, at, b"", numbers, b" ");
+    let last = put_cell(out, first, cell);
+    put_text(out, last, b"\n")
 }
 
 // The line of an input whose bytes are refused.

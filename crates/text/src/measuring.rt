@@ -15,7 +15,7 @@ ghost use Rattle.text.specs.Running.{LinesReady};
 ghost use Rattle.text.specs.Printing.{Answers, openedText};
 
 // The most bytes of a line of a run, and of what a text has before these lines.
-const LINE_BYTES: usize = 17;
+const LINE_BYTES: usize = 22;
 
 const HEAD_BYTES: usize = 22;
 

@@ -1,7 +1,7 @@
 // The lines of a run, put into a lent buffer from place `at` on.
 use crate::lines::put_done;
-use crate::lines::put_line;
 use crate::lines::put_stop;
+use crate::lines::put_taken;
 use cells::access::row_at;
 use machine::Event;
 use machine::Stepped;
@@ -78,7 +78,8 @@ pub(crate) fn put_word(
             let now_inside = carried(event, inside);
             let process = p as u32;
             let fields = [place, process, before, after, now_inside];
-            let end = put_line(out, at, b"", &fields, b"\n");
+            let cell = told.cell;
+            let end = put_taken(out, at, &fields, cell);
             Line::Taken {
                 end: end,
                 inside: now_inside,

@@ -7,6 +7,7 @@ use lib.ListN.{length}
 use Rattle.counting.specs.Placing.{placed}
 use Rattle.machine.specs.Refusals.{tooManyWords, tooFewLent, badBytes}
 use Rattle.machine.specs.Tables.{Table}
+use Rattle.machine.specs.Shared.{noCell}
 use Rattle.machine.specs.Runs.{zeroTally, runFrom}
 use Rattle.machine.specs.Images.{imageOf}
 use Rattle.machine.specs.Bytes.{bytesOf}
@@ -55,9 +56,9 @@ module _ (t : Table) (ws l : List ℕ) where
   -- the run, whose last table is u
   pub calls-ran : roomFor t ≤ length l
       → (u : Table) (m : List ℕ) (taken refusal r : ℕ)
-      → u ≡ runFrom t zeroTally ws .table
-      → taken ≡ runFrom t zeroTally ws .tally .words
-      → refusal ≡ runFrom t zeroTally ws .refusal
+      → u ≡ runFrom t zeroTally noCell ws .table
+      → taken ≡ runFrom t zeroTally noCell ws .tally .words
+      → refusal ≡ runFrom t zeroTally noCell ws .refusal
       → r ≡ numberOf taken refusal
       → m ≡ placed l 0 (bytesOf (imageOf u))
       → CallsTo (callFor (Input.Ready t ws) l) m r
@@ -68,6 +69,6 @@ module _ (t : Table) (ws l : List ℕ) where
         number-is =
             ne
             ∙ ap (λ (a : ℕ). numberOf a refusal) te
-            ∙ ap (numberOf (runFrom t zeroTally ws .tally .words)) re;
+            ∙ ap (numberOf (runFrom t zeroTally noCell ws .tally .words)) re;
         lent-is = me ∙ ap (λ (v : Table). placed l 0 (bytesOf (imageOf v))) last;
       })

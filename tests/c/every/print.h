@@ -1,7 +1,7 @@
 /* zaguypo_print: texts written out from the manual, "The printed text", each into exactly enough bytes, one more, one fewer and
    none. */
 
-enum { LONG_TEXT = 150000 };
+enum { LONG_TEXT = 190000 };
 
 static uint8_t print_input[ZAGUYPO_INPUT_BYTES + 8];
 static size_t print_length;
@@ -48,13 +48,13 @@ static void print_example(void) {
     print_words(seven, 7);
     prints("the example",
            "posts 2\n"
-           "0 0 10 20 0\n"
-           "1 0 20 21 0\n"
-           "2 0 21 22 0\n"
-           "3 0 22 22 0\n"
-           "4 0 22 23 0\n"
-           "5 0 23 21 0\n"
-           "6 0 21 30 1\n"
+           "0 0 10 20 0 -\n"
+           "1 0 20 21 0 wa0\n"
+           "2 0 21 22 0 -\n"
+           "3 0 22 22 0 ra1\n"
+           "4 0 22 23 0 -\n"
+           "5 0 23 21 0 -\n"
+           "6 0 21 30 1 -\n"
            "done 7\n");
     for (int more = 0; more < 3; more++) {
         print_length++;
@@ -68,12 +68,47 @@ static void print_cancel(void) {
     print_idle(2), print_words(five, 5);
     prints("a CANCEL",
            "posts 2\n"
-           "0 0 10 20 0\n"
-           "1 0 20 20 0\n"
-           "2 0 20 40 0\n"
-           "3 0 40 40 0\n"
-           "4 0 40 10 0\n"
+           "0 0 10 20 0 -\n"
+           "1 0 20 20 0 wa0\n"
+           "2 0 20 40 0 -\n"
+           "3 0 40 40 0 wa0\n"
+           "4 0 40 10 0 wa0\n"
            "done 5\n");
+}
+
+/* Two processes see each other, come to 24 and push; after one more pass each compares turn[1]. */
+static void print_cells(void) {
+    static const uint32_t words[23] = {
+        0x20000000, 0x20010000, 0x40000000, 0x40010000, 0x40000000, 0x50000001, 0x40000000, 0x40000000,
+        0x40010000, 0x50010000, 0x40010000, 0x40010000, 0x30000001, 0x40000000, 0x40010000, 0x40000000,
+        0x50000001, 0x40000000, 0x40000000, 0x40010000, 0x50010000, 0x40010000, 0x40010000};
+    print_idle(2), print_words(words, 23);
+    prints("every sort of cell",
+           "posts 2\n"
+           "0 0 10 20 0 -\n"
+           "1 1 10 20 0 -\n"
+           "2 0 20 21 0 wa0\n"
+           "3 1 20 21 0 wa1\n"
+           "4 0 21 22 0 -\n"
+           "5 0 22 22 0 ra1\n"
+           "6 0 22 23 0 -\n"
+           "7 0 23 24 0 -\n"
+           "8 1 21 22 0 -\n"
+           "9 1 22 22 0 ra0\n"
+           "10 1 22 23 0 -\n"
+           "11 1 23 24 0 -\n"
+           "12 0 24 24 0 wt1\n"
+           "13 0 24 21 0 wt1\n"
+           "14 1 24 21 0 wt1\n"
+           "15 0 21 22 0 -\n"
+           "16 0 22 22 0 ra1\n"
+           "17 0 22 23 0 -\n"
+           "18 0 23 21 0 rt1\n"
+           "19 1 21 22 0 -\n"
+           "20 1 22 22 0 ra0\n"
+           "21 1 22 23 0 -\n"
+           "22 1 23 21 0 rt1\n"
+           "done 23\n");
 }
 
 /* Processes 0 and 1 are at 30, process 2 at 21 on level 0: 0 departs, 2 arrives beside 1, 0 goes on to 22, 1 departs; a
@@ -87,13 +122,13 @@ static void print_two_at_30(void) {
     print_start(), print_words(words, 15), print_words(nine, 9);
     prints("two at 30",
            "posts 3\n"
-           "0 0 30 40 1\n"
-           "1 2 21 30 2\n"
-           "2 0 40 10 2\n"
-           "3 0 10 20 2\n"
-           "4 0 20 21 2\n"
-           "5 0 21 22 2\n"
-           "6 1 30 40 1\n"
+           "0 0 30 40 1 -\n"
+           "1 2 21 30 2 -\n"
+           "2 0 40 10 2 wa0\n"
+           "3 0 10 20 2 -\n"
+           "4 0 20 21 2 wa0\n"
+           "5 0 21 22 2 -\n"
+           "6 1 30 40 1 -\n"
            "stop 7 10\n");
 }
 
@@ -107,7 +142,7 @@ static void print_departures(void) {
     char *at = text + sprintf(text, "posts 16\n");
     for (unsigned q = 0; q < 16; q++) {
         print_word(0x40000000 + 0x10000 * q);
-        at += sprintf(at, "%u %u 30 40 %u\n", q, q, 15 - q);
+        at += sprintf(at, "%u %u 30 40 %u -\n", q, q, 15 - q);
     }
     sprintf(at, "done 16\n");
     prints("sixteen depart", text);
@@ -136,7 +171,7 @@ static void print_bad_images(void) {
 
 /* a word that stops a run after two others */
 static void print_stop(const char *what, uint32_t word, const char *last) {
-    char text[64] = "posts 3\n0 2 10 10 0\n1 0 10 20 0\n";
+    char text[64] = "posts 3\n0 2 10 10 0 -\n1 0 10 20 0 -\n";
     print_idle(3);
     print_word(0x10020000), print_word(0x20000000), print_word(word), print_word(0x10010000);
     prints(what, strcat(text, last));
@@ -160,7 +195,7 @@ static void print_limits(void) {
     print_idle(2);
     for (unsigned i = 0; i < 8192; i++) {
         print_word(0x10010000);
-        at += sprintf(at, "%u 1 10 10 0\n", i);
+        at += sprintf(at, "%u 1 10 10 0 -\n", i);
     }
     sprintf(at, "done 8192\n");
     prints("8,192 words", text);
@@ -170,17 +205,19 @@ static void print_limits(void) {
     print_word(0x10010000), prints("33,092 bytes", "input 14\n");
 }
 
-/* The longest text of all, 138,173 bytes: 15 processes are at 30, and the last of 16 stays for the longest run. */
+/* The longest text of all, 179,133 bytes: 15 processes are at 30, and the last of 16 flickers turn[15] for the longest
+   run. */
 static void print_longest(void) {
     static char text[LONG_TEXT];
     uint32_t words[ZAGUYPO_IMAGE_WORDS(16)];
     idle_image(words, 16);
     for (int q = 0; q < 15; q++) words[1 + 4 * q] |= 0x6200;
+    words[1 + 4 * 15] |= 0x520F;
     print_start(), print_words(words, 80);
     char *at = text + sprintf(text, "posts 16\n");
     for (unsigned i = 0; i < 8192; i++) {
-        print_word(0x100F0000);
-        at += sprintf(at, "%u 15 10 10 15\n", i);
+        print_word(0x300F0000 + i % 16);
+        at += sprintf(at, "%u 15 24 24 15 wt15\n", i);
     }
     sprintf(at, "done 8192\n");
     check("the longest input", print_length == ZAGUYPO_INPUT_BYTES);
@@ -191,6 +228,7 @@ static void print_longest(void) {
 static void print(void) {
     print_example();
     print_cancel();
+    print_cells();
     print_two_at_30();
     print_departures();
     print_bad_images();

@@ -50,7 +50,7 @@ pub unsafe extern "C" fn zaguypo_fresh(rows: *mut Row, size: usize) -> u16 {
 /// The pointer goes with its length.
 #[no_mangle]
 pub unsafe extern "C" fn zaguypo_step(rows: *mut Row, size: usize, word: u32) -> StepAnswer {
-    StepAnswer { refusal: reference::step(array_mut(rows, size), word).err().unwrap_or(0) }
+    reference::step_in(array_mut(rows, size), word)
 }
 
 /// # Safety

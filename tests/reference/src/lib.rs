@@ -3,6 +3,7 @@
 //! this one.
 
 pub mod bytes;
+pub mod cell;
 pub mod census;
 pub mod image;
 pub mod row;
@@ -18,11 +19,12 @@ pub mod generate;
 pub mod walk;
 
 pub use bytes::c_call;
+pub use cell::Cell;
 pub use census::{census, Census};
 pub use image::{read_into, write_image, Reading};
 pub use row::{check, fresh_in, Row, Table};
 pub use run::{run, Ran, Tally};
-pub use step::{step, Event, StepAnswer};
+pub use step::{step, step_in, Event, StepAnswer};
 pub use text::{print_into, text};
 pub use word::{put_together, take_apart, PartsAnswer, WordAnswer};
 

@@ -1,5 +1,6 @@
 //! Runs: words in order up to the first refused one, and the tally that goes along.
 
+use crate::cell::Cell;
 use crate::refusal;
 use crate::row::{check, Row};
 use crate::step::{Event, Machine};
@@ -25,17 +26,18 @@ impl Tally {
     }
 }
 
-/// How many words were taken, and the refusal or 0.
+/// How many words were taken, the refusal or 0, and the cell of the last word taken, none where none was.
 #[repr(C)]
 #[derive(Clone, Copy, Debug, Default, PartialEq, Eq)]
 pub struct Ran {
     pub taken: u32,
     pub refusal: u32,
+    pub cell: Cell,
 }
 
 impl Ran {
     pub(crate) fn refused(refusal: u16) -> Ran {
-        Ran { taken: 0, refusal: refusal.into() }
+        Ran { taken: 0, refusal: refusal.into(), cell: Cell::NONE }
     }
 }
 
@@ -55,13 +57,16 @@ pub fn run(rows: &mut [Row], words: &[u32], tally: &mut Tally) -> Ran {
 #[inline]
 pub(crate) fn take_all(rows: &mut [Row], words: impl Iterator<Item = u32>, mut see: impl FnMut(Event)) -> Ran {
     let mut machine = Machine::new(rows);
-    let mut taken = 0;
+    let (mut taken, mut cell) = (0, Cell::NONE);
     for word in words {
         match machine.take(word) {
-            Ok(event) => see(event),
-            Err(refused) => return Ran { taken, refusal: refused.into() },
+            Ok(event) => {
+                cell = event.cell;
+                see(event);
+            }
+            Err(refused) => return Ran { taken, refusal: refused.into(), cell },
         }
         taken += 1;
     }
-    Ran { taken, refusal: 0 }
+    Ran { taken, refusal: 0, cell }
 }

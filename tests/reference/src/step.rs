@@ -1,32 +1,50 @@
-//! One step on rows in place (manual, "Steps" and "Ahead sets"; but for CANCEL, the paper, sections 3.2 and 3.4).
+//! One step on rows in place (manual, "Steps", "Ahead sets" and "Shared cells"; but for CANCEL, the paper, sections 3.2
+//! and 3.4).
 
+use crate::cell::{Cell, READ, TURN};
 use crate::refusal;
 use crate::row::{check, code, competing, everyone, only, Row, LOCATIONS};
 use crate::word::{split, Parts, CANCEL, COME, FLICKER, GO, LOOK, STAY};
 
-/// What an accepted word did: process p went from `before` to `after`, which may be the same location.
+/// What an accepted word did: process p went from `before` to `after`, which may be the same location, and used a cell
+/// or none.
 #[derive(Clone, Copy, Debug, PartialEq, Eq)]
 pub struct Event {
     pub kind: u32,
     pub p: usize,
     pub before: u16,
     pub after: u16,
+    pub cell: Cell,
 }
 
-/// The answer of a step as the exported function gives it: the refusal or 0.
+/// The answer of a step as the exported function gives it: the refusal or 0, and the cell that the word used.
 #[repr(C)]
 #[derive(Clone, Copy, Debug, Default, PartialEq, Eq)]
 pub struct StepAnswer {
     pub refusal: u16,
+    pub cell: Cell,
+}
+
+/// The step as the exported function answers it.
+#[inline]
+pub fn step_in(rows: &mut [Row], word: u32) -> StepAnswer {
+    match step(rows, word) {
+        Ok(Event { cell, .. }) => StepAnswer { refusal: refusal::NONE, cell },
+        Err(refusal) => StepAnswer { refusal, cell: Cell::NONE },
+    }
 }
 
 /// Moves the rows by one word. A refused word, or a refused table, changes no row.
+#[inline(always)]
 pub fn step(rows: &mut [Row], word: u32) -> Result<Event, u16> {
     match check(rows) {
         refusal::NONE => Machine::new(rows).take(word),
         refused => Err(refused),
     }
 }
+
+/// The location that a word leads to, and the cell that it uses.
+type Led = (u16, Cell);
 
 /// Sound rows, and beside them the set of competing processes, kept up from step to step.
 pub(crate) struct Machine<'a> {
@@ -56,13 +74,13 @@ impl<'a> Machine<'a> {
             return Err(refusal::NO_PROCESS);
         };
         let before = row.loc;
-        let after = match kind << 3 | u32::from(code(before)) {
+        let (after, cell) = match kind << 3 | u32::from(code(before)) {
             STAY_10 => none(argument, 10)?,
             COME_10 => none(argument, 20)?,
             FLICKER_20 | FLICKER_40 => {
                 demand(argument <= 1)?;
                 row.act = argument as u16;
-                before
+                (before, Cell::act_written(p))
             }
             FLICKER_24 => self.flicker_turn(p, argument)?,
             LOOK_22 => self.look(p, argument)?,
@@ -75,13 +93,13 @@ impl<'a> Machine<'a> {
             GO_40 => {
                 demand(argument == 0)?;
                 row.act = 0;
-                10
+                (10, Cell::act_written(p))
             }
             CANCEL_20 => none(argument, 40)?,
             _ => return Err(refusal::NOT_ALLOWED),
         };
         self.rows[p].loc = after;
-        Ok(Event { kind, p, before, after })
+        Ok(Event { kind, p, before, after, cell })
     }
 
     /// All processes but p.
@@ -92,16 +110,16 @@ impl<'a> Machine<'a> {
 
     /// FLICKER at 24: the turn cell of the level.
     #[inline(always)]
-    fn flicker_turn(&mut self, p: usize, argument: u32) -> Result<u16, u16> {
+    fn flicker_turn(&mut self, p: usize, argument: u32) -> Result<Led, u16> {
         demand((argument as usize) < self.rows.len())?;
         let level = usize::from(self.rows[p].level);
         self.rows[level].turn = argument as u16;
-        Ok(24)
+        Ok((24, Cell::turn_written(level)))
     }
 
     /// GO at 20: process p competes from now on.
     #[inline(always)]
-    fn enter(&mut self, p: usize, argument: u32) -> Result<u16, u16> {
+    fn enter(&mut self, p: usize, argument: u32) -> Result<Led, u16> {
         demand(argument == 0)?;
         let (n, others) = (self.rows.len(), self.others(p));
         let row = &mut self.rows[p];
@@ -110,22 +128,22 @@ impl<'a> Machine<'a> {
         row.est = others;
         row.ahead = self.competing;
         self.competing |= only(p);
-        Ok(21)
+        Ok((21, Cell::act_written(p)))
     }
 
     /// GO at 21: a pass over est begins, or the critical section.
     #[inline(always)]
-    fn pass(&mut self, p: usize, argument: u32) -> Result<u16, u16> {
+    fn pass(&mut self, p: usize, argument: u32) -> Result<Led, u16> {
         demand(argument == 0)?;
         let row = &mut self.rows[p];
         let above_0 = row.level > 0;
         row.lis = if above_0 { row.est } else { row.lis };
-        Ok(if above_0 { 22 } else { 30 })
+        Ok((if above_0 { 22 } else { 30 }, Cell::NONE))
     }
 
     /// GO at 24: the turn cell of the level names p.
     #[inline(always)]
-    fn push(&mut self, p: usize, argument: u32) -> Result<u16, u16> {
+    fn push(&mut self, p: usize, argument: u32) -> Result<Led, u16> {
         demand(argument == 0)?;
         let (competing, others) = (self.competing, self.others(p));
         let row = &mut self.rows[p];
@@ -134,21 +152,21 @@ impl<'a> Machine<'a> {
         row.ahead = competing & others;
         let level = usize::from(row.level);
         self.rows[level].turn = p as u16;
-        Ok(21)
+        Ok((21, Cell::turn_written(level)))
     }
 
     /// GO at 30: p leaves every ahead set, and competes no longer.
     #[inline(always)]
-    fn leave(&mut self, p: usize, argument: u32) -> Result<u16, u16> {
+    fn leave(&mut self, p: usize, argument: u32) -> Result<Led, u16> {
         demand(argument == 0)?;
         self.rows.iter_mut().for_each(|row| row.ahead &= !only(p));
         self.competing &= self.others(p);
-        Ok(40)
+        Ok((40, Cell::NONE))
     }
 
     /// LOOK at 22: q leaves lis, and est too if its act is 0.
     #[inline(always)]
-    fn look(&mut self, p: usize, argument: u32) -> Result<u16, u16> {
+    fn look(&mut self, p: usize, argument: u32) -> Result<Led, u16> {
         let lis = self.rows[p].lis;
         if lis == 0 {
             return Err(refusal::NOT_ALLOWED);
@@ -159,22 +177,27 @@ impl<'a> Machine<'a> {
         let row = &mut self.rows[p];
         row.lis = lis & !only(q);
         row.est &= !(idle << q);
-        Ok(22)
+        Ok((22, Cell::act_read(q)))
     }
 
-    /// GO at 23: the size of est decides first, then bb, then the turn cell of the level.
+    /// GO at 23: the size of est decides first, then bb, then the turn cell of the level, which only then counts as
+    /// read.
     #[inline(always)]
-    fn reconsider(&mut self, p: usize, argument: u32) -> Result<u16, u16> {
+    fn reconsider(&mut self, p: usize, argument: u32) -> Result<Led, u16> {
         demand(argument == 0)?;
-        let turn = self.rows[usize::from(self.rows[p].level)].turn;
+        let level = self.rows[p].level;
+        let turn = self.rows[usize::from(level)].turn;
         let row = &mut self.rows[p];
         let size = row.est.count_ones() as u16;
-        let moves = size < row.level;
+        let moves = size < level;
         let pushes = !moves & (row.bb == 0);
-        let falls = !moves & (turn != p as u16) & !pushes;
-        row.level = if moves { size } else { row.level - u16::from(falls) };
+        let reads = !moves & !pushes;
+        let falls = reads & (turn != p as u16);
+        row.level = if moves { size } else { level - u16::from(falls) };
         row.bb &= u16::from(!(moves | falls));
-        Ok(if pushes { 24 } else { 21 })
+        let used = u16::from(reads);
+        let cell = Cell { access: used * READ, variable: used * TURN, index: used * level };
+        Ok((if pushes { 24 } else { 21 }, cell))
     }
 }
 
@@ -202,10 +225,10 @@ const GO_30: u32 = at(GO, 30);
 const GO_40: u32 = at(GO, 40);
 const CANCEL_20: u32 = at(CANCEL, 20);
 
-/// The location that a word without an argument leads to.
+/// Where a word without an argument leads to that uses no cell.
 #[inline]
-fn none(argument: u32, after: u16) -> Result<u16, u16> {
-    demand(argument == 0).map(|()| after)
+fn none(argument: u32, after: u16) -> Result<Led, u16> {
+    demand(argument == 0).map(|()| (after, Cell::NONE))
 }
 
 #[inline]

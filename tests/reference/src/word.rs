@@ -27,7 +27,12 @@ pub(crate) fn split(word: u32) -> Result<Parts, u16> {
     if !(STAY..=CANCEL).contains(&kind) || word & SPARE != 0 {
         return Err(refusal::WORD_FORM);
     }
-    Ok(Parts { kind, process: word >> 16 & 0xFF, argument: word & 0xFF })
+    Ok(Parts { kind, process: process_of(word), argument: word & 0xFF })
+}
+
+/// The process of a word.
+pub(crate) fn process_of(word: u32) -> u32 {
+    word >> 16 & 0xFF
 }
 
 /// The word of three parts that fit their bits.

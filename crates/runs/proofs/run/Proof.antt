@@ -4,6 +4,7 @@ use native.Mathlib.Omega.{arith}
 use borrow.Author.Needs.{needs}
 use Rattle.machine.specs.Refusals.{tooManyWords}
 use Rattle.machine.specs.Tables.{tableRefusal}
+use Rattle.machine.specs.Shared.{noCell}
 use Rattle.machine.specs.Runs.{zeroTally}
 use Rattle.cells.specs.View.{rowsOf}
 use Rattle.machine.proofs.RunLaws.{runOf-table, runOf-words, runOf-taken}
@@ -25,7 +26,7 @@ returns c =
     let a = c .before .before .before .before .before .args in
     let x = a .cells .now in
     let o = runOf-table (rowsOf x) (a .words .now) _ (c .before .before .check .ensures) (c .before .if1 .taken) in
-    runs-ended x x _ zeroTally _ _ refl o (c .untaken .ensures)
+    runs-ended x x _ zeroTally noCell _ _ refl o (c .untaken .ensures)
 
 -- ---- where the table is sound
 
@@ -44,7 +45,7 @@ returns-2 c =
     let a = e .before .before .before .before .args in
     let x = a .cells .now in
     let o = runOf-words (rowsOf x) (a .words .now) (sound e) (omega arith) in
-    runs-ended x x _ zeroTally tooManyWords _ refl o (c .untaken2 .ensures)
+    runs-ended x x _ zeroTally noCell tooManyWords _ refl o (c .untaken2 .ensures)
 
 run-words-requires : tie.Need-run-words-requires
 run-words-requires c κs = record { table-sound = sound (c .before .before); words-few = omega arith }

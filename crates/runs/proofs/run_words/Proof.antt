@@ -5,6 +5,7 @@ use native.Mathlib.Omega.{arith}
 use lib.ListN.{length, getD, drop}
 use borrow.Author.Needs.{needs}
 use Rattle.machine.specs.Tables.{tableRefusal}
+use Rattle.machine.specs.Shared.{noCell}
 use Rattle.machine.specs.Steps.{eventOf}
 use Rattle.machine.specs.Runs.{counted, zeroTally, runFrom}
 use Rattle.machine.specs.declared.Event.{Event}
@@ -34,17 +35,17 @@ count-on i e h v =
     }
 
 abbrev Inv-loop : tie.InvT-loop
-Inv-loop cells₀ words n tally₀ i₀ cells tally i =
+Inv-loop cells₀ words n tally₀ cell₀ i₀ cells tally cell i =
     (i ≤ n)
     × (n ≤ 8192)
     × (n ≡ length words)
     × (length cells ≡ length cells₀)
     × (tableRefusal (rowsOf cells) ≡ 0)
     × Counts i tally
-    × (runFrom (rowsOf cells₀) zeroTally words ≡ runFrom (rowsOf cells) tally (drop i words))
+    × (runFrom (rowsOf cells₀) zeroTally noCell words ≡ runFrom (rowsOf cells) tally cell (drop i words))
 
 abbrev μ-loop : tie.MeasureT-loop
-μ-loop cells₀ words n tally₀ i₀ cells tally i = n - i
+μ-loop cells₀ words n tally₀ cell₀ i₀ cells tally cell i = n - i
 
 loop-holds : tie.Need-loop-holds Inv-loop μ-loop
 loop-holds c =
@@ -95,10 +96,10 @@ returns c =
     let w = getD ws (at .i) 0 in
     let s = c .before .before .before .before .before .advance .ensures in
     let m = answer-refused t w _ (sym (s .answer-is) ∙ c .before .before .refusal .given .1) in
-    let halt = run-halt t _ (at .tally) ws (at .i) _ (omega arith) (m .0) (s .becomes .rows-are) (m .1) in
+    let halt = run-halt t _ (at .tally) (at .cell) ws (at .i) _ (omega arith) (m .0) (s .becomes .rows-are) (m .1) in
     let size = s .becomes .size-is ∙ v .3 in
     record {
-      runs = runs-ended (a .cells .now) _ _ (at .tally) _ _ size (v .6 ∙ halt) (c .answer .ensures);
+      runs = runs-ended (a .cells .now) _ _ (at .tally) (at .cell) _ _ size (v .6 ∙ halt) (c .answer .ensures);
       sound-after = ap tableRefusal (s .becomes .rows-are) ∙ word-keeps-sound t w (v .4);
     }
 
@@ -110,23 +111,26 @@ loop-less c = search needs
 
 loop-again : tie.Need-loop-again Inv-loop μ-loop
 loop-again c =
-    let l = c .before .before .before .before .before .before .before .before .before in
+    let d = c .before in
+    let inside = d .before .before .before .before .before .before .before .before in
+    let l = inside .before in
     let ws = l .before .before .args .words .now in
     let at = l .loop in
     let v = at .inv in
     let t = rowsOf (at .cells) in
     let w = getD ws (at .i) 0 in
-    let s = c .before .before .before .before .before .advance .ensures in
-    let m = answer-moved t w _ (sym (s .answer-is) ∙ c .before .before .told .given .1) in
-    let h = c .counted .ensures ∙ ap (λ (o : Told). counted (o .event) (at .tally)) (m .1) in
+    let s = d .before .before .before .before .before .advance .ensures in
+    let m = answer-moved t w _ (sym (s .answer-is) ∙ d .before .before .told .given .1) in
+    let h = d .counted .ensures ∙ ap (λ (o : Told). counted (o .event) (at .tally)) (m .1) in
     let counts = count-on (at .i) (eventOf t w) (at .tally) (v .5) in (
-      search needs,
+      omega (arith, inside .loop-test),
       v .1,
       v .2,
       s .becomes .size-is ∙ v .3,
       ap tableRefusal (s .becomes .rows-are) ∙ word-keeps-sound t w (v .4),
       subst (λ (k : Tally). Counts (at .i + 1) k) (sym h) counts,
-      v .6 ∙ run-turn t _ (at .tally) _ ws (at .i) (omega arith) (m .0) (s .becomes .rows-are) h,
+      v .6 ∙ run-turn t _ (at .tally) _ (at .cell) _ ws (at .i) (omega (arith, inside .loop-test)) (m .0) (s .becomes .rows-are) h
+          (ap (λ (o : Told). o .cell) (m .1)),
     )
 
 answer-requires-2 : tie.Need-answer-requires-2 Inv-loop μ-loop
@@ -141,8 +145,8 @@ returns-2 c =
     let v = at .inv in
     let ws = c .before .before .before .before .args .words .now in
     let x = c .before .before .before .before .args .cells .now in
-    let o = v .6 ∙ run-past (rowsOf (at .cells)) (at .tally) ws (at .i) (omega arith) in
-    record { runs = runs-ended x (at .cells) _ (at .tally) 0 _ (v .3) o (c .answer2 .ensures); sound-after = v .4 }
+    let o = v .6 ∙ run-past (rowsOf (at .cells)) (at .tally) (at .cell) ws (at .i) (omega arith) in
+    record { runs = runs-ended x (at .cells) _ (at .tally) (at .cell) 0 _ (v .3) o (c .answer2 .ensures); sound-after = v .4 }
 
 pub run-words-spec : {M : Type 1} → statement M
 run-words-spec =

@@ -1,15 +1,17 @@
 //! Walks through every table that two processes reach from a fresh one, and three from zeros: the linked library, or the
 //! reference where none is linked, beside the naive model.
 //!
-//!     walk                a line for each walk, with the most memory that the program has had; then `walked: ..`
-//!     walk --control      the naive model alone, which lets two of three processes be at 30 if est is kept at GO 24
+//!     walk                two lines for each walk, the first with the most memory that the program has had; then `walked: ..`
+//!     walk --control      the naive model alone, which lets two of three processes be at 30 if est is kept at GO 24; and with
+//!                         cells that are not told, so that the order of two words matters though none is seen to clash
 //!
-//! It exits with 1 after a difference, a table that breaks demand 3, or a figure other than the one expected.
+//! It exits with 1 after a difference, a table that breaks demand 3, two words without a clash whose order matters, or
+//! a figure other than the one expected.
 
 use reference::compare::{Case, Engine, Hex, Naive};
 use reference::naive::Fault;
-use reference::walk::{control, Beside, Figures, Finding, Found, Walk};
-use reference::walk::{EVERY_OF_2, SHORTEST, ZEROS_OF_2, ZEROS_OF_3};
+use reference::walk::{control, Beside, Exchange, Figures, Finding, Found, Walk};
+use reference::walk::{EVERY_OF_2, SHORTEST, UNTOLD, ZEROS_OF_2, ZEROS_OF_3};
 use reference::Tally;
 use std::time::Instant;
 
@@ -50,8 +52,9 @@ fn passes(walk: &Walk, engine: &dyn Engine) -> bool {
         Ok(figures) => {
             let seconds = start.elapsed().as_secs_f64();
             println!("walk {}: {}, {seconds:.1} s, {} MB", walk.name, shown(&figures), most_memory());
+            println!("exchange {}: {}", walk.name, exchanged(&figures.exchange));
             if figures != walk.expected {
-                println!("EXPECTED: {}", shown(&walk.expected));
+                println!("EXPECTED: {}; {}", shown(&walk.expected), exchanged(&walk.expected.exchange));
             }
             figures == walk.expected
         }
@@ -63,8 +66,15 @@ fn passes(walk: &Walk, engine: &dyn Engine) -> bool {
     }
 }
 
-fn shown(Figures { tables, accepted, refused }: &Figures) -> String {
+fn shown(Figures { tables, accepted, refused, .. }: &Figures) -> String {
     format!("{tables} tables, {accepted} accepted words, {refused} refused")
+}
+
+fn exchanged(Exchange { apart, ahead_differs, clashing, clash_differs }: &Exchange) -> String {
+    format!(
+        "{apart} pairs without a clash, the order shows in ahead sets in {ahead_differs}; \
+         {clashing} with a clash, the order matters in {clash_differs}"
+    )
 }
 
 /// The most memory that this program has had so far, in MB.
@@ -75,13 +85,16 @@ fn most_memory() -> u64 {
 }
 
 fn show(found: Found<Finding>, engine: &dyn Engine) {
-    let (what, case) = match found.finding {
-        Finding::Difference(case) => ("DIFFERENCE", case),
-        Finding::Demand3(case) => ("DEMAND 3 BROKEN", case),
+    let (what, cases) = match found.finding {
+        Finding::Difference(case) => ("DIFFERENCE", vec![case]),
+        Finding::Demand3(case) => ("DEMAND 3 BROKEN", vec![case]),
+        Finding::Exchange(cases) => ("THE ORDER OF TWO WORDS MATTERS", cases.to_vec()),
     };
-    println!("{what}: {case}");
-    for engine in [engine, &Naive(Fault::None)] {
-        println!("  {}: {}", engine.name(), case.answer(engine));
+    for case in cases {
+        println!("{what}: {case}");
+        for engine in [engine, &Naive(Fault::None)] {
+            println!("  {}: {}", engine.name(), case.answer(engine));
+        }
     }
     println!("  met by: {}", Case::Run { rows: found.start, words: found.words, tally: Tally::default() });
 }
@@ -90,7 +103,20 @@ fn controls() -> bool {
     let (two, three) = (control::<2>(), control::<3>());
     show_control(2, &two);
     show_control(3, &three);
-    two.is_ok() && three.is_err_and(|found| found.words.len() == SHORTEST)
+    let exchanges = UNTOLD.map(exchange_fails);
+    two.is_ok() && three.is_err_and(|found| found.words.len() == SHORTEST) && exchanges == [true; UNTOLD.len()]
+}
+
+/// The naive model with a fault on both sides, so that they agree: two words whose order matters are found.
+fn exchange_fails(fault: Fault) -> bool {
+    match (ZEROS_OF_2.over)(&Beside { engine: &Naive(fault), fault }) {
+        Err(Found { finding: Finding::Exchange(cases), words, .. }) => {
+            println!("control exchange, {fault:?}: after {} words the order of two matters", words.len());
+            cases.iter().for_each(|case| println!("  {case}\n  leads to {}", case.answer(&Naive(fault))));
+            true
+        }
+        _ => false,
+    }
 }
 
 fn show_control<F>(n: usize, ended: &Result<Figures, Found<F>>) {

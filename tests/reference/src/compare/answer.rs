@@ -3,14 +3,14 @@
 use super::lent::{lend, lend_to_read, Lent, FILL, FILL_WORD};
 use super::{Case, Engine};
 use crate::generate::inputs::Input;
-use crate::{refusal, Census, PartsAnswer, Ran, Reading, Row, Tally, WordAnswer};
+use crate::{refusal, Census, PartsAnswer, Ran, Reading, Row, StepAnswer, Tally, WordAnswer};
 
 #[derive(Clone, Debug, PartialEq, Eq)]
 pub enum Answer {
     Call { number: u64, image: Lent<u8> },
     Text(Vec<u8>),
     Print { length: usize, text: Lent<u8> },
-    Step { refusal: u16, rows: Lent<Row> },
+    Step { stepped: StepAnswer, rows: Lent<Row> },
     Run { ran: Ran, tally: Lent<Tally>, rows: Lent<Row> },
     Census { census: Census, input_whole: bool },
     Fresh { refusal: u16, rows: Lent<Row> },
@@ -33,8 +33,8 @@ impl Case {
                 Answer::Print { length, text }
             }
             Case::Step { rows, word } => {
-                let (refusal, rows) = lend(rows, 0, |rows| (engine.step(rows, *word), true));
-                Answer::Step { refusal, rows }
+                let (stepped, rows) = lend(rows, 0, |rows| (engine.step(rows, *word), true));
+                Answer::Step { stepped, rows }
             }
             Case::Run { rows, words, tally } => answer_run(engine, rows, words, *tally),
             Case::Census { rows } => {
@@ -86,8 +86,8 @@ impl Answer {
             Answer::Call { number, .. } => (number % 256) as u16,
             Answer::Text(text) => refusal_printed(text),
             Answer::Print { length, text } => text.inside.get(..*length).map_or(refusal::LENT_TOO_FEW, refusal_printed),
-            Answer::Step { refusal, .. } | Answer::Fresh { refusal, .. } => *refusal,
-            Answer::WriteImage { refusal, .. } => *refusal,
+            Answer::Step { stepped, .. } => stepped.refusal,
+            Answer::Fresh { refusal, .. } | Answer::WriteImage { refusal, .. } => *refusal,
             Answer::Run { ran, .. } => ran.refusal as u16,
             Answer::Census { census, .. } => census.refusal,
             Answer::TakeApart(parts) => parts.refusal,

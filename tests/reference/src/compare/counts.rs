@@ -3,11 +3,29 @@
 use super::{Answer, Case, Kind};
 use crate::bytes::{read_input, words};
 use crate::row::{at_30, Row, LOCATIONS, MOST};
-use crate::run::{take_all, MOST_WORDS};
+use crate::run::{take_all, Ran, MOST_WORDS};
 use crate::word::CANCEL;
+use crate::Cell;
+
+/// The cells that are told, by their letters.
+pub const CELLS: [&str; 5] = ["-", "ra", "wa", "rt", "wt"];
+
+/// Cells told by accepted steps, by runs that took a word, and by printed lines.
+#[derive(Clone, Debug, Default)]
+pub struct Cells {
+    pub steps: [u64; CELLS.len()],
+    pub runs: [u64; CELLS.len()],
+    pub lines: [u64; CELLS.len()],
+    /// Lines with an index of two digits.
+    pub wide: u64,
+    /// Runs that a word stopped, with the cell of an earlier one.
+    pub stops: u64,
+    /// Runs that took no word.
+    pub without: u64,
+}
 
 /// Calls by kind, refusals by kind and number, words taken; for each number of processes the CANCELs among these, the
-/// lines of printed runs with two or more at 30, and visits of each location; lines with ten or more at 30.
+/// lines of printed runs with two or more at 30, and visits of each location; lines with ten or more at 30; cells told.
 #[derive(Clone, Debug, Default)]
 pub struct Counts {
     pub calls: [u64; Kind::ALL.len()],
@@ -17,6 +35,7 @@ pub struct Counts {
     pub together: [u64; MOST + 1],
     pub ten_together: u64,
     pub visits: [[u64; LOCATIONS.len()]; MOST + 1],
+    pub cells: Cells,
 }
 
 impl Counts {
@@ -24,6 +43,7 @@ impl Counts {
         let kind = case.kind() as usize;
         self.calls[kind] += 1;
         self.refusals[kind][answer.refusal() as usize] += 1;
+        self.cells.note(answer);
         match (case, answer.refusal()) {
             (_, 1..=7 | 12..) => {}
             (Case::Call { input, .. }, _) => self.walk_input(&input.bytes, false),
@@ -52,6 +72,9 @@ impl Counts {
             inside -= u16::from(event.before == 30);
             self.together[n] += u64::from(printed && inside >= 2);
             self.ten_together += u64::from(printed && inside >= 10);
+            if printed {
+                self.cells.note_line(event.cell);
+            }
         });
         self.words += u64::from(ran.taken);
     }
@@ -99,6 +122,25 @@ impl Counts {
         if self.ten_together == 0 && self.prints() {
             unseen.push("no line with ten at 30".to_string());
         }
+        unseen.extend(self.cells_unseen());
+        unseen
+    }
+
+    /// The same of cells.
+    fn cells_unseen(&self) -> Vec<String> {
+        let Cells { steps, runs, lines, wide, stops, without } = self.cells;
+        let (stepped, ran) = (self.calls[Kind::Step as usize] > 0, self.calls[Kind::Run as usize] > 0);
+        let mut unseen = Vec::new();
+        for (what, asked, told) in [("step", stepped, steps), ("run", ran, runs), ("line", self.prints(), lines)] {
+            let missing = CELLS.iter().zip(told).filter(|(_, count)| asked && *count == 0);
+            unseen.extend(missing.map(|(letters, _)| format!("no {what} with cell {letters}")));
+        }
+        let others = [
+            (self.prints() && wide == 0, "no line with a cell of two digits"),
+            (ran && stops == 0, "no run that stops with a cell"),
+            (ran && without == 0, "no run that takes no word"),
+        ];
+        unseen.extend(others.iter().filter(|(missing, _)| *missing).map(|(_, what)| what.to_string()));
         unseen
     }
 
@@ -127,17 +169,54 @@ impl Counts {
         let refusals = self.met().into_iter().enumerate().map(|(number, met)| (number.to_string(), met));
         let visits = LOCATIONS.iter().map(|loc| loc.to_string()).zip(total);
         out + &format!(
-            "\nsummary: seed {seed}: calls [{}] words {} cancels {} lines with two at 30 {}, with ten {} \
+            "\nsummary: seed {seed}: calls [{}] words {} cancels {} lines with two at 30 {}, with ten {} {} \
              refusals [{}] visits [{}]",
             listed(calls),
             self.words,
             self.cancels.iter().sum::<u64>(),
             self.together.iter().sum::<u64>(),
             self.ten_together,
+            self.cells.report(),
             listed(refusals),
             listed(visits)
         )
     }
+}
+
+impl Cells {
+    fn note(&mut self, answer: &Answer) {
+        match answer {
+            Answer::Step { stepped, .. } if stepped.refusal == 0 => self.steps[letters(stepped.cell)] += 1,
+            Answer::Run { ran: Ran { taken: 0, .. }, .. } => self.without += 1,
+            Answer::Run { ran, .. } => {
+                self.runs[letters(ran.cell)] += 1;
+                self.stops += u64::from(ran.refusal != 0 && ran.cell != Cell::NONE);
+            }
+            _ => {}
+        }
+    }
+
+    fn note_line(&mut self, cell: Cell) {
+        self.lines[letters(cell)] += 1;
+        self.wide += u64::from(cell.index >= 10);
+    }
+
+    fn report(&self) -> String {
+        let named = |told: [u64; CELLS.len()]| listed(CELLS.iter().map(|name| name.to_string()).zip(told));
+        let Cells { steps, runs, lines, wide, stops, without } = *self;
+        format!(
+            "cells of steps [{}] of runs [{}] of lines [{}] two digits {wide} stops with a cell {stops} \
+             runs of no word {without}",
+            named(steps),
+            named(runs),
+            named(lines)
+        )
+    }
+}
+
+/// The place of a cell's letters among the five.
+fn letters(cell: Cell) -> usize {
+    CELLS.iter().position(|&letters| letters == cell.letters()).expect("one of the five")
 }
 
 fn listed(pairs: impl Iterator<Item = (String, u64)>) -> String {

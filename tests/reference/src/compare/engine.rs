@@ -2,7 +2,7 @@
 
 use super::Kind;
 use crate::naive::{self, Fault};
-use crate::{Census, PartsAnswer, Ran, Reading, Row, Tally, WordAnswer};
+use crate::{Census, PartsAnswer, Ran, Reading, Row, StepAnswer, Tally, WordAnswer};
 
 /// Every function of include/zaguypo.h, and the printing program as `text`. An engine that lacks a kind of call says so in
 /// `offers` and is not asked for it.
@@ -12,7 +12,7 @@ pub trait Engine {
     fn call(&self, input: &[u8], image: &mut [u8]) -> u64;
     fn text(&self, input: &[u8]) -> Vec<u8>;
     fn print(&self, input: &[u8], text: &mut [u8]) -> usize;
-    fn step(&self, rows: &mut [Row], word: u32) -> u16;
+    fn step(&self, rows: &mut [Row], word: u32) -> StepAnswer;
     fn run(&self, rows: &mut [Row], words: &[u32], tally: &mut Tally) -> Ran;
     fn census(&self, rows: &[Row]) -> Census;
     fn fresh(&self, rows: &mut [Row]) -> u16;
@@ -41,8 +41,8 @@ impl Engine for Reference {
     fn print(&self, input: &[u8], text: &mut [u8]) -> usize {
         crate::print_into(input, text)
     }
-    fn step(&self, rows: &mut [Row], word: u32) -> u16 {
-        crate::step(rows, word).err().unwrap_or(0)
+    fn step(&self, rows: &mut [Row], word: u32) -> StepAnswer {
+        crate::step_in(rows, word)
     }
     fn run(&self, rows: &mut [Row], words: &[u32], tally: &mut Tally) -> Ran {
         crate::run(rows, words, tally)
@@ -86,7 +86,7 @@ impl Engine for Naive {
     fn print(&self, input: &[u8], text: &mut [u8]) -> usize {
         naive::print(input, text, self.0)
     }
-    fn step(&self, rows: &mut [Row], word: u32) -> u16 {
+    fn step(&self, rows: &mut [Row], word: u32) -> StepAnswer {
         naive::step(rows, word, self.0)
     }
     fn run(&self, rows: &mut [Row], words: &[u32], tally: &mut Tally) -> Ran {

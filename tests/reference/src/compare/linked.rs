@@ -1,13 +1,13 @@
 //! The linked library behind the common face. Everything that depends on its names and types is in the one block below.
 
 use super::{Engine, Kind};
-use crate::{Census, PartsAnswer, Ran, Reading, Row, Tally, WordAnswer};
+use crate::{Census, PartsAnswer, Ran, Reading, Row, StepAnswer, Tally, WordAnswer};
 use std::io::{Read, Write};
 use std::path::PathBuf;
 use std::process::{Command, Stdio};
 
-/// THE EXPORTED NAMES, as include/zaguypo.h declares them. The records are `repr(C)` in row.rs, step.rs, run.rs, census.rs,
-/// image.rs and word.rs.
+/// THE EXPORTED NAMES, as include/zaguypo.h declares them. The records are `repr(C)` in row.rs, cell.rs, step.rs,
+/// run.rs, census.rs, image.rs and word.rs.
 mod exported {
     use crate::{Census, PartsAnswer, Ran, Reading, Row, StepAnswer, Tally, WordAnswer};
     use std::ffi::c_char;
@@ -29,6 +29,9 @@ mod exported {
         pub fn zaguypo_together(kind: u32, process: u32, argument: u32) -> WordAnswer;
     }
 }
+
+// the sizes that C has for the answers with a cell; the second ends in two bytes of padding
+const _: () = assert!(size_of::<StepAnswer>() == 8 && size_of::<Ran>() == 16);
 
 /// The library, and the printing program if its path is given.
 pub struct Linked {
@@ -58,8 +61,8 @@ impl Engine for Linked {
         unsafe { exported::zaguypo_print(input.as_ptr(), input.len(), text.as_mut_ptr().cast(), text.len()) }
     }
 
-    fn step(&self, rows: &mut [Row], word: u32) -> u16 {
-        unsafe { exported::zaguypo_step(rows.as_mut_ptr(), rows.len(), word) }.refusal
+    fn step(&self, rows: &mut [Row], word: u32) -> StepAnswer {
+        unsafe { exported::zaguypo_step(rows.as_mut_ptr(), rows.len(), word) }
     }
 
     fn run(&self, rows: &mut [Row], words: &[u32], tally: &mut Tally) -> Ran {

@@ -14,7 +14,7 @@ mod shrink;
 
 pub use answer::Answer;
 pub use case::{Case, Kind};
-pub use counts::Counts;
+pub use counts::{Cells, Counts, CELLS};
 pub use engine::{Engine, Naive, Reference};
 #[cfg(feature = "linked")]
 pub use linked::Linked;

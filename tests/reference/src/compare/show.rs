@@ -3,7 +3,7 @@
 use super::lent::{Lent, FILL};
 use super::{Answer, Case};
 use crate::generate::inputs::Input;
-use crate::{PartsAnswer, Reading, Row, WordAnswer};
+use crate::{PartsAnswer, Ran, Reading, Row, StepAnswer, WordAnswer};
 use std::fmt;
 
 /// Words in hexadecimal, ten a line.
@@ -130,11 +130,12 @@ impl fmt::Display for Answer {
                 show_lines(f, text)
             }
             Answer::Print { length, text } => show_text(f, *length, text),
-            Answer::Step { refusal, rows } | Answer::Fresh { refusal, rows } => {
-                show_lent_rows(f, format!("refusal {refusal}"), rows)
+            Answer::Step { stepped: StepAnswer { refusal, cell }, rows } => {
+                show_lent_rows(f, format!("refusal {refusal}, cell {cell}"), rows)
             }
-            Answer::Run { ran, tally, rows } => {
-                let what = format!("taken {} refusal {}, {:?}", ran.taken, ran.refusal, tally.inside[0]);
+            Answer::Fresh { refusal, rows } => show_lent_rows(f, format!("refusal {refusal}"), rows),
+            Answer::Run { ran: Ran { taken, refusal, cell }, tally, rows } => {
+                let what = format!("taken {taken} refusal {refusal} cell {cell}, {:?}", tally.inside[0]);
                 show_lent_rows(f, what, rows)?;
                 show_lent(f, tally)
             }

@@ -1,6 +1,7 @@
 //! The calls on bytes: the run, the printed run, and its text in lent bytes.
 
 use super::calls::{take_words, too_many};
+use super::cells::printed;
 use super::image::{header, read, write};
 use super::Fault;
 
@@ -73,6 +74,7 @@ pub fn text(input: &[u8], fault: Fault) -> String {
     let mut place = 0;
     // the number is counted again after each word; `error` is what a fault has made it wrong by
     let mut error = if fault == Fault::FigureFrom0 { -(system.at_30(fault) as i64) } else { 0 };
+    let mut used_before = None;
     let ran = take_words(&mut system, events, fault, |system, moved| {
         let (arrives, departs) = (moved.before != 30 && moved.after == 30, moved.before == 30 && moved.after != 30);
         error += match (fault, moved.before, moved.after) {
@@ -83,8 +85,11 @@ pub fn text(input: &[u8], fault: Fault) -> String {
             _ => 0,
         };
         let inside = system.at_30(fault) as i64 + error;
-        out += &format!("{place} {} {} {} {inside}\n", moved.process, moved.before, moved.after);
+        let used = if fault == Fault::PrintedCellOfWordBefore { used_before } else { moved.used };
+        let cell = printed(used, fault);
+        out += &format!("{place} {} {} {} {inside}{cell}\n", moved.process, moved.before, moved.after);
         place += 1;
+        used_before = moved.used;
     });
     if ran.refusal == 0 {
         out + &format!("done {}\n", ran.taken)

@@ -1,9 +1,12 @@
 //! The calls on lent rows: the fresh table, steps, runs and the census.
 
-use super::step::{carry_out, judge, take, Moved};
+use super::cells::answered;
+use super::step::{carry_out, judge, take, would_use, Moved};
 use super::system::{size, System};
 use super::Fault;
-use crate::{Census, Ran, Row, Tally};
+use crate::{Cell, Census, Ran, Row, StepAnswer, Tally};
+
+const NO_CELL: Cell = Cell { access: 0, variable: 0, index: 0 };
 
 /// Every lent row becomes that of the fresh table; or 6 where there are not 2 to 16, and no row changes.
 pub fn fresh(rows: &mut [Row], fault: Fault) -> u16 {
@@ -22,8 +25,8 @@ pub fn fresh(rows: &mut [Row], fault: Fault) -> u16 {
     0
 }
 
-/// The refusal, or 0 and the rows moved.
-pub fn step(rows: &mut [Row], word: u32, fault: Fault) -> u16 {
+/// The refusal; or 0, the cell that the word used, and the rows moved.
+pub fn step(rows: &mut [Row], word: u32, fault: Fault) -> StepAnswer {
     Standing::new(rows, fault).step(word, rows)
 }
 
@@ -38,20 +41,23 @@ impl Standing {
         Standing { system: System::from_rows(rows, fault), fault }
     }
 
-    /// The refusal; or 0, and `rows` become those that the word leads to.
-    pub fn step(&self, word: u32, rows: &mut [Row]) -> u16 {
+    /// The refusal; or 0, the cell that the word used, and `rows` become those that it leads to.
+    pub fn step(&self, word: u32, rows: &mut [Row]) -> StepAnswer {
         let system = match &self.system {
             Ok(system) => system,
-            Err(refusal) => return *refusal,
+            Err(refusal) => return StepAnswer { refusal: *refusal, cell: NO_CELL },
         };
         match judge(system, word, self.fault) {
             Ok(event) => {
-                let mut moved = system.clone();
-                carry_out(&mut moved, event, self.fault);
-                moved.to_rows(rows);
-                0
+                let mut after = system.clone();
+                let moved = carry_out(&mut after, event, self.fault);
+                after.to_rows(rows);
+                StepAnswer { refusal: 0, cell: answered(moved.used) }
             }
-            Err(refusal) => refusal,
+            Err(refusal) if self.fault == Fault::RefusedWordUsesCell => {
+                StepAnswer { refusal, cell: answered(would_use(system, word, refusal)) }
+            }
+            Err(refusal) => StepAnswer { refusal, cell: NO_CELL },
         }
     }
 }
@@ -70,10 +76,10 @@ pub fn run(rows: &mut [Row], words: &[u32], tally: &mut Tally, fault: Fault) -> 
     }
     let mut system = match System::from_rows(rows, fault) {
         Ok(system) => system,
-        Err(refusal) => return Ran { taken: 0, refusal: refusal.into() },
+        Err(refusal) => return Ran { taken: 0, refusal: refusal.into(), cell: NO_CELL },
     };
     if too_many(words.len(), fault) {
-        return Ran { taken: 0, refusal: 12 };
+        return Ran { taken: 0, refusal: 12, cell: NO_CELL };
     }
     *tally = Tally { words: 0, comes: 0, arrivals: 0 };
     let ran = take_words(&mut system, words, fault, |_, moved| {
@@ -86,15 +92,23 @@ pub fn run(rows: &mut [Row], words: &[u32], tally: &mut Tally, fault: Fault) -> 
 }
 
 pub fn take_words(system: &mut System, words: &[u32], fault: Fault, mut each: impl FnMut(&System, &Moved)) -> Ran {
-    let mut ran = Ran { taken: 0, refusal: 0 };
+    let mut ran = Ran { taken: 0, refusal: 0, cell: NO_CELL };
     for &word in words {
         match take(system, word, fault) {
             Ok(moved) if ran.refusal == 0 => {
+                ran.cell = cell_after(&ran, &moved, fault);
                 ran.taken += 1;
                 each(system, &moved);
             }
             Ok(_) => {}
-            Err(refusal) if ran.refusal == 0 => ran.refusal = refusal.into(),
+            Err(refusal) if ran.refusal == 0 => {
+                ran.refusal = refusal.into();
+                ran.cell = match fault {
+                    Fault::RunCellLostOnStop => NO_CELL,
+                    Fault::RunCellOfRefusedWord => answered(would_use(system, word, refusal)),
+                    _ => ran.cell,
+                };
+            }
             Err(_) => {}
         }
         if ran.refusal != 0 && fault != Fault::GoesOnPastRefusal {
@@ -102,6 +116,15 @@ pub fn take_words(system: &mut System, words: &[u32], fault: Fault, mut each: im
         }
     }
     ran
+}
+
+/// The cell of a run after one word more: that word's.
+fn cell_after(ran: &Ran, moved: &Moved, fault: Fault) -> Cell {
+    match fault {
+        Fault::RunCellOfFirstWord if ran.taken > 0 => ran.cell,
+        Fault::RunCellKeptByNone if moved.used.is_none() => ran.cell,
+        _ => answered(moved.used),
+    }
 }
 
 pub fn census(rows: &[Row], fault: Fault) -> Census {

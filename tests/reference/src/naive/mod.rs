@@ -4,6 +4,7 @@
 
 mod bytes;
 mod calls;
+mod cells;
 mod image;
 mod step;
 mod system;
@@ -15,8 +16,8 @@ pub use image::{read_image, write_image};
 pub use words::{put_together, take_apart};
 
 /// One error put into the model; the first group is of errors that are near, the third of CANCEL and the kinds, the
-/// fourth of the printed number at 30, which may be carried wrongly, the last that of memory lent by C and of answers in
-/// records.
+/// fourth of the printed number at 30, which may be carried wrongly, the fifth of the shared cell that a step, a run
+/// and a line tell, the last that of memory lent by C and of answers in records.
 #[derive(Clone, Copy, Debug, PartialEq, Eq)]
 pub enum Fault {
     None,
@@ -89,6 +90,32 @@ pub enum Fault {
     FigureRaisedFrom21To22,
     FigureBeforeTheWord,
 
+    Go20UsesNone,
+    Go40UsesNone,
+    Go24UsesNone,
+    Go24Reads,
+    FlickerReads,
+    FlickerAt24UsesNone,
+    FlickerTurnOfValue,
+    LookReadsOwnAct,
+    Go23FirstCaseReads,
+    Go23To24Reads,
+    Go23ReadsLevelAfter,
+    Go23LastCaseUsesNone,
+    Go23UsesNone,
+    TurnOfProcess,
+    CancelWritesAct,
+    RefusedWordUsesCell,
+    RunCellOfFirstWord,
+    RunCellKeptByNone,
+    RunCellLostOnStop,
+    RunCellOfRefusedWord,
+    PrintedNoneLeftOut,
+    PrintedCellWithoutIndex,
+    PrintedIndexOfOneDigit,
+    PrintedTurnAsAct,
+    PrintedCellOfWordBefore,
+
     FreshOf17Rows,
     FreshKeepsWhatMayBeAnything,
     ReadLentBeforeWords,
@@ -108,7 +135,7 @@ pub enum Fault {
 }
 
 impl Fault {
-    pub const ALL: [Fault; 81] = [
+    pub const ALL: [Fault; 106] = [
         Fault::Counts40With30,
         Fault::EstKeptAtGo24,
         Fault::TurnBeforeSizeOfEst,
@@ -174,6 +201,31 @@ impl Fault {
         Fault::FigureLoweredFrom40To10,
         Fault::FigureRaisedFrom21To22,
         Fault::FigureBeforeTheWord,
+        Fault::Go20UsesNone,
+        Fault::Go40UsesNone,
+        Fault::Go24UsesNone,
+        Fault::Go24Reads,
+        Fault::FlickerReads,
+        Fault::FlickerAt24UsesNone,
+        Fault::FlickerTurnOfValue,
+        Fault::LookReadsOwnAct,
+        Fault::Go23FirstCaseReads,
+        Fault::Go23To24Reads,
+        Fault::Go23ReadsLevelAfter,
+        Fault::Go23LastCaseUsesNone,
+        Fault::Go23UsesNone,
+        Fault::TurnOfProcess,
+        Fault::CancelWritesAct,
+        Fault::RefusedWordUsesCell,
+        Fault::RunCellOfFirstWord,
+        Fault::RunCellKeptByNone,
+        Fault::RunCellLostOnStop,
+        Fault::RunCellOfRefusedWord,
+        Fault::PrintedNoneLeftOut,
+        Fault::PrintedCellWithoutIndex,
+        Fault::PrintedIndexOfOneDigit,
+        Fault::PrintedTurnAsAct,
+        Fault::PrintedCellOfWordBefore,
         Fault::FreshOf17Rows,
         Fault::FreshKeepsWhatMayBeAnything,
         Fault::ReadLentBeforeWords,

@@ -1,14 +1,15 @@
 //! One step, in the order of the manual, "Steps" and "Ahead sets".
 
+use super::cells::{told, Use, Variable};
 use super::system::{size, Process, System};
 use super::words::is_kind;
 use super::Fault;
 
 const STAY: u32 = 1;
 const COME: u32 = 2;
-const FLICKER: u32 = 3;
-const GO: u32 = 4;
-const LOOK: u32 = 5;
+pub const FLICKER: u32 = 3;
+pub const GO: u32 = 4;
+pub const LOOK: u32 = 5;
 const CANCEL: u32 = 6;
 
 /// What an accepted word did.
@@ -17,6 +18,7 @@ pub struct Moved {
     pub before: u32,
     pub after: u32,
     pub come: bool,
+    pub used: Option<Use>,
 }
 
 /// Takes one word, or refuses it and changes nothing.
@@ -27,9 +29,9 @@ pub fn take(system: &mut System, word: u32, fault: Fault) -> Result<Moved, u16> 
 
 /// A word that was not refused, in its parts.
 pub struct Event {
-    kind: u32,
-    p: usize,
-    a: usize,
+    pub kind: u32,
+    pub p: usize,
+    pub a: usize,
 }
 
 /// The parts of a word that may be taken, or its refusal.
@@ -68,8 +70,10 @@ pub fn judge(system: &System, word: u32, fault: Fault) -> Result<Event, u16> {
 }
 
 /// Moves the system by a word that `judge` let through.
-pub fn carry_out(system: &mut System, Event { kind, p, a }: Event, fault: Fault) -> Moved {
-    let before = system.processes[p].location;
+pub fn carry_out(system: &mut System, event: Event, fault: Fault) -> Moved {
+    let Event { kind, p, a } = event;
+    let before = system.processes[p].clone();
+    system.used = None;
     match kind {
         STAY => {}
         COME => system.processes[p].location = 20,
@@ -84,7 +88,16 @@ pub fn carry_out(system: &mut System, Event { kind, p, a }: Event, fault: Fault)
         CANCEL => fault == Fault::CancelCountsAsCome,
         _ => false,
     };
-    Moved { process: p, before, after: system.processes[p].location, come }
+    let after = &system.processes[p];
+    let used = told(&event, &before, after, system.used, fault);
+    Moved { process: p, before: before.location, after: after.location, come, used }
+}
+
+/// What a word would have used that is refused for its argument, had that been 0. Only faults ask.
+pub fn would_use(system: &System, word: u32, refusal: u16) -> Option<Use> {
+    let without_argument = judge(system, word / 0x100 * 0x100, Fault::None);
+    let event = without_argument.ok().filter(|_| refusal == 11)?;
+    carry_out(&mut system.clone(), event, Fault::None).used
 }
 
 fn is_allowed(kind: u32, process: &Process, fault: Fault) -> bool {
@@ -118,15 +131,15 @@ fn flicker(system: &mut System, p: usize, a: usize, fault: Fault) {
     if system.processes[p].location == 24 {
         let level = system.processes[p].level;
         if !(fault == Fault::OwnRowStoreLostAtFlicker && level == p) {
-            system.turn[level] = a;
+            system.write_turn(level, a);
         }
     } else {
-        system.processes[p].act = a == 1;
+        system.write_act(p, a == 1);
     }
 }
 
 fn look(system: &mut System, p: usize, q: usize, fault: Fault) {
-    let act = system.processes[q].act;
+    let act = system.read_act(q);
     system.processes[p].lis[q] = false;
     let drops = match fault {
         Fault::LookKeepsIdle => false,
@@ -146,6 +159,7 @@ fn cancel(system: &mut System, p: usize, fault: Fault) {
         Fault::ActClearedAtCancel => process.act = false,
         Fault::ActSetAtCancel => process.act = true,
         Fault::AheadClearedAtCancel => leave_ahead_sets(system, p, fault),
+        Fault::CancelWritesAct => system.used = Some(Use { written: true, variable: Variable::Act, index: p }),
         _ => {}
     }
 }
@@ -156,7 +170,7 @@ fn go(system: &mut System, p: usize, fault: Fault) {
         20 => {
             system.processes[p].ahead = system.competing(fault);
             system.processes[p].ahead[p] = fault == Fault::AheadWithSelfAtGo20;
-            system.processes[p].act = true;
+            system.write_act(p, true);
             system.processes[p].level = n - 1;
             system.processes[p].est = system.others(p);
             system.processes[p].location = 21;
@@ -172,7 +186,8 @@ fn go(system: &mut System, p: usize, fault: Fault) {
             }
         }
         _ => {
-            system.processes[p].act = fault == Fault::ActKeptAtGo40 && system.processes[p].act;
+            let act = fault == Fault::ActKeptAtGo40 && system.processes[p].act;
+            system.write_act(p, act);
             system.processes[p].location = 10;
             if fault == Fault::AheadClearedAtGo40 {
                 leave_ahead_sets(system, p, fault);
@@ -193,35 +208,32 @@ fn go_21(system: &mut System, p: usize, fault: Fault) {
 }
 
 fn go_23(system: &mut System, p: usize, fault: Fault) {
-    let level = system.processes[p].level;
+    let Process { level, est, bb, .. } = system.processes[p].clone();
     let cell = if fault == Fault::TurnComparedAtLevelBelow && level > 1 { level - 1 } else { level };
-    let turn_is_other = system.turn[cell] != p;
-    let process = &mut system.processes[p];
-    let number = size(&process.est);
+    let number = size(&est);
     let fewer = number < level || (fault == Fault::MoveAtEqualSize && number == level);
-    let turn_first = fault == Fault::TurnBeforeSizeOfEst && process.bb && turn_is_other;
+    let turn_first = fault == Fault::TurnBeforeSizeOfEst && bb && system.read_turn(cell) != p;
     if fewer && !turn_first {
-        process.level = number;
-        process.bb = process.bb && fault == Fault::MoveKeepsBb;
-        process.location = 21;
-    } else if !process.bb {
-        process.location = 24;
-    } else if turn_is_other {
-        process.level = level - 1;
-        if fault == Fault::FallsTwoLevels && process.level > 0 {
-            process.level -= 1;
-        }
-        process.bb = fault == Fault::FallKeepsBb;
-        process.location = 21;
+        system.processes[p].level = number;
+        system.processes[p].bb = bb && fault == Fault::MoveKeepsBb;
+        system.processes[p].location = 21;
+    } else if !bb {
+        system.processes[p].location = 24;
+    } else if system.read_turn(cell) != p {
+        let fallen = level - 1;
+        let twice = fault == Fault::FallsTwoLevels && fallen > 0;
+        system.processes[p].level = if twice { fallen - 1 } else { fallen };
+        system.processes[p].bb = fault == Fault::FallKeepsBb;
+        system.processes[p].location = 21;
     } else {
-        process.location = 21;
+        system.processes[p].location = 21;
     }
 }
 
 fn go_24(system: &mut System, p: usize, fault: Fault) {
     let level = system.processes[p].level;
     if !(fault == Fault::OwnRowStoreLostAtGo24 && level == p) {
-        system.turn[level] = p;
+        system.write_turn(level, p);
     }
     system.processes[p].bb = true;
     if fault != Fault::EstKeptAtGo24 {

@@ -1,5 +1,6 @@
 //! The state as sections 3.2 and 3.4 of the paper have it, and its soundness.
 
+use super::cells::Use;
 use super::Fault;
 use crate::Row;
 
@@ -21,6 +22,8 @@ pub struct System {
     pub processes: Vec<Process>,
     /// turn[k] for k from 1; turn[0] is never used.
     pub turn: Vec<usize>,
+    /// What the step under way has used of act and turn.
+    pub used: Option<Use>,
 }
 
 pub fn size(set: &Set) -> usize {
@@ -56,7 +59,7 @@ impl System {
             lis: [false; 16],
             ahead: [false; 16],
         };
-        System { processes: vec![idle; n], turn: vec![0; n] }
+        System { processes: vec![idle; n], turn: vec![0; n], used: None }
     }
 
     pub fn n(&self) -> usize {
@@ -97,7 +100,7 @@ impl System {
     /// How many wait: the write of act at 20 is complete, and the critical section not reached.
     pub fn waiting(&self, fault: Fault) -> usize {
         let waits = |location| match location {
-            21 | 22 | 23 | 24 => true,
+            21..=24 => true,
             20 => fault == Fault::WaitingFrom20,
             30 => fault == Fault::WaitingTo30,
             _ => false,
@@ -132,6 +135,7 @@ impl System {
         Ok(System {
             processes: rows.iter().map(process).collect(),
             turn: rows.iter().map(|row| row.turn.into()).collect(),
+            used: None,
         })
     }
 

@@ -1,23 +1,28 @@
 //! An engine beside the naive model at one table.
 
+use super::exchange::{exchange, Exchange, Taken};
 use super::search::Guide;
 use crate::compare::{Case, Engine};
 use crate::naive::{self, Fault, Standing};
 use crate::{refusal, Census, Row};
 
-/// The engine, and the naive model with a fault or none: they must agree, on tables that must meet demand 3.
+/// The engine, and the naive model with a fault or none: they must agree, on tables that must meet demand 3 and at
+/// which words without a clash can be exchanged.
 pub struct Beside<'a> {
     pub engine: &'a dyn Engine,
     pub fault: Fault,
 }
 
-/// What must not be found, as a case that both can be asked again.
+/// What must not be found, as cases that both can be asked again.
 #[derive(Clone, Debug)]
 pub enum Finding {
     /// The answers differ.
     Difference(Case),
     /// Both say that more processes are held at some k, or are at 30, than demand 3 allows; or that the table is not sound.
     Demand3(Case),
+    /// The order of two words makes a difference to the engine, though the cells that they used do not clash: the
+    /// second after the first, and the first after the second.
+    Exchange(Box<[Case; 2]>),
 }
 
 impl<const N: usize> Guide<N> for Beside<'_> {
@@ -28,21 +33,31 @@ impl<const N: usize> Guide<N> for Beside<'_> {
         rows: &[Row; N],
         words: &[u32],
         mut each: impl FnMut(u32, Option<[Row; N]>),
-    ) -> Result<(), Finding> {
+    ) -> Result<Exchange, Finding> {
         self.look(rows)?;
         let model = Standing::new(rows, self.fault);
+        let mut taken = Vec::with_capacity(4 * N);
         for &word in words {
             let (mut after, mut model_after) = (*rows, *rows);
-            let refused = self.engine.step(&mut after, word);
+            let answer = self.engine.step(&mut after, word);
             // leaves the rows as given where it refuses the word
-            let model_refused = model.step(word, &mut model_after);
-            if (refused, after) != (model_refused, model_after) {
+            let model_answer = model.step(word, &mut model_after);
+            if (answer, after) != (model_answer, model_after) {
                 return Err(Finding::Difference(Case::Step { rows: rows.to_vec(), word }));
             }
-            each(word, (refused == refusal::NONE).then_some(after));
+            let accepted = answer.refusal == refusal::NONE;
+            if accepted {
+                taken.push(Taken { word, cell: answer.cell, rows: after });
+            }
+            each(word, accepted.then_some(after));
         }
-        Ok(())
+        exchange(&taken, |rows, word| self.engine.step(rows, word)).map_err(|pair| in_both_orders(&pair))
     }
+}
+
+fn in_both_orders<const N: usize>([first, second]: &[Taken<N>; 2]) -> Finding {
+    let then = |led: &Taken<N>, word| Case::Step { rows: led.rows.to_vec(), word };
+    Finding::Exchange(Box::new([then(first, second.word), then(second, first.word)]))
 }
 
 impl Beside<'_> {

@@ -1,5 +1,6 @@
 //! A control without an engine: the naive model alone, with a fault after which the algorithm no longer excludes.
 
+use super::exchange::Exchange;
 use super::search::{walk, Figures, Found, Guide};
 use super::starts::zeros;
 use crate::naive::{Fault, Standing};
@@ -25,16 +26,17 @@ impl<const N: usize> Guide<N> for Alone {
         rows: &[Row; N],
         words: &[u32],
         mut each: impl FnMut(u32, Option<[Row; N]>),
-    ) -> Result<(), TwoAt30> {
+    ) -> Result<Exchange, TwoAt30> {
         if at_30(rows) > 1 {
             return Err(TwoAt30);
         }
         let model = Standing::new(rows, self.0);
         for &word in words {
             let mut after = *rows;
-            let refused = model.step(word, &mut after);
-            each(word, (refused == refusal::NONE).then_some(after));
+            let answer = model.step(word, &mut after);
+            each(word, (answer.refusal == refusal::NONE).then_some(after));
         }
-        Ok(())
+        // pairs of words are not tried
+        Ok(Exchange::default())
     }
 }

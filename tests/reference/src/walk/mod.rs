@@ -1,16 +1,20 @@
-//! Every table that accepted words lead to from fresh tables of two or three processes, with every word given to each: an engine
-//! beside the naive model, or that model alone as a control.
+//! Every table that accepted words lead to from fresh tables of two or three processes, with every word given to each,
+//! and every two accepted words of different processes in both orders: an engine beside the naive model, or that model
+//! alone as a control.
 
 mod beside;
 mod control;
+mod exchange;
 mod packed;
 mod search;
 mod starts;
 
 pub use beside::{Beside, Finding};
 pub use control::control;
-pub use search::{Figures, Found};
+pub use exchange::{exchange, Exchange, Taken};
+pub use search::{candidates, Figures, Found};
 
+use crate::naive::Fault;
 use search::walk;
 use starts::{every_fresh, zeros};
 
@@ -23,21 +27,39 @@ pub struct Walk {
 
 pub const ZEROS_OF_2: Walk = Walk {
     name: "2 zeros",
-    expected: Figures { tables: 1_116, accepted: 4_164, refused: 36_012 },
+    expected: Figures {
+        tables: 1_116,
+        accepted: 4_164,
+        refused: 36_012,
+        exchange: Exchange { apart: 3_596, ahead_differs: 40, clashing: 216, clash_differs: 110 },
+    },
     over: |beside| walk(&[zeros::<2>()], beside),
 };
 
 pub const EVERY_OF_2: Walk = Walk {
     name: "2 every",
-    expected: Figures { tables: 61_704, accepted: 371_668, refused: 1_849_676 },
+    expected: Figures {
+        tables: 61_704,
+        accepted: 371_668,
+        refused: 1_849_676,
+        exchange: Exchange { apart: 558_292, ahead_differs: 8_456, clashing: 2_400, clash_differs: 1_202 },
+    },
     over: |beside| walk(&every_fresh::<2>(), beside),
 };
 
 pub const ZEROS_OF_3: Walk = Walk {
     name: "3 zeros",
-    expected: Figures { tables: 3_426_399, accepted: 19_453_920, refused: 227_246_808 },
+    expected: Figures {
+        tables: 3_426_399,
+        accepted: 19_453_920,
+        refused: 227_246_808,
+        exchange: Exchange { apart: 34_096_971, ahead_differs: 283_104, clashing: 1_960_920, clash_differs: 1_019_472 },
+    },
     over: |beside| walk(&[zeros::<3>()], beside),
 };
+
+/// Words that use a shared cell and do not tell: controls in which the order of two words without a clash matters.
+pub const UNTOLD: [Fault; 2] = [Fault::Go23UsesNone, Fault::FlickerAt24UsesNone];
 
 /// In the control of three processes: the words of a shortest list after which two of them are at 30.
 pub const SHORTEST: usize = 37;

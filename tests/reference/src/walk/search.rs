@@ -1,5 +1,6 @@
 //! Breadth first over the tables that accepted words lead to; each of them is given every candidate word once.
 
+use super::exchange::Exchange;
 use super::packed::{pack, unpack, Tables};
 use crate::word::{join, CANCEL, STAY};
 use crate::Row;
@@ -10,12 +11,13 @@ pub trait Guide<const N: usize> {
     type Finding;
 
     /// Looks at a table and gives it every word; tells `each` the word and what it led to, None where it was refused.
+    /// Answers what it counted of pairs of words.
     fn visit(
         &self,
         rows: &[Row; N],
         words: &[u32],
         each: impl FnMut(u32, Option<[Row; N]>),
-    ) -> Result<(), Self::Finding>;
+    ) -> Result<Exchange, Self::Finding>;
 }
 
 /// What a walk counted. Accepted and refused words are pairs of a table and a word.
@@ -24,6 +26,7 @@ pub struct Figures {
     pub tables: u64,
     pub accepted: u64,
     pub refused: u64,
+    pub exchange: Exchange,
 }
 
 /// What was found at a table, and a shortest list of words that leads to it, with the rows where the list begins.
@@ -36,7 +39,7 @@ pub struct Found<F> {
 
 /// The candidate words: every kind, every process and every argument from 0 to N. No table takes the argument N, so that
 /// refusals 10 and 11 are met besides the accepted words.
-fn candidates(n: u32) -> Vec<u32> {
+pub fn candidates(n: u32) -> Vec<u32> {
     let arguments = |kind, process| (0..=n).map(move |argument| join(kind, process, argument));
     (STAY..=CANCEL).flat_map(|kind| (0..n).flat_map(move |process| arguments(kind, process))).collect()
 }
@@ -55,9 +58,12 @@ pub fn walk<const N: usize, G: Guide<N>>(starts: &[[Row; N]], guide: &G) -> Resu
             }
             None => figures.refused += 1,
         });
-        if let Err(finding) = visited {
-            let (start, words) = met.way_to(place);
-            return Err(Found { finding, start: unpack::<N>(start).to_vec(), words });
+        match visited {
+            Ok(pairs) => figures.exchange += pairs,
+            Err(finding) => {
+                let (start, words) = met.way_to(place);
+                return Err(Found { finding, start: unpack::<N>(start).to_vec(), words });
+            }
         }
         place += 1;
     }

@@ -2,7 +2,7 @@
 
 use crate::manual::{fresh_rows, on_both, ran, refused, FRESH};
 use reference::generate::inputs::to_bytes;
-use reference::{Ran, Row, Tally};
+use reference::{Cell, Ran, Row, StepAnswer, Tally};
 
 const COME: u32 = 0x20000000;
 const FLICKER_1: u32 = 0x30000001;
@@ -17,8 +17,8 @@ fn cancelled(act: u16) -> Vec<Row> {
 #[test]
 fn act_stays_as_it_was_left() {
     on_both(|engine| {
-        assert_eq!(ran(engine, &[COME, CANCEL]), (cancelled(0), Ran { taken: 2, refusal: 0 }));
-        assert_eq!(ran(engine, &[COME, FLICKER_1, CANCEL]), (cancelled(1), Ran { taken: 3, refusal: 0 }));
+        assert_eq!(ran(engine, &[COME, CANCEL]), (cancelled(0), Ran { taken: 2, ..Ran::default() }));
+        assert_eq!(ran(engine, &[COME, FLICKER_1, CANCEL]), (cancelled(1), Ran { taken: 3, ..Ran::default() }));
         let (rows, answer) = ran(engine, &[COME, FLICKER_1, 0x30000000, CANCEL]);
         assert_eq!((rows, answer.taken), (cancelled(0), 4));
     });
@@ -31,7 +31,7 @@ fn everything_but_the_location_stays() {
         let other = Row { loc: 24, act: 1, bb: 1, level: 1, est: 0b01, lis: 0b11, ahead: 0b11, turn: 0 };
         let own = Row { loc: 20, act: 1, bb: 1, level: 1, est: 0b11, lis: 0b10, ahead: 0b11, turn: 1 };
         let mut rows = vec![other, own];
-        assert_eq!(engine.step(&mut rows, 0x60010000), 0);
+        assert_eq!(engine.step(&mut rows, 0x60010000), StepAnswer::default());
         assert_eq!(rows, [other, Row { loc: 40, ..own }]);
     });
 }
@@ -56,7 +56,8 @@ fn a_cancelled_process_goes_on_as_from_30() {
         let (rows, answer) = ran(engine, &[COME, CANCEL, FLICKER_1]);
         assert_eq!((rows, answer.taken), (cancelled(1), 3));
         let words = [COME, CANCEL, FLICKER_1, GO];
-        assert_eq!(ran(engine, &words), (fresh_rows(engine, 2), Ran { taken: 4, refusal: 0 }));
+        let answer = Ran { taken: 4, refusal: 0, cell: Cell::act_written(0) };
+        assert_eq!(ran(engine, &words), (fresh_rows(engine, 2), answer));
     });
 }
 
@@ -80,7 +81,8 @@ fn refused_elsewhere() {
             let level = u16::from([22, 23, 24].contains(&loc));
             let rows = vec![Row { loc, level, ..Row::IDLE }, Row::IDLE];
             let mut after = rows.clone();
-            assert_eq!((engine.step(&mut after, CANCEL), after), (10, rows));
+            let refused = StepAnswer { refusal: 10, cell: Cell::NONE };
+            assert_eq!((engine.step(&mut after, CANCEL), after), (refused, rows));
         }
     });
 }
@@ -98,6 +100,6 @@ fn counted_as_a_word_alone() {
 fn printed() {
     on_both(|engine| {
         let input = to_bytes(&[FRESH.as_slice(), &[COME, CANCEL, GO]].concat());
-        assert_eq!(engine.text(&input), b"posts 2\n0 0 10 20 0\n1 0 20 40 0\n2 0 40 10 0\ndone 3\n");
+        assert_eq!(engine.text(&input), b"posts 2\n0 0 10 20 0 -\n1 0 20 40 0 -\n2 0 40 10 0 wa0\ndone 3\n");
     });
 }

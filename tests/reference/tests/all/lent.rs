@@ -91,16 +91,17 @@ fn the_seven_words_printed_into_lent_bytes() {
     });
 }
 
-/// Every number in a line has as many digits as it can: process 10 of 16 stays, with ten others at 30.
+/// Every part of a line is as long as it can be: process 10 of 16 flickers turn[10], with ten others at 30.
 #[test]
 fn the_longest_text_fits() {
     on_both(|engine| {
         let mut rows = fresh_rows(engine, 16);
         rows[..10].fill(Row { loc: 30, ..Row::IDLE });
-        let input = to_bytes(&[image_of(&rows), vec![0x100A0000; 8192]].concat());
-        let (length, text) = printed(engine, &input, 139_300);
-        assert_eq!(length, 138_173);
-        assert!(text.starts_with(b"posts 16\n0 10 10 10 10\n"));
-        assert!(text[..length].ends_with(b"\n8191 10 10 10 10\ndone 8192\n"));
+        rows[10] = Row { loc: 24, level: 10, ..Row::IDLE };
+        let input = to_bytes(&[image_of(&rows), vec![0x300A0000; 8192]].concat());
+        let (length, text) = printed(engine, &input, 180_260);
+        assert_eq!(length, 179_133);
+        assert!(text.starts_with(b"posts 16\n0 10 24 24 10 wt10\n"));
+        assert!(text[..length].ends_with(b"\n8191 10 24 24 10 wt10\ndone 8192\n"));
     });
 }

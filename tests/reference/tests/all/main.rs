@@ -1,8 +1,10 @@
 //! All tests of the reference, in one program.
 
 mod cancel;
+mod cells;
 mod census;
 mod example;
+mod exchange;
 mod exclusion;
 mod lent;
 mod manual;

@@ -33,21 +33,23 @@ pub fn ran(engine: &dyn Engine, words: &[u32]) -> (Vec<Row>, Ran) {
     (rows, ran)
 }
 
+/// A word that stops the run after others: rows and cell are those that the others left.
 pub fn refused(engine: &dyn Engine, words: &[u32], taken: u32, refusal: u32) {
-    let before = ran(engine, &words[..taken as usize]).0;
-    assert_eq!(ran(engine, words), (before, Ran { taken, refusal }), "{words:X?}");
+    let (rows, before) = ran(engine, &words[..taken as usize]);
+    assert_eq!((before.taken, before.refusal), (taken, 0), "{words:X?}");
+    assert_eq!(ran(engine, words), (rows, Ran { refusal, ..before }), "{words:X?}");
 }
 
 #[test]
 fn no_words() {
-    on_both(|engine| assert_eq!(ran(engine, &[]), (fresh_rows(engine, 2), Ran { taken: 0, refusal: 0 })));
+    on_both(|engine| assert_eq!(ran(engine, &[]), (fresh_rows(engine, 2), Ran::default())));
 }
 
 #[test]
 fn the_seven_words() {
     on_both(|engine| {
         let (rows, answer) = ran(engine, &SEVEN);
-        assert_eq!(answer, Ran { taken: 7, refusal: 0 });
+        assert_eq!(answer, Ran { taken: 7, ..Ran::default() });
         let mut after = FRESH;
         after[1] = 0x90006200;
         assert_eq!(image_of(&rows), after);
@@ -154,11 +156,11 @@ fn two_that_see_each_other() {
 fn the_most_words() {
     on_both(|engine| {
         let mut words = vec![0x10000000; 8192];
-        assert_eq!(ran(engine, &words), (fresh_rows(engine, 2), Ran { taken: 8192, refusal: 0 }));
+        assert_eq!(ran(engine, &words), (fresh_rows(engine, 2), Ran { taken: 8192, ..Ran::default() }));
         let input = to_bytes(&[FRESH.as_slice(), &words].concat());
         assert_eq!(engine.call(&input, &mut [0; 40]), 8192 * 256);
         words.push(0x10000000);
-        assert_eq!(ran(engine, &words), (fresh_rows(engine, 2), Ran { taken: 0, refusal: 12 }));
+        assert_eq!(ran(engine, &words), (fresh_rows(engine, 2), Ran { refusal: 12, ..Ran::default() }));
         let input = to_bytes(&[FRESH.as_slice(), &words].concat());
         assert_eq!(engine.call(&input, &mut [0; 40]), 12);
         assert_eq!(engine.call(&input, &mut []), 12);
@@ -179,7 +181,7 @@ fn a_lone_process_needs_n_and_5_words() {
                         Row { loc: 22, lis, .. } if lis != 0 => (5, lis.trailing_zeros()),
                         _ => (4, 0),
                     };
-                    assert_eq!(engine.step(&mut rows, kind << 28 | (p as u32) << 16 | a), 0);
+                    assert_eq!(engine.step(&mut rows, kind << 28 | (p as u32) << 16 | a).refusal, 0);
                     needed += 1;
                 }
                 assert_eq!(needed, n + 5);

@@ -4,7 +4,7 @@ use reference::compare::{make_case, shrink, Case, Counts, Kind, Naive, Reference
 use reference::generate::inputs::{image_of, to_bytes};
 use reference::generate::Random;
 use reference::naive::Fault;
-use reference::Row;
+use reference::{Row, Tally};
 
 /// The first case of a seed on which the reference and the naive model with a fault differ, among `rounds` of each kind.
 fn first_difference(seed: u64, rounds: u64, fault: Fault, mut note: impl FnMut(&Case)) -> Option<Case> {
@@ -70,6 +70,56 @@ fn a_comparison_without_crowds_is_blind() {
     assert!(misses(&counts, "no line with two at 30 of 11 processes"));
 }
 
+/// Notes a case, and tells whether the comparison then misses what is named.
+fn misses_after(counts: &mut Counts, case: Case, what: &str) -> bool {
+    counts.note(&case, &case.answer(&Reference));
+    counts.unseen().iter().any(|unseen| unseen == what)
+}
+
+/// Each of the five answers must be told by a step, by a run and by a line; a refused step tells none.
+#[test]
+fn a_comparison_without_cells_is_blind() {
+    let mut counts = Counts::default();
+    let at = |loc| vec![Row { loc, bb: 1, level: 1, est: 0b10, lis: 0b10, ..Row::IDLE }, Row::IDLE];
+    let words = [(0x40000000, 21, "-"), (0x50000001, 22, "ra"), (0x30000001, 20, "wa"), (0x40000000, 23, "rt")];
+    for (word, loc, letters) in words.into_iter().chain([(0x30000001, 24, "wt")]) {
+        let (rows, tally) = (at(loc), Tally::default());
+        let wrong = Case::Step { rows: rows.clone(), word: word | 0x7F };
+        assert!(misses_after(&mut counts, wrong, &format!("no step with cell {letters}")), "{letters}");
+        let step = Case::Step { rows: rows.clone(), word };
+        assert!(!misses_after(&mut counts, step, &format!("no step with cell {letters}")), "{letters}");
+        let none = Case::Run { rows: rows.clone(), words: vec![word | 0x7F], tally };
+        assert!(misses_after(&mut counts, none, &format!("no run with cell {letters}")), "{letters}");
+        let run = Case::Run { rows: rows.clone(), words: vec![word], tally };
+        assert!(!misses_after(&mut counts, run, &format!("no run with cell {letters}")), "{letters}");
+        let image = to_bytes(&image_of(&rows));
+        let no_lines = Case::Text { bytes: image.clone() };
+        assert!(misses_after(&mut counts, no_lines, &format!("no line with cell {letters}")), "{letters}");
+        let line = Case::Text { bytes: [image, to_bytes(&[word])].concat() };
+        assert!(!misses_after(&mut counts, line, &format!("no line with cell {letters}")), "{letters}");
+    }
+}
+
+#[test]
+fn a_comparison_without_stops_or_wide_cells_is_blind() {
+    let mut counts = Counts::default();
+    let (at_20, at_10) = (Row { loc: 20, ..Row::IDLE }, Row::IDLE);
+    let run =
+        |rows: &[Row], words: &[u32]| Case::Run { rows: rows.into(), words: words.into(), tally: Tally::default() };
+    let text = |rows: &[Row], word| Case::Text { bytes: [to_bytes(&image_of(rows)), to_bytes(&[word])].concat() };
+
+    let (stop, none) = ("no run that stops with a cell", "no run that takes no word");
+    assert!(misses_after(&mut counts, run(&[at_20, at_10], &[0x30000000]), stop));
+    assert!(misses_after(&mut counts, run(&[at_20, at_10], &[0x10010000, 0]), stop));
+    assert!(misses_after(&mut counts, run(&[at_20, at_10], &[0x30000000, 0]), none));
+    assert!(!misses_after(&mut counts, run(&[at_20, at_10], &[0]), none));
+    assert!(!misses_after(&mut counts, run(&[at_20, at_10], &[]), stop));
+
+    let wide = "no line with a cell of two digits";
+    assert!(misses_after(&mut counts, text(&[at_20; 16], 0x30090000), wide));
+    assert!(!misses_after(&mut counts, text(&[at_20; 16], 0x300A0000), wide));
+}
+
 #[test]
 fn every_fault_is_seen() {
     for fault in Fault::ALL {
@@ -105,14 +155,45 @@ fn the_call_from_c_sees_wrong_moves() {
     }
 }
 
+/// A cell that is told wrongly is seen by the step, by the run and by the text, each by itself.
+#[test]
+fn step_run_and_text_see_wrong_cells() {
+    let cells = [
+        Fault::Go20UsesNone,
+        Fault::Go40UsesNone,
+        Fault::Go24UsesNone,
+        Fault::Go24Reads,
+        Fault::FlickerReads,
+        Fault::FlickerAt24UsesNone,
+        Fault::FlickerTurnOfValue,
+        Fault::LookReadsOwnAct,
+        Fault::Go23FirstCaseReads,
+        Fault::Go23To24Reads,
+        Fault::Go23ReadsLevelAfter,
+        Fault::Go23LastCaseUsesNone,
+        Fault::Go23UsesNone,
+        Fault::TurnOfProcess,
+        Fault::CancelWritesAct,
+    ];
+    for (fault, kind) in cells.iter().flat_map(|&fault| TELL_CELLS.map(|kind| (fault, kind))) {
+        assert!(seen_by(kind, fault, 8_000).is_some(), "{fault:?} is not seen by {kind:?}");
+    }
+    // the call from C does not tell a cell
+    assert!(cells.iter().all(|&fault| seen_by(Kind::Call, fault, 200).is_none()));
+}
+
+const TELL_CELLS: [Kind; 4] = [Kind::Step, Kind::Run, Kind::Print, Kind::Text];
+
+/// The first case of a kind on which a fault shows, among so many.
+fn seen_by(kind: Kind, fault: Fault, cases: u64) -> Option<Case> {
+    let differs = |case: &Case| case.answer(&Reference) != case.answer(&Naive(fault));
+    (0..cases).map(|number| make_case(&mut Random::of_case(7, number), kind)).find(differs)
+}
+
 /// The first case of a kind on which a fault shows, made small.
 fn made_small(kind: Kind, fault: Fault) -> Case {
-    let differs = |case: &Case| case.answer(&Reference) != case.answer(&Naive(fault));
-    let case = (0..20_000)
-        .map(|number| make_case(&mut Random::of_case(7, number), kind))
-        .find(|case| differs(case))
-        .expect("a difference");
-    shrink(case, &differs)
+    let case = seen_by(kind, fault, 20_000).expect("a difference");
+    shrink(case, &|case| case.answer(&Reference) != case.answer(&Naive(fault)))
 }
 
 #[test]

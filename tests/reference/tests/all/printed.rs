@@ -1,4 +1,4 @@
-//! The printed number at 30, on both models.
+//! The printed number at 30 and the printed cell, on both models.
 
 use crate::manual::on_both;
 use reference::compare::Engine;
@@ -6,7 +6,7 @@ use reference::generate::inputs::{image_of, to_bytes};
 use reference::generate::schedule::schedule;
 use reference::generate::tables::sound_table;
 use reference::generate::Random;
-use reference::Row;
+use reference::{Row, StepAnswer};
 
 fn text(engine: &dyn Engine, rows: &[Row], words: &[u32]) -> String {
     let input = [to_bytes(&image_of(rows)), to_bytes(words)].concat();
@@ -21,22 +21,23 @@ fn two_at_30() {
         [0x40000000, 0x40020000, 0x40000000, 0x20000000, 0x40000000, 0x40000000, 0x40010000, 0x60000000, 0x40020000];
     let expected = [
         "posts 3",
-        "0 0 30 40 1",
-        "1 2 21 30 2",
-        "2 0 40 10 2",
-        "3 0 10 20 2",
-        "4 0 20 21 2",
-        "5 0 21 22 2",
-        "6 1 30 40 1",
+        "0 0 30 40 1 -",
+        "1 2 21 30 2 -",
+        "2 0 40 10 2 wa0",
+        "3 0 10 20 2 -",
+        "4 0 20 21 2 wa0",
+        "5 0 21 22 2 -",
+        "6 1 30 40 1 -",
         "stop 7 10",
         "",
     ];
     on_both(|engine| assert_eq!(text(engine, &[at(30), at(30), at(21)], &words), expected.join("\n")));
 }
 
-/// From any sound table the last number of each line is what the census has after that word.
+/// From any sound table the last number of each line is what the census has after that word, and its cell the one that
+/// the step tells.
 #[test]
-fn the_number_is_the_census() {
+fn the_number_is_the_census_and_the_cell_is_the_step() {
     on_both(|engine| {
         let mut rng = Random::new(30);
         let (mut raised, mut lowered, mut most) = (0, 0, 0);
@@ -48,9 +49,14 @@ fn the_number_is_the_census() {
             let mut before = engine.census(&rows).at_30;
             let lines = printed.lines().skip(1).filter(|line| line.starts_with(|c: char| c.is_ascii_digit()));
             for (line, &word) in lines.zip(&words) {
-                assert_eq!(engine.step(&mut rows, word), 0);
+                let StepAnswer { refusal, cell } = engine.step(&mut rows, word);
                 let inside = engine.census(&rows).at_30;
-                assert_eq!(line.rsplit(' ').next(), Some(inside.to_string().as_str()), "{line}");
+                assert_eq!(refusal, 0, "{line}");
+                assert_eq!(
+                    line.split(' ').skip(4).collect::<Vec<_>>(),
+                    [inside.to_string(), cell.to_string()],
+                    "{line}"
+                );
                 raised += u32::from(inside > before);
                 lowered += u32::from(inside < before);
                 most = most.max(inside);

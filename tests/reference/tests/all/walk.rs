@@ -2,11 +2,12 @@
 
 use reference::compare::{Case, Naive, Reference};
 use reference::naive::{self, Fault};
-use reference::walk::{control, Beside, Finding, Found, EVERY_OF_2, SHORTEST, ZEROS_OF_2, ZEROS_OF_3};
+use reference::walk::{control, Beside, Exchange, Figures, Finding, Found};
+use reference::walk::{EVERY_OF_2, SHORTEST, UNTOLD, ZEROS_OF_2, ZEROS_OF_3};
 use reference::{Ran, Row, Tally};
 
 /// Seen by a walk of two processes from every fresh table.
-const SEEN: [Fault; 28] = [
+const SEEN: [Fault; 45] = [
     Fault::Counts40With30,
     Fault::AheadClearedAtGo40,
     Fault::OwnRowStoreLostAtGo24,
@@ -35,22 +36,38 @@ const SEEN: [Fault; 28] = [
     Fault::CancelAlsoAt40,
     Fault::CancelOfAnyArgument,
     Fault::StepRefusesKind6,
+    // at level 1, an empty est and the turn of another both lead to level 0, bb 0 and 21: the cell tells them apart
+    Fault::TurnBeforeSizeOfEst,
+    Fault::Go20UsesNone,
+    Fault::Go40UsesNone,
+    Fault::Go24UsesNone,
+    Fault::Go24Reads,
+    Fault::FlickerReads,
+    Fault::FlickerAt24UsesNone,
+    Fault::FlickerTurnOfValue,
+    Fault::LookReadsOwnAct,
+    Fault::Go23FirstCaseReads,
+    Fault::Go23To24Reads,
+    Fault::Go23ReadsLevelAfter,
+    Fault::Go23LastCaseUsesNone,
+    Fault::Go23UsesNone,
+    Fault::TurnOfProcess,
+    Fault::CancelWritesAct,
+    Fault::RefusedWordUsesCell,
 ];
 
 /// Seen by a walk of three processes only. Of two, the level is at most 1 and est has at most the other one in it.
-const SEEN_OF_3: [Fault; 5] = [
+const SEEN_OF_3: [Fault; 4] = [
     // at 24, and at 21 with level 1, est is all others
     Fault::EstKeptAtGo24,
     Fault::LisFromEveryone,
-    // at level 1, an empty est and the turn of another both lead to level 0, bb 0 and 21
-    Fault::TurnBeforeSizeOfEst,
     // no level 2
     Fault::FallsTwoLevels,
     Fault::TurnComparedAtLevelBelow,
 ];
 
 /// Not seen by a walk of two, as is tried, nor by one of three, for the reasons given.
-const UNSEEN: [Fault; 48] = [
+const UNSEEN: [Fault; 57] = [
     // no table that is reached has a process in its own ahead
     Fault::OwnAheadKeptAtGo30,
     // nor a process at 20 in an ahead set
@@ -58,13 +75,17 @@ const UNSEEN: [Fault; 48] = [
     // every word has a kind from 1 to 6, no spare bits, and a process of the table
     Fault::ProcessBeforeForm,
     Fault::StepTakesKind7,
-    // words go to the step one by one: there is no list of them and no tally
+    // words go to the step one by one: there is no list of them, no tally and no cell of a run
     Fault::StayCountsAsCome,
     Fault::CancelCountsAsCome,
     Fault::TallyKeptOnRefusal,
     Fault::GoesOnPastRefusal,
     Fault::OneWordFewer,
     Fault::OneWordMore,
+    Fault::RunCellOfFirstWord,
+    Fault::RunCellKeptByNone,
+    Fault::RunCellLostOnStop,
+    Fault::RunCellOfRefusedWord,
     // every table is sound and has two or three rows
     Fault::FirstTurnUnchecked,
     Fault::RowCountAfterRows,
@@ -103,6 +124,11 @@ const UNSEEN: [Fault; 48] = [
     Fault::FigureLoweredFrom40To10,
     Fault::FigureRaisedFrom21To22,
     Fault::FigureBeforeTheWord,
+    Fault::PrintedNoneLeftOut,
+    Fault::PrintedCellWithoutIndex,
+    Fault::PrintedIndexOfOneDigit,
+    Fault::PrintedTurnAsAct,
+    Fault::PrintedCellOfWordBefore,
     Fault::PrintPartWhenShort,
     Fault::PrintZeroAfterText,
     Fault::PrintAnswers0WhenShort,
@@ -159,14 +185,13 @@ fn faults_that_two_processes_do_not_show() {
     }
 }
 
-/// The same fault on both sides: they agree, and what is left is demand 3 and the soundness of the tables.
+/// The same fault on both sides: they agree, and what is left is demand 3.
 #[test]
 fn a_fault_on_both_sides_breaks_demand_3() {
     let faults = [
         Fault::LookDropsBusy,
         Fault::Counts40With30,
         Fault::HeldAlsoAt24,
-        Fault::FlickerUpToN,
         // who cancels at 21 keeps bb, and enters with it again
         Fault::CancelAlsoAt21,
     ];
@@ -177,14 +202,61 @@ fn a_fault_on_both_sides_breaks_demand_3() {
     }
 }
 
+/// The same fault on both sides: they agree, most of them on a wrong cell, and what is left is that the order of two
+/// words matters which are not seen to clash.
+#[test]
+fn a_fault_on_both_sides_breaks_the_exchange() {
+    let faults = [
+        Fault::Go20UsesNone,
+        Fault::Go40UsesNone,
+        Fault::Go24UsesNone,
+        Fault::Go24Reads,
+        Fault::FlickerReads,
+        Fault::FlickerTurnOfValue,
+        Fault::LookReadsOwnAct,
+        Fault::Go23ReadsLevelAfter,
+        Fault::Go23LastCaseUsesNone,
+        Fault::TurnOfProcess,
+        // after it the table is not sound, and the other word is refused
+        Fault::FlickerUpToN,
+    ];
+    for fault in faults.into_iter().chain(UNTOLD) {
+        let found = (ZEROS_OF_2.over)(&Beside { engine: &Naive(fault), fault }).expect_err("an order that matters");
+        let Finding::Exchange(cases) = &found.finding else { panic!("{fault:?}: {found:?}") };
+        let [one, other] = cases.each_ref().map(|case| case.answer(&Naive(fault)));
+        assert_ne!(one, other, "{fault:?}");
+    }
+}
+
+/// Where a cell is told that was not used, fewer words can be exchanged, and none wrongly.
+#[test]
+fn cells_too_many_leave_fewer_pairs() {
+    for fault in [Fault::Go23FirstCaseReads, Fault::Go23To24Reads, Fault::CancelWritesAct] {
+        let figures = (ZEROS_OF_2.over)(&Beside { engine: &Naive(fault), fault }).expect("no difference");
+        assert!(figures.exchange.apart < ZEROS_OF_2.expected.exchange.apart, "{fault:?}: {figures:?}");
+    }
+}
+
+/// The walks of two and of three processes meet what the exchange is about: orders that show in ahead sets alone, and
+/// clashes with and without another table.
+#[test]
+fn pairs_of_every_sort_are_met() {
+    for walk in [ZEROS_OF_2, EVERY_OF_2, ZEROS_OF_3] {
+        let Exchange { apart, ahead_differs, clashing, clash_differs } = walk.expected.exchange;
+        assert!(0 < ahead_differs && ahead_differs < apart, "{}", walk.name);
+        assert!(0 < clash_differs && clash_differs < clashing, "{}", walk.name);
+    }
+}
+
 #[test]
 fn est_kept_at_go_24_lets_two_of_three_be_at_30() {
-    assert_eq!(control::<2>().expect("never two at 30"), ZEROS_OF_2.expected);
+    let without_pairs = Figures { exchange: Exchange::default(), ..ZEROS_OF_2.expected };
+    assert_eq!(control::<2>().expect("never two at 30"), without_pairs);
 
     let Found { start, words, .. } = control::<3>().expect_err("two at 30");
     assert_eq!((&start, words.len()), (&vec![Row::IDLE; 3], SHORTEST));
     let mut rows = start;
     let ran = naive::run(&mut rows, &words, &mut Tally::default(), Fault::EstKeptAtGo24);
-    assert_eq!(ran, Ran { taken: SHORTEST as u32, refusal: 0 });
+    assert_eq!(ran, Ran { taken: SHORTEST as u32, ..Ran::default() });
     assert_eq!(rows.iter().filter(|row| row.loc == 30).count(), 2);
 }

@@ -1,5 +1,6 @@
 -- `going::end_pass` meets its contract: GO at 22. Assumes nothing.
 use mathlib.Core.Path.{refl, sym}
+use Rattle.machine.specs.Shared.{cellAt}
 use Rattle.machine.proofs.Forms.{gone-22}
 use Rattle.cells.specs.View.{rowsOf}
 use Rattle.steps.proofs.MoveLaws.{becomes-as}
@@ -15,6 +16,7 @@ same-length : tie.Need-same-length
 same-length c = search needs
 
 returns : tie.Need-returns
+unfolding cellAt
 returns c =
     let s = c .before .before .before in
     goes-at 22 (s .pre .there) refl

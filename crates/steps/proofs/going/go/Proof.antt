@@ -46,7 +46,7 @@ rest-requires : tie.Need-rest-requires
 rest-requires c κs =
     let r = c .before .before in
     let s = r .before .before in
-    let last = last-place _ (s .pre .may-go) (subst Last (there r) (c .before .match .rest)) in
+    let last = last-place _ (s .pre .may) (subst Last (there r) (c .before .match .rest)) in
     record { ready = s .pre .ready; there = last }
 
 same-length : tie.Need-same-length

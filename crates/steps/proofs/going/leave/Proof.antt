@@ -1,6 +1,7 @@
 -- `going::leave` meets its contract: GO at 30, a departure. Assumes nothing.
 use mathlib.Core.Path.{sym, ap, _∙_}
 use mathlib.Core.List.{map}
+use Rattle.machine.specs.Shared.{cellAt}
 use Rattle.machine.specs.Steps.{forgets}
 use Rattle.machine.proofs.Forms.{gone-30}
 use Rattle.cells.specs.View.{rowsOf}
@@ -22,6 +23,7 @@ same-length : tie.Need-same-length
 same-length c = search needs
 
 returns : tie.Need-returns
+unfolding cellAt
 returns c =
     let f = c .before .before in
     let put = f .before .before .before .go-to .ensures in

@@ -1,7 +1,8 @@
 -- `going::push` meets its contract: GO at 24, the turn cell after the row. Assumes nothing.
-use mathlib.Core.Path.{refl, ap, _∙_}
+use mathlib.Core.Path.{ap, _∙_}
 use native.Mathlib.Omega.{arith}
-use Rattle.machine.specs.Steps.{turned}
+use Rattle.machine.specs.Shared.{turnWritten, cellAt}
+use Rattle.machine.specs.Steps.{turned, quiet, withCell}
 use Rattle.machine.specs.declared.Row.{Row}
 use Rattle.steps.proofs.MoveLaws.{put-pushed}
 use Rattle.steps.proofs.ToldLaws.{goes-at}
@@ -34,23 +35,29 @@ turn-to-requires c κs =
     let h = c .before .before .before .before .before .before .before .before .before .before .pre .ready .low in
     omega arith
 
+turn-written-requires : tie.Need-turn-written-requires
+turn-written-requires c κs = search needs
+
 same-length : tie.Need-same-length
 same-length c = search needs
 
 returns : tie.Need-returns
+unfolding cellAt
 returns c =
-    let r = c .before .before .before .before .before .before .before .before in
+    let d = c .before .before in
+    let r = d .before .before .before .before .before .before .before in
     let s = r .before .before .before .before in
     let competing = r .before .before .competitors .ensures in
-    let put = c .before .before .before .before .before .put-row .ensures in
-    let turn = c .before .turn-to .ensures in
-    goes-at 24 (s .pre .there) refl
+    let put = d .before .before .before .before .put-row .ensures in
+    let turn = d .turn-to .ensures in
+    let cell = ap (λ (q : Row). withCell (turnWritten (q .level)) quiet) (r .row-at .ensures) in
+    goes-at 24 (s .pre .there) (c .turn-written .ensures ∙ cell)
     (record {
       rows-are =
           turn .rows-are
           ∙ ap (turned (r .row-at .result .level) (s .args .p)) (put .rows-are)
           ∙ put-pushed (s .args .cells .now) (s .args .p) _ _ (r .row-at .ensures) _ (s .pre .there) competing
-          (c .before .before .before .before .before .before .pushed .ensures);
+          (d .before .before .before .before .before .pushed .ensures);
       size-is = turn .size-is ∙ put .size-is;
     })
 
@@ -65,5 +72,6 @@ push-spec =
     put-row-requires
     cast-turn-to
     turn-to-requires
+    turn-written-requires
     same-length
     returns)

@@ -1,5 +1,6 @@
 -- `moving::come` meets its contract. Assumes nothing.
 use mathlib.Core.Path.{sym}
+use Rattle.machine.specs.Shared.{cellAt}
 use Rattle.cells.specs.View.{rowsOf}
 use Rattle.steps.proofs.MoveLaws.{becomes-as, moved-come}
 use borrow.Author.Needs.{needs}
@@ -16,6 +17,7 @@ same-length : tie.Need-same-length
 same-length c = search needs
 
 returns : tie.Need-returns
+unfolding cellAt
 returns c =
     let a = c .before .before .before .before .args in
     record {

@@ -1,8 +1,9 @@
 -- `moving::look` meets its contract. Assumes nothing.
 use Prim.Native.Nat.{ℕ}
-use mathlib.Core.Path.{refl, sym, ap, _∙_}
+use mathlib.Core.Path.{sym, ap, _∙_}
 use lib.ListN.{set}
 use Rattle.machine.specs.Tables.{row}
+use Rattle.machine.specs.Shared.{cellAt}
 use Rattle.machine.specs.Steps.{looked}
 use Rattle.machine.specs.declared.Row.{Row}
 use Rattle.cells.specs.View.{rowsOf}
@@ -23,22 +24,27 @@ looked-requires c κs = search needs
 put-row-requires : tie.Need-put-row-requires
 put-row-requires c κs = search needs
 
+act-read-requires : tie.Need-act-read-requires
+act-read-requires c κs = search needs
+
 same-length : tie.Need-same-length
 same-length c = search needs
 
 returns : tie.Need-returns
+unfolding cellAt
 returns c =
-    let own = c .before .before .before .before .before .before .row-at in
-    let s = c .before .before .before .before .before .before .before .before in
+    let put = c .before .before in
+    let own = put .before .before .before .before .before .row-at in
+    let s = put .before .before .before .before .before .before .before in
     let t = rowsOf (s .args .cells .now) in
     let q = s .args .q in
-    let act = ap (λ (r : Row). r .act) (c .before .before .before .before .row-at2 .ensures) in
+    let act = ap (λ (r : Row). r .act) (put .before .before .before .row-at2 .ensures) in
     record {
-      told-is = refl;
+      told-is = c .act-read .ensures;
       becomes =
-          becomes-as (c .before .put-row .ensures)
+          becomes-as (put .put-row .ensures)
           (ap (set t (s .args .p))
-          (c .before .before .looked .ensures
+          (put .before .looked .ensures
           ∙ ap (λ (v : ℕ). looked q v (own .result)) act
           ∙ ap (looked q (row t q .act)) (own .ensures))
           ∙ sym (moved-look t (s .args .p) q));
@@ -52,5 +58,6 @@ look-spec =
     row-at-requires-2
     looked-requires
     put-row-requires
+    act-read-requires
     same-length
     returns)

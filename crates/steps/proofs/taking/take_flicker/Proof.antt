@@ -1,6 +1,7 @@
 -- `taking::take_flicker` meets its contract. Assumes nothing.
 use borrow.Author.Needs.{needs}
-use Rattle.steps.proofs.TakeLaws.{takes-refused, takes-moved}
+use Rattle.machine.specs.Words.{FLICKER}
+use Rattle.steps.proofs.TakeLaws.{may-move, takes-refused, takes-moved}
 use Rattle.steps.proofs.taking.take_flicker.Statement.{statement}
 use Rattle.steps.proofs.taking.take_flicker.Tie as tie
 
@@ -14,7 +15,10 @@ returns : tie.Need-returns
 returns c = takes-refused (c .before .refusal-at .ensures) (c .if1 .taken)
 
 flicker-requires : tie.Need-flicker-requires
-flicker-requires c κs = search needs
+flicker-requires c κs =
+    let e = c .before in
+    let s = e .before .before .before in
+    may-move FLICKER (s .args .a) (s .pre) (e .before .refusal-at .ensures) (e .if1 .left)
 
 same-length-2 : tie.Need-same-length-2
 same-length-2 c = search needs

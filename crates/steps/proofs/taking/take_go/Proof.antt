@@ -1,7 +1,8 @@
 -- `taking::take_go` meets its contract. Assumes nothing.
 use borrow.Author.Needs.{needs}
+use Rattle.machine.specs.Words.{GO}
 use Rattle.steps.proofs.ToldLaws.{go-moves}
-use Rattle.steps.proofs.TakeLaws.{may-go, takes-refused, takes-moved}
+use Rattle.steps.proofs.TakeLaws.{may-move, takes-refused, takes-moved}
 use Rattle.steps.proofs.taking.take_go.Statement.{statement}
 use Rattle.steps.proofs.taking.take_go.Tie as tie
 
@@ -18,7 +19,7 @@ go-requires : tie.Need-go-requires
 go-requires c κs =
     let e = c .before in
     let s = e .before .before .before in
-    may-go (s .args .a) (s .pre) (e .before .refusal-at .ensures) (e .if1 .left)
+    may-move GO (s .args .a) (s .pre) (e .before .refusal-at .ensures) (e .if1 .left)
 
 same-length-2 : tie.Need-same-length-2
 same-length-2 c = search needs

@@ -4,10 +4,11 @@ use mathlib.Core.Path.{_≡_, sym, ap, _∙_}
 use mathlib.Core.Bool.{true, false, false≢true}
 use mathlib.Core.List.{[], _∷_}
 use lib.ListN.{length}
-use Rattle.machine.specs.Text.{line, stopLine, wordLine}
+use Rattle.machine.specs.Text.{stopLine, wordLine}
 use Rattle.machine.specs.Steps.{answerOf}
 use Rattle.machine.specs.declared.Stepped.{Stepped}
 use Rattle.cells.specs.View.{rowsOf}
+use Rattle.text.specs.Appending.{takenLine}
 use Rattle.text.specs.Running.{takes, lineOf}
 use Rattle.text.proofs.AppendingLaws.{appended-as}
 use Rattle.text.proofs.RunLaws.{
@@ -20,6 +21,7 @@ use Rattle.text.proofs.RunLaws.{
   may-carry,
   carried-event,
   carried-count,
+  cell-is,
 }
 use borrow.Author.Needs.{needs}
 use Rattle.text.proofs.running.put_word.Statement.{statement}
@@ -71,26 +73,22 @@ carried-requires c κs =
 cast-process : tie.Need-cast-process
 cast-process c = search needs
 
-slice-aggregate-put-line : tie.Need-slice-aggregate-put-line
-slice-aggregate-put-line c = search needs
+slice-aggregate-put-taken : tie.Need-slice-aggregate-put-taken
+slice-aggregate-put-taken c = search needs
 
-slice-aggregate-put-line-2 : tie.Need-slice-aggregate-put-line-2
-slice-aggregate-put-line-2 c = search needs
-
-slice-aggregate-put-line-3 : tie.Need-slice-aggregate-put-line-3
-slice-aggregate-put-line-3 c = search needs
-
--- its five numbers are its line
-printed : (c : tie.After-carried)
-    → let l = c .before in
+-- its five numbers and its cell are its line
+printed : (c : tie.After-cell)
+    → let d = c .before in
+    let l = d .before in
     let step = stepped (l .before .before .before) in
     let first = step .before .before in
     let a = start step .args in
-    line [] (a .place ∷ first .before .before .process-of .result ∷ first .location-at .result
-    ∷ l .location-at2 .result ∷ c .carried .result ∷ [])
+    takenLine (a .place ∷ first .before .before .process-of .result ∷ first .location-at .result
+    ∷ l .location-at2 .result ∷ d .carried .result ∷ []) (l .before .before .before .told .given .0 .0 .cell)
     ≡ wordLine (rowsOf (a .cells .now)) (a .place) (a .word)
 printed c =
-    let l = c .before in
+    let d = c .before in
+    let l = d .before in
     let told = l .before .before .before in
     let step = stepped told in
     let first = step .before .before in
@@ -98,17 +96,18 @@ printed c =
     let a = s .args in
     let t = rowsOf (a .cells .now) in
     let next = step .advance .ensures .becomes .rows-are in
-    line-is t (rowsOf (step .advance .last .0)) (a .place) (a .word) _ _ _ _
+    line-is t (rowsOf (step .advance .last .0)) (a .place) (a .word) _ _ _ _ _
     (first .before .before .process-of .ensures)
     (first .location-at .ensures)
     next
     (l .location-at2 .ensures)
-    (carried-count t (a .word) _ _ (moved told) (s .pre .inside-is) (c .carried .ensures) next)
+    (carried-count t (a .word) _ _ (moved told) (s .pre .inside-is) (d .carried .ensures) next)
+    (cell-is t (a .word) _ _ (moved told) (s .pre .inside-is))
 
-put-line-requires : tie.Need-put-line-requires
-put-line-requires c κs =
-    let put = c .before .before .before .before in
-    let told = put .before .before .before .before in
+put-taken-requires : tie.Need-put-taken-requires
+put-taken-requires c κs =
+    let put = c .before .before in
+    let told = put .before .before .before .before .before in
     let s = start (stepped told) in
     let is = lineOf-taken (rowsOf (s .args .cells .now)) (s .args .place) (s .args .word) (taken told) in
     omega (arith, ap length (printed put), ap length is, s .pre .room)
@@ -155,8 +154,8 @@ same-length-2 c = search needs
 
 returns : tie.Need-returns
 returns c =
-    let put = c .before .before .before .before .before .before .before in
-    let told = put .before .before .before .before in
+    let put = c .before .before .before .before .before in
+    let told = put .before .before .before .before .before in
     let step = stepped told in
     let s = start step in
     let a = s .args in
@@ -165,8 +164,8 @@ returns c =
     record {
       becomes = step .advance .ensures .becomes;
       taken-is = sym (taken told);
-      carries = λ _. carried-event t (a .word) _ _ (moved told) (s .pre .inside-is) (put .carried .ensures);
-      appended = appended-as (printed put ∙ sym is) (c .before .before .put-line .ensures);
+      carries = λ _. carried-event t (a .word) _ _ (moved told) (s .pre .inside-is) (put .before .carried .ensures);
+      appended = appended-as (printed put ∙ sym is) (c .before .before .put-taken .ensures);
     }
 
 same-length-3 : tie.Need-same-length-3
@@ -196,10 +195,8 @@ put-word-spec =
     location-at-requires-2
     carried-requires
     cast-process
-    slice-aggregate-put-line
-    slice-aggregate-put-line-2
-    slice-aggregate-put-line-3
-    put-line-requires
+    slice-aggregate-put-taken
+    put-taken-requires
     enum-known-why
     put-stop-requires
     same-length

@@ -1,0 +1,96 @@
+-- The shared cell that a step uses, and when two steps are about one (MANUAL, "Shared cells"; document 004, section 3.2: act
+-- and turn are its shared variables, the others are private to their process).
+--
+--   noCell, actRead q, actWritten q, turnRead k, turnWritten k  ==  what a step can do to shared memory, once and whole.
+--   cellAt k p a r  ==   the cell that kind k of process p with argument a uses, where it is allowed at its row r.
+--   clash c d       <=>  c and d are one cell, and one of the two writes it: a conflict of two steps.
+--   own r           ==   a row but for the shared cells in it, act and turn, and for the history set ahead.
+--   butAhead t      ==   a table, ahead sets apart.
+--
+-- Assumes nothing.
+use Prim.Native.Nat.{ℕ}
+use mathlib.Core.Bool.{Bool, cond, _&&_, _||_, not}
+use mathlib.Core.List.{[], _∷_, map}
+use lib.Dec.{eqb, ltb}
+use Rattle.counting.specs.Sets.{size}
+use Rattle.machine.specs.Rows.{withAct, withAhead, withTurn}
+use Rattle.machine.specs.Tables.{Table, oneOf}
+use Rattle.machine.specs.Words.{FLICKER, GO, LOOK}
+use Rattle.machine.specs.declared.Row.{Row}
+use Rattle.machine.specs.declared.SharedCell.{SharedCell}
+
+-- ---- cells
+
+-- how a cell is used
+abbrev pub READ : ℕ
+READ = 1
+
+abbrev pub WRITTEN : ℕ
+WRITTEN = 2
+
+-- the two shared variables
+abbrev pub ACT : ℕ
+ACT = 1
+
+abbrev pub TURN : ℕ
+TURN = 2
+
+-- none; also what a refused word used
+abbrev pub noCell : SharedCell
+noCell = record { access = 0; variable = 0; index = 0 }
+
+-- act of process q
+abbrev pub actRead : ℕ → SharedCell
+actRead q = record { access = READ; variable = ACT; index = q }
+
+abbrev pub actWritten : ℕ → SharedCell
+actWritten q = record { access = WRITTEN; variable = ACT; index = q }
+
+-- turn[k]
+abbrev pub turnRead : ℕ → SharedCell
+turnRead k = record { access = READ; variable = TURN; index = k }
+
+abbrev pub turnWritten : ℕ → SharedCell
+turnWritten k = record { access = WRITTEN; variable = TURN; index = k }
+
+-- ---- the cell of a step
+
+-- GO at 23 asks for turn[level]: not where est has fewer members than level, nor where bb is 0
+abbrev pub asksTurn : Row → Bool
+asksTurn r = not (ltb (size (r .est)) (r .level)) && not (eqb (r .bb) 0)
+
+-- FLICKER and GO at 20 and 40 write act of p, at 24 turn[level]
+abbrev pub writtenAt : ℕ → Row → SharedCell
+writtenAt p r =
+    cond (oneOf (r .location) (20 ∷ 40 ∷ [])) (actWritten p)
+    (cond (eqb (r .location) 24) (turnWritten (r .level)) noCell)
+
+-- LOOK at a reads act of a; GO at 23 reads turn[level] where it asks for it, and the level is that before the step;
+-- everything else uses none
+unfoldable pub cellAt : ℕ → ℕ → ℕ → Row → SharedCell
+cellAt k p a r =
+    cond (eqb k LOOK) (actRead a)
+    (cond (eqb k FLICKER) (writtenAt p r)
+    (cond (eqb k GO) (cond (eqb (r .location) 23 && asksTurn r) (turnRead (r .level)) (writtenAt p r)) noCell))
+
+-- ---- two steps
+
+abbrev pub sameCell : SharedCell → SharedCell → Bool
+sameCell c d = eqb (c .variable) (d .variable) && eqb (c .index) (d .index)
+
+abbrev pub isWritten : SharedCell → Bool
+isWritten c = eqb (c .access) WRITTEN
+
+-- both touch one cell and at least one writes it
+abbrev pub clash : SharedCell → SharedCell → Bool
+clash c d = sameCell c d && (isWritten c || isWritten d)
+
+-- ---- what is not shared
+
+-- the private variables of a process: location, bb, level, est and lis
+abbrev pub own : Row → Row
+own r = withAct 0 (withAhead 0 (withTurn 0 r))
+
+-- the ahead sets are history, of which no step reads anything into another variable
+abbrev pub butAhead : Table → Table
+butAhead t = map (withAhead 0) t
