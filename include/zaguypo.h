@@ -95,7 +95,7 @@ struct zaguypo_tally {
 };
 
 /* The answer of a run: how many words were taken, the refusal or 0, and the cell of the last word taken, which is none where none
-   was. */
+   was. The struct ends in two bytes of padding: compare fields, not bytes. */
 struct zaguypo_ran {
     uint32_t taken, refusal;
     struct zaguypo_cell cell;

@@ -153,8 +153,8 @@ static void cancelled(void) {
     }
 }
 
-/* Words of process 1 of three, on level 2 where that goes, with turn[2] as given: what they use at each location, GO at
-   23 in its four cases. With an argument that is refused they use none; the run's cell is theirs also where a word of
+/* Words of process 1 of three, on level 2 where that goes, with turn[2] before and after: what they use at each location, GO
+   at 23 in its four cases. With an argument that is refused they use none; the run's cell is theirs also where a word of
    process 0 is refused after them. */
 static void cells(void) {
     const struct {
@@ -163,25 +163,27 @@ static void cells(void) {
         uint32_t word;
         struct zaguypo_cell cell;
         struct zaguypo_row after;
+        uint16_t turn_after;
     } each[15] = {
-        {{10, 1, 0, 2, 5, 5, 0, 0}, 0, 0x10010000, NO_CELL, {10, 1, 0, 2, 5, 5, 0, 0}},
-        {{20, 0, 0, 2, 5, 5, 0, 0}, 0, 0x30010001, act_written(1), {20, 1, 0, 2, 5, 5, 0, 0}},
-        {{20, 0, 0, 0, 0, 5, 0, 0}, 0, 0x40010000, act_written(1), {21, 1, 0, 2, 5, 5, 0, 0}},
-        {{21, 1, 0, 2, 5, 0, 0, 0}, 0, 0x40010000, NO_CELL, {22, 1, 0, 2, 5, 5, 0, 0}},
-        {{22, 1, 0, 2, 5, 5, 0, 0}, 0, 0x50010002, act_read(2), {22, 1, 0, 2, 1, 1, 0, 0}},
-        {{22, 1, 0, 2, 5, 0, 0, 0}, 0, 0x40010000, NO_CELL, {23, 1, 0, 2, 5, 0, 0, 0}},
-        {{23, 1, 1, 2, 1, 0, 0, 0}, 0, 0x40010000, NO_CELL, {21, 1, 0, 1, 1, 0, 0, 0}},
-        {{23, 1, 0, 2, 5, 0, 0, 0}, 0, 0x40010000, NO_CELL, {24, 1, 0, 2, 5, 0, 0, 0}},
-        {{23, 1, 1, 2, 5, 0, 0, 0}, 0, 0x40010000, turn_read(2), {21, 1, 0, 1, 5, 0, 0, 0}},
-        {{23, 1, 1, 2, 5, 0, 0, 0}, 1, 0x40010000, turn_read(2), {21, 1, 1, 2, 5, 0, 0, 0}},
-        {{24, 1, 0, 2, 5, 0, 0, 0}, 0, 0x30010000, turn_written(2), {24, 1, 0, 2, 5, 0, 0, 0}},
-        {{24, 1, 0, 2, 1, 0, 0, 0}, 1, 0x40010000, turn_written(2), {21, 1, 1, 2, 5, 0, 0, 0}},
-        {{30, 1, 0, 0, 5, 0, 0, 0}, 0, 0x40010000, NO_CELL, {40, 1, 0, 0, 5, 0, 0, 0}},
-        {{40, 1, 0, 0, 5, 0, 0, 0}, 0, 0x30010000, act_written(1), {40, 0, 0, 0, 5, 0, 0, 0}},
-        {{40, 1, 0, 0, 5, 0, 0, 0}, 0, 0x40010000, act_written(1), {10, 0, 0, 0, 5, 0, 0, 0}}};
+        {{10, 1, 0, 2, 5, 5, 0, 0}, 0, 0x10010000, NO_CELL, {10, 1, 0, 2, 5, 5, 0, 0}, 0},
+        {{20, 0, 0, 2, 5, 5, 0, 0}, 0, 0x30010001, act_written(1), {20, 1, 0, 2, 5, 5, 0, 0}, 0},
+        {{20, 0, 0, 0, 0, 5, 0, 0}, 0, 0x40010000, act_written(1), {21, 1, 0, 2, 5, 5, 0, 0}, 0},
+        {{21, 1, 0, 2, 5, 0, 0, 0}, 0, 0x40010000, NO_CELL, {22, 1, 0, 2, 5, 5, 0, 0}, 0},
+        {{22, 1, 0, 2, 5, 5, 0, 0}, 0, 0x50010002, act_read(2), {22, 1, 0, 2, 1, 1, 0, 0}, 0},
+        {{22, 1, 0, 2, 5, 0, 0, 0}, 0, 0x40010000, NO_CELL, {23, 1, 0, 2, 5, 0, 0, 0}, 0},
+        {{23, 1, 1, 2, 1, 0, 0, 0}, 0, 0x40010000, NO_CELL, {21, 1, 0, 1, 1, 0, 0, 0}, 0},
+        {{23, 1, 0, 2, 5, 0, 0, 0}, 0, 0x40010000, NO_CELL, {24, 1, 0, 2, 5, 0, 0, 0}, 0},
+        {{23, 1, 1, 2, 5, 0, 0, 0}, 0, 0x40010000, turn_read(2), {21, 1, 0, 1, 5, 0, 0, 0}, 0},
+        {{23, 1, 1, 2, 5, 0, 0, 0}, 1, 0x40010000, turn_read(2), {21, 1, 1, 2, 5, 0, 0, 0}, 1},
+        {{24, 1, 0, 2, 5, 0, 0, 0}, 0, 0x30010002, turn_written(2), {24, 1, 0, 2, 5, 0, 0, 0}, 2},
+        {{24, 1, 0, 2, 1, 0, 0, 0}, 0, 0x40010000, turn_written(2), {21, 1, 1, 2, 5, 0, 0, 0}, 1},
+        {{30, 1, 0, 0, 5, 0, 0, 0}, 0, 0x40010000, NO_CELL, {40, 1, 0, 0, 5, 0, 0, 0}, 0},
+        {{40, 1, 0, 0, 5, 0, 0, 0}, 0, 0x30010000, act_written(1), {40, 0, 0, 0, 5, 0, 0, 0}, 0},
+        {{40, 1, 0, 0, 5, 0, 0, 0}, 0, 0x40010000, act_written(1), {10, 0, 0, 0, 5, 0, 0, 0}, 0}};
     for (int i = 0; i < 15; i++) {
         const struct zaguypo_row last = {10, 0, 0, 0, 0, 0, 0, each[i].turn};
-        const struct zaguypo_row table[3] = {IDLE, each[i].own, last}, after[3] = {IDLE, each[i].after, last};
+        const struct zaguypo_row last_after = {10, 0, 0, 0, 0, 0, 0, each[i].turn_after};
+        const struct zaguypo_row table[3] = {IDLE, each[i].own, last}, after[3] = {IDLE, each[i].after, last_after};
         const uint32_t words[2] = {each[i].word, 0x30000000};
         stepped(table, 3, words[0], 0, each[i].cell, after);
         stepped(table, 3, words[0] | 0xFF, 11, NO_CELL, table);

@@ -46,4 +46,6 @@ answer-to-c t w = by-test (eqb (refusalOf t w) accepted) refl where
   by-test : (c : Bool) → eqb (refusalOf t w) accepted ≡ c
       → toC (cond c (Moved (toldOf t w)) (Refused (refusalOf t w))) ≡ stepAnswerOf t w
   by-test true e = ap (λ (k : ℕ). record { refusal = k; cell = cellOf t w }) (sym (eqb-true _ _ e))
-  by-test false e = ap (λ (d : SharedCell). record { refusal = refusalOf t w; cell = d }) (sym (refused-cell t w (eqb-false _ _ e)))
+  by-test false e =
+      let none = refused-cell t w (eqb-false _ _ e) in
+      ap (λ (d : SharedCell). record { refusal = refusalOf t w; cell = d }) (sym none)

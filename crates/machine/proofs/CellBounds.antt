@@ -47,14 +47,14 @@ module _ (t : Table) (w : ℕ) (z : refusalOf t w ≡ 0) where
   abbrev p : ℕ
   p = processOf w
 
-  abbrev own : SoundRow (length t) p (row t p)
-  own = sound-row t (accepted-table t w z) p (accepted-says t w z .process-in)
+  abbrev there : SoundRow (length t) p (row t p)
+  there = sound-row t (accepted-table t w z) p (accepted-says t w z .process-in)
 
   -- a LOOK is at a member of lis
   looked-low : kindOf w ≡ LOOK → argumentOf w < length t
   unfolding argumentFits
   looked-low e =
-      member-below (row t p .lis) (length t) (argumentOf w) (own .lis-low)
+      member-below (row t p .lis) (length t) (argumentOf w) (there .lis-low)
       (subst (λ (k : ℕ). argumentFits (length t) k (row t p) (argumentOf w) ≡ true) e
       (accepted-says t w z .argument-fits))
 
@@ -62,4 +62,4 @@ module _ (t : Table) (w : ℕ) (z : refusalOf t w ≡ 0) where
   cell-index =
       subst (Low (length t)) (sym (accepted-cell t w z))
       (at-low (length t) (kindOf w) p (argumentOf w) (row t p)
-      (accepted-says t w z .process-in) (own .level-low) looked-low)
+      (accepted-says t w z .process-in) (there .level-low) looked-low)

@@ -1,5 +1,6 @@
 -- Shared cells, evaluated: words that clash, whose order matters; words that do not, whose order does not matter, ahead
--- sets apart; the cell of every kind at every location where it is allowed; and refused words, which have none.
+-- sets apart; the cell of every kind at every location where it is allowed; refused words, which have none; the cell of
+-- a run, and cells as they are printed.
 --
 -- Each pair has the cells of both words, then whether they clash, then what the two orders lead to. Assumes nothing.
 use Prim.Native.Nat.{ℕ}
@@ -11,6 +12,8 @@ use Rattle.machine.specs.Rows.{idle, withLocation, withAct, withBb, with
 use Rattle.machine.specs.Tables.{Table, row}
 use Rattle.machine.specs.Shared.{noCell, actRead, actWritten, turnRead, turnWritten, clash, butAhead}
 use Rattle.machine.specs.Steps.{refusalOf, afterWord, cellOf}
+use Rattle.machine.specs.Runs.{runOf}
+use Rattle.machine.specs.Text.{digits, cellText}
 use Rattle.machine.specs.declared.Row.{Row}
 use Rattle.machine.specs.declared.SharedCell.{SharedCell}
 use Rattle.machine.proofs.Benchmarks.{evaluated}
@@ -145,3 +148,23 @@ pub refused-has-none :
     × (cellOf (beside 3 (at 20)) 0x30010001 ≡ noCell)
 unfolding evaluated cellOf
 refused-has-none = (refl, refl, refl, refl)
+
+-- ---- runs and lines
+
+-- FLICKER of turn[1], the last word; before a STAY at 24, which stops the run; after such a STAY; before a STAY of
+-- process 0, which is taken and uses none; and no word
+pub run-cells :
+    (runOf sharing (0x30020002 ∷ []) .cell ≡ turnWritten 1)
+    × (runOf sharing (0x30020002 ∷ 0x10020000 ∷ []) .cell ≡ turnWritten 1)
+    × (runOf sharing (0x10020000 ∷ 0x30020002 ∷ []) .cell ≡ noCell)
+    × (runOf sharing (0x30020002 ∷ 0x10000000 ∷ []) .cell ≡ noCell)
+    × (runOf sharing [] .cell ≡ noCell)
+unfolding evaluated
+run-cells = (refl, refl, refl, refl, refl)
+
+-- `-`, `ra3`, `wa0`, `rt1`, `wt15`
+pub cell-texts :
+    map cellText (noCell ∷ actRead 3 ∷ actWritten 0 ∷ turnRead 1 ∷ turnWritten 15 ∷ [])
+    ≡ (45 ∷ []) ∷ (114 ∷ 97 ∷ 51 ∷ []) ∷ (119 ∷ 97 ∷ 48 ∷ []) ∷ (114 ∷ 116 ∷ 49 ∷ []) ∷ (119 ∷ 116 ∷ 49 ∷ 53 ∷ []) ∷ []
+unfolding digits
+cell-texts = refl

@@ -103,13 +103,13 @@ only-cell t u w h z a =
 -- ---- two words
 
 -- accepted words of different processes that do not clash
-record Apart (t : Table) (v w : ℕ) : Type 0 where
+record Exchangeable (t : Table) (v w : ℕ) : Type 0 where
   first : refusalOf t v ≡ 0
   second : refusalOf t w ≡ 0
   processes : processOf v ≢ processOf w
   free : clash (cellOf t v) (cellOf t w) ≡ false
 
-swapped : {t : Table} {v w : ℕ} → Apart t v w → Apart t w v
+swapped : {t : Table} {v w : ℕ} → Exchangeable t v w → Exchangeable t w v
 swapped {t} {v} {w} h =
     record {
       first = h .second;
@@ -119,7 +119,7 @@ swapped {t} {v} {w} h =
     }
 
 -- w after v does what it does without v
-after : {t : Table} {v w : ℕ} → Apart t v w → Same t (afterWord t v) (processOf w) w
+after : {t : Table} {v w : ℕ} → Exchangeable t v w → Same t (afterWord t v) (processOf w) w
 after {t} {v} {w} h =
     let u = afterWord t v in
     let free = h .free in
@@ -156,7 +156,7 @@ owns t w q {o = o} e = go (ℕ-discrete q (processOf w))
 
 -- both orders, row by row
 rows-same : {t : Table} {v w : ℕ}
-    → Apart t v w
+    → Exchangeable t v w
     → (q : ℕ)
     → withAhead 0 (row (afterWord (afterWord t v) w) q) ≡ withAhead 0 (row (afterWord (afterWord t w) v) q)
 rows-same {t} {v} {w} h q =
@@ -196,7 +196,7 @@ same-but-ahead t u n h =
 -- Two words of different processes that a table accepts, whose cells are not one cell that one of the two writes: each
 -- is accepted after the other, and both orders lead to the same table, ahead sets apart. Nothing else is assumed; an
 -- accepted word was given to a sound table. Ahead sets may differ: of two that enter, the later has the other ahead.
--- Excludes: a clash of two writes alone; a FLICKER that tells no cell; a refusal, or a LOOK, that depends on a process
+-- Excludes: an exception for two writes alone; a FLICKER that tells no cell; a refusal, or a LOOK, that depends on a process
 -- of which it tells nothing.
 -- Not empty, and not so where they clash: CellExamples.antt.
 pub exchange : (t : Table) (v w : ℕ)
@@ -208,7 +208,7 @@ pub exchange : (t : Table) (v w : ℕ)
     × (refusalOf (afterWord t w) v ≡ 0)
     × (butAhead (afterWord (afterWord t v) w) ≡ butAhead (afterWord (afterWord t w) v))
 exchange t v w x y ne free =
-    let h : Apart t v w = record { first = x; second = y; processes = ne; free = free } in (
+    let h : Exchangeable t v w = record { first = x; second = y; processes = ne; free = free } in (
       after h .accepted-too,
       after (swapped h) .accepted-too,
       same-but-ahead (afterWord (afterWord t v) w) (afterWord (afterWord t w) v) (simp word-keeps-length) (rows-same h),
@@ -220,5 +220,5 @@ pub exchange-cells : (t : Table) (v w : ℕ)
     → refusalOf t v ≡ 0 → refusalOf t w ≡ 0 → processOf v ≢ processOf w → clash (cellOf t v) (cellOf t w) ≡ false
     → (cellOf (afterWord t v) w ≡ cellOf t w) × (cellOf (afterWord t w) v ≡ cellOf t v)
 exchange-cells t v w x y ne free =
-    let h : Apart t v w = record { first = x; second = y; processes = ne; free = free } in
+    let h : Exchangeable t v w = record { first = x; second = y; processes = ne; free = free } in
     (after h .cell-same, after (swapped h) .cell-same)

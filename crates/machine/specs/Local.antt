@@ -1,6 +1,6 @@
 -- What a step can tell of a table: its process's private variables and one shared cell (MANUAL, "Shared cells").
 --
---   Alike t u w       <=>  word w cannot tell table u from t, which accepts it.
+--   Alike t u w       <=>  word w cannot tell table u from table t, where t accepts it.
 --   SameEffect t u w  <=>  w does the same to both.
 --
 -- Assumes nothing.
@@ -21,8 +21,8 @@ pub record Alike (t u : Table) (w : ℕ) : Type 0 where
   pub act-same : (q : ℕ) → cellOf t w ≡ actRead q → row u q .act ≡ row t q .act
   pub turn-same : (k : ℕ) → cellOf t w ≡ turnRead k → row u k .turn ≡ row t k .turn
 
--- u accepts w too, it uses the same cell, leaves its process with the same private variables, and writes the same value,
--- if it writes one
+-- u accepts w too, it uses the same cell, leaves its process with the same private variables, and writes the same
+-- value, if it writes one
 pub record SameEffect (t u : Table) (w : ℕ) : Type 0 where
   pub accepted-too : refusalOf u w ≡ accepted
   pub cell-same : cellOf u w ≡ cellOf t w

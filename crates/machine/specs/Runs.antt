@@ -4,8 +4,8 @@
 --   counted e h      ==  the tally h after an accepted word with event e.
 --   carried e n      ==  the number at 30 after such a word, from the number n before it.
 --   carriedOver t n ws  ==  that number after words given one by one to table t, where it is n.
---   runFrom t h c ws ==  the words in order from table t with tally h, up to the first refused one; c is the shared cell
---                        of the word before them.
+--   runFrom t h c ws ==  the words in order from table t with tally h, up to the first refused one; c is the shared
+--                        cell of the word before them.
 --   runOf t ws       ==  a run: 6, 7, then 12 for more than 8,192 words, before any is taken.
 --
 -- How many words a run took is what its tally says, which is zero at the start. Assumes nothing.
@@ -66,7 +66,8 @@ ended t h c n = record { table = t; tally = h; cell = c; refusal = n }
 abbrev pub untaken : Table → ℕ → Outcome
 untaken t n = ended t zeroTally noCell n
 
--- what a run answers: how many words were taken, the refusal or 0, and the cell of the last word taken, none if none was
+-- what a run answers: how many words were taken, the refusal or 0, and the cell of the last word taken, none if it took
+-- none
 abbrev pub ranOf : Outcome → Ran
 ranOf o = record { taken = o .tally .words; refusal = o .refusal; cell = o .cell }
 

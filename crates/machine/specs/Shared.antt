@@ -1,7 +1,7 @@
--- The shared cell that a step uses, and when two steps are about one (MANUAL, "Shared cells"; document 004, section 3.2: act
--- and turn are its shared variables, the others are private to their process).
+-- The shared cell that a step uses, and when two steps clash (MANUAL, "Shared cells"; the paper, section 3.2: act and
+-- turn are its shared variables, all others are private to their process, and those of section 3.4 are history).
 --
---   noCell, actRead q, actWritten q, turnRead k, turnWritten k  ==  what a step can do to shared memory, once and whole.
+--   noCell, actRead q, actWritten q, turnRead k, turnWritten k  ==  none; act of q or turn[k], read or written.
 --   cellAt k p a r  ==   the cell that kind k of process p with argument a uses, where it is allowed at its row r.
 --   clash c d       <=>  c and d are one cell, and one of the two writes it: a conflict of two steps.
 --   own r           ==   a row but for the shared cells in it, act and turn, and for the history set ahead.
@@ -35,7 +35,7 @@ ACT = 1
 abbrev pub TURN : ℕ
 TURN = 2
 
--- none; also what a refused word used
+-- none; a refused word uses none
 abbrev pub noCell : SharedCell
 noCell = record { access = 0; variable = 0; index = 0 }
 
@@ -75,13 +75,14 @@ cellAt k p a r =
 
 -- ---- two steps
 
+-- act of one process, or turn of one level
 abbrev pub sameCell : SharedCell → SharedCell → Bool
 sameCell c d = eqb (c .variable) (d .variable) && eqb (c .index) (d .index)
 
 abbrev pub isWritten : SharedCell → Bool
 isWritten c = eqb (c .access) WRITTEN
 
--- both touch one cell and at least one writes it
+-- both touch one cell and at least one writes it; where one of them uses none, the other's variable is another
 abbrev pub clash : SharedCell → SharedCell → Bool
 clash c d = sameCell c d && (isWritten c || isWritten d)
 

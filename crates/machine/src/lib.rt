@@ -214,48 +214,43 @@ impl Told {
         }
     }
 
+    // There is nothing to tell but the shared cell.
+    fn used(access: u16, variable: u16, index: u16) -> Told
+        ensures { λ s. ⌜ s ≡ withCell (record { access = access; variable = variable; index = index }) quiet ⌝ }
+    {
+        Told::QUIET.with_cell(SharedCell {
+            access: access,
+            variable: variable,
+            index: index,
+        })
+    }
+
     // The act of process q was read.
     pub fn act_read(q: u16) -> Told
         ensures { λ s. ⌜ s ≡ withCell (actRead q) quiet ⌝ }
     {
-        Told::QUIET.with_cell(SharedCell {
-            access: READ,
-            variable: ACT,
-            index: q,
-        })
+        Told::used(READ, ACT, q)
     }
 
     // The act of process q was written.
     pub fn act_written(q: u16) -> Told
         ensures { λ s. ⌜ s ≡ withCell (actWritten q) quiet ⌝ }
     {
-        Told::QUIET.with_cell(SharedCell {
-            access: WRITTEN,
-            variable: ACT,
-            index: q,
-        })
+        Told::used(WRITTEN, ACT, q)
     }
 
     // The cell turn[k] was read.
     pub fn turn_read(k: u16) -> Told
         ensures { λ s. ⌜ s ≡ withCell (turnRead k) quiet ⌝ }
     {
-        Told::QUIET.with_cell(SharedCell {
-            access: READ,
-            variable: TURN,
-            index: k,
-        })
+        Told::used(READ, TURN, k)
     }
 
     // The cell turn[k] was written.
     pub fn turn_written(k: u16) -> Told
         ensures { λ s. ⌜ s ≡ withCell (turnWritten k) quiet ⌝ }
     {
-        Told::QUIET.with_cell(SharedCell {
-            access: WRITTEN,
-            variable: TURN,
-            index: k,
-        })
+        Told::used(WRITTEN, TURN, k)
     }
 }
 

@@ -24,22 +24,23 @@ use Rattle.steps.proofs.EventLaws.{event-told}
 
 -- ---- GO of cells
 
-abbrev own : List (List ℕ) → ℕ → Row
-own x p = row (rowsOf x) p
+-- the row of p
+abbrev at : List (List ℕ) → ℕ → Row
+at x p = row (rowsOf x) p
 
 module _ {x y : List (List ℕ)} {p : ℕ} where
   -- at location l, where the row tells s
-  pub goes-at : (l : ℕ) {s : Told} → own x p .location ≡ l → s ≡ kindTold GO p 0 (withLocation l (own x p))
+  pub goes-at : (l : ℕ) {s : Told} → at x p .location ≡ l → s ≡ kindTold GO p 0 (withLocation l (at x p))
       → Becomes x (gone (rowsOf x) p) y
       → Goes x p y s
   goes-at l there told b =
       record {
-        told-is = told ∙ ap (λ (v : ℕ). kindTold GO p 0 (withLocation v (own x p))) (sym there);
+        told-is = told ∙ ap (λ (v : ℕ). kindTold GO p 0 (withLocation v (at x p))) (sym there);
         becomes = becomes-as b (sym (moved-go (rowsOf x) p 0));
       }
 
   -- at 21, by whether the level is 0
-  passes : (b : Bool) {s : Told} → own x p .location ≡ 21 → eqb (own x p .level) 0 ≡ b
+  passes : (b : Bool) {s : Told} → at x p .location ≡ 21 → eqb (at x p .level) 0 ≡ b
       → s ≡ withEvent (cond b Event.Arrival Event.Quiet) quiet
       → Becomes x (gone (rowsOf x) p) y
       → Goes x p y s
@@ -47,42 +48,42 @@ module _ {x y : List (List ℕ)} {p : ℕ} where
   passes b there level told =
       goes-at 21 there (told ∙ ap (λ (c : Bool). withEvent (cond c Event.Arrival Event.Quiet) quiet) (sym level))
 
-  pub goes-above : own x p .location ≡ 21 → (own x p .level ≡ 0 → ⊥)
+  pub goes-above : at x p .location ≡ 21 → (at x p .level ≡ 0 → ⊥)
       → Becomes x (gone (rowsOf x) p) y
       → Goes x p y quiet
-  goes-above there ne = passes false there (ne-eqb (own x p .level) 0 ne) refl
+  goes-above there ne = passes false there (ne-eqb (at x p .level) 0 ne) refl
 
-  pub goes-arrives : {s : Told} → s ≡ withEvent Event.Arrival quiet → own x p .location ≡ 21 → own x p .level ≡ 0
+  pub goes-arrives : {s : Told} → s ≡ withEvent Event.Arrival quiet → at x p .location ≡ 21 → at x p .level ≡ 0
       → Becomes x (gone (rowsOf x) p) y
       → Goes x p y s
-  goes-arrives told there z = passes true there (eq-eqb (own x p .level) 0 z) told
+  goes-arrives told there z = passes true there (eq-eqb (at x p .level) 0 z) told
 
   -- at 23, by whether it asks for the turn cell
-  pub goes-asking : (b : Bool) {s : Told} → own x p .location ≡ 23 → asksTurn (own x p) ≡ b
-      → s ≡ withCell (cond b (turnRead (own x p .level)) noCell) quiet
+  pub goes-asking : (b : Bool) {s : Told} → at x p .location ≡ 23 → asksTurn (at x p) ≡ b
+      → s ≡ withCell (cond b (turnRead (at x p .level)) noCell) quiet
       → Becomes x (gone (rowsOf x) p) y
       → Goes x p y s
   unfolding cellAt
   goes-asking b there asks told =
       goes-at 23 there
-      (told ∙ ap (λ (c : Bool). withCell (cond c (turnRead (own x p .level)) noCell) quiet) (sym asks))
+      (told ∙ ap (λ (c : Bool). withCell (cond c (turnRead (at x p .level)) noCell) quiet) (sym asks))
 
 -- ---- FLICKER of cells
 
 module _ (x : List (List ℕ)) (p a : ℕ) where
-  pub flicker-turn : own x p .location ≡ 24
-      → withCell (turnWritten (own x p .level)) quiet ≡ kindTold FLICKER p a (own x p)
+  pub flicker-turn : at x p .location ≡ 24
+      → withCell (turnWritten (at x p .level)) quiet ≡ kindTold FLICKER p a (at x p)
   unfolding cellAt
-  flicker-turn e = ap (λ (v : ℕ). kindTold FLICKER p a (withLocation v (own x p))) (sym e)
+  flicker-turn e = ap (λ (v : ℕ). kindTold FLICKER p a (withLocation v (at x p))) (sym e)
 
   -- elsewhere it is allowed at 20 and 40
   pub flicker-act : Free x FLICKER p
-      → (own x p .location ≡ 24 → ⊥)
-      → withCell (actWritten p) quiet ≡ kindTold FLICKER p a (own x p)
+      → (at x p .location ≡ 24 → ⊥)
+      → withCell (actWritten p) quiet ≡ kindTold FLICKER p a (at x p)
   unfolding cellAt allowed
   flicker-act f ne =
-      let tells : ℕ → Told = λ v. kindTold FLICKER p a (withLocation v (own x p)) in
-      by-one (own x p .location) (20 ∷ 40 ∷ 24 ∷ []) (
+      let tells : ℕ → Told = λ v. kindTold FLICKER p a (withLocation v (at x p)) in
+      by-one (at x p .location) (20 ∷ 40 ∷ 24 ∷ []) (
         (λ e. ap tells (sym e)),
         ((λ e. ap tells (sym e)), ((λ e. absurd (ne e)), tt)),
       )
@@ -92,7 +93,7 @@ module _ (x : List (List ℕ)) (p a : ℕ) where
 
 module _ {x y : List (List ℕ)} {p : ℕ} {s : Told} (a : ℕ) where
   any-argument : (j k : ℕ)
-      → kindTold j p 0 (own x p) ≡ kindTold j p a (own x p)
+      → kindTold j p 0 (at x p) ≡ kindTold j p a (at x p)
       → moved (rowsOf x) j p 0 ≡ moved (rowsOf x) j p a
       → k ≡ j
       → Moves x j p 0 y s

@@ -1,5 +1,5 @@
 -- `run_words` meets its contract. Assumes nothing.
-use Prim.Native.Nat.{ℕ, _+_, _≤_, _-_}
+use Prim.Native.Nat.{ℕ, _+_, _≤_, _<_, _-_}
 use mathlib.Core.Path.{_≡_, refl, ap, sym, subst, _∙_}
 use native.Mathlib.Omega.{arith}
 use lib.ListN.{length, getD, drop}
@@ -113,24 +113,25 @@ loop-again : tie.Need-loop-again Inv-loop μ-loop
 loop-again c =
     let d = c .before in
     let inside = d .before .before .before .before .before .before .before .before in
-    let l = inside .before in
-    let ws = l .before .before .args .words .now in
-    let at = l .loop in
+    let k = inside .before in
+    let ws = k .before .before .args .words .now in
+    let at = k .loop in
     let v = at .inv in
     let t = rowsOf (at .cells) in
     let w = getD ws (at .i) 0 in
     let s = d .before .before .before .before .before .advance .ensures in
     let m = answer-moved t w _ (sym (s .answer-is) ∙ d .before .before .told .given .1) in
     let h = d .counted .ensures ∙ ap (λ (o : Told). counted (o .event) (at .tally)) (m .1) in
-    let counts = count-on (at .i) (eventOf t w) (at .tally) (v .5) in (
+    let counts = count-on (at .i) (eventOf t w) (at .tally) (v .5) in
+    let cell = ap (λ (o : Told). o .cell) (m .1) in
+    let l : at .i < length ws = omega (arith, inside .loop-test) in (
       omega (arith, inside .loop-test),
       v .1,
       v .2,
       s .becomes .size-is ∙ v .3,
       ap tableRefusal (s .becomes .rows-are) ∙ word-keeps-sound t w (v .4),
       subst (λ (k : Tally). Counts (at .i + 1) k) (sym h) counts,
-      v .6 ∙ run-turn t _ (at .tally) _ (at .cell) _ ws (at .i) (omega (arith, inside .loop-test)) (m .0) (s .becomes .rows-are) h
-          (ap (λ (o : Told). o .cell) (m .1)),
+      v .6 ∙ run-turn t _ (at .tally) _ (at .cell) _ ws (at .i) l (m .0) (s .becomes .rows-are) h cell,
     )
 
 answer-requires-2 : tie.Need-answer-requires-2 Inv-loop μ-loop
@@ -146,7 +147,10 @@ returns-2 c =
     let ws = c .before .before .before .before .args .words .now in
     let x = c .before .before .before .before .args .cells .now in
     let o = v .6 ∙ run-past (rowsOf (at .cells)) (at .tally) (at .cell) ws (at .i) (omega arith) in
-    record { runs = runs-ended x (at .cells) _ (at .tally) (at .cell) 0 _ (v .3) o (c .answer2 .ensures); sound-after = v .4 }
+    record {
+      runs = runs-ended x (at .cells) _ (at .tally) (at .cell) 0 _ (v .3) o (c .answer2 .ensures);
+      sound-after = v .4;
+    }
 
 pub run-words-spec : {M : Type 1} → statement M
 run-words-spec =

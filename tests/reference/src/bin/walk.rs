@@ -1,9 +1,9 @@
 //! Walks through every table that two processes reach from a fresh one, and three from zeros: the linked library, or the
 //! reference where none is linked, beside the naive model.
 //!
-//!     walk                two lines for each walk, the first with the most memory that the program has had; then `walked: ..`
-//!     walk --control      the naive model alone, which lets two of three processes be at 30 if est is kept at GO 24; and with
-//!                         cells that are not told, so that the order of two words matters though none is seen to clash
+//!     walk            two lines for each walk, the first with the most memory that the program has had; then `walked: ..`
+//!     walk --control  the naive model alone, which lets two of three processes be at 30 if est is kept at GO 24; and
+//!                     with cells that are not told, so that the order of two words matters though none is seen to clash
 //!
 //! It exits with 1 after a difference, a table that breaks demand 3, two words without a clash whose order matters, or
 //! a figure other than the one expected.

@@ -4,6 +4,7 @@ use super::calls::{take_words, too_many};
 use super::cells::printed;
 use super::image::{header, read, write};
 use super::Fault;
+use crate::Ran;
 
 /// The words of an input, or 14.
 fn words_in(bytes: &[u8], fault: Fault) -> Result<Vec<u32>, u16> {
@@ -91,10 +92,13 @@ pub fn text(input: &[u8], fault: Fault) -> String {
         place += 1;
         used_before = moved.used;
     });
-    if ran.refusal == 0 {
-        out + &format!("done {}\n", ran.taken)
-    } else {
-        out + &format!("stop {} {}\n", ran.taken, ran.refusal)
+    out + &last_line(&ran)
+}
+
+fn last_line(ran: &Ran) -> String {
+    match ran.refusal {
+        0 => format!("done {}\n", ran.taken),
+        refusal => format!("stop {} {refusal}\n", ran.taken),
     }
 }
 

@@ -12,10 +12,9 @@ mod starts;
 pub use beside::{Beside, Finding};
 pub use control::control;
 pub use exchange::{exchange, Exchange, Taken};
-pub use search::{candidates, Figures, Found};
+pub use search::{candidates, walk, Figures, Found};
 
 use crate::naive::Fault;
-use search::walk;
 use starts::{every_fresh, zeros};
 
 /// A walk of an engine beside the naive model, and what it must count.

@@ -65,7 +65,7 @@ fn a_word_refused_after_the_other() {
 
 #[test]
 fn another_cell_after_the_other() {
-    // COME tells act of the other where that is at 20
+    // COME tells act of process 0 where somebody is at 20
     let tells_more = |rows: &mut [Row; 2], word: u32| {
         let cell = if rows.iter().any(|row| row.loc == 20) { Cell::act_read(0) } else { Cell::NONE };
         match (word >> 28, right(rows, word)) {
@@ -86,4 +86,33 @@ fn another_table_after_the_other() {
     assert!(!fails([looking, writing], right));
     // ahead sets alone are not looked at
     assert!(!fails([writing, writing], right));
+}
+
+/// A step that leaves a mark in a cell of the process that comes after the other.
+fn marks(cell: fn(&mut Row) -> &mut u16) -> impl Fn(&mut [Row; 2], u32) -> StepAnswer {
+    move |rows, word| {
+        let second = word >> 28 == 2 && rows.iter().any(|row| row.loc == 20);
+        let answer = right(rows, word);
+        if second && answer.refusal == 0 {
+            *cell(&mut rows[(word >> 16) as usize % 256]) = 7;
+        }
+        answer
+    }
+}
+
+#[test]
+fn every_cell_but_ahead_is_compared() {
+    let cells: [fn(&mut Row) -> &mut u16; 7] = [
+        |row| &mut row.loc,
+        |row| &mut row.act,
+        |row| &mut row.bb,
+        |row| &mut row.level,
+        |row| &mut row.est,
+        |row| &mut row.lis,
+        |row| &mut row.turn,
+    ];
+    for (place, cell) in cells.into_iter().enumerate() {
+        assert!(fails([Row::IDLE; 2], marks(cell)), "cell {place}");
+    }
+    assert!(!fails([Row::IDLE; 2], marks(|row| &mut row.ahead)));
 }

@@ -1,8 +1,8 @@
 //! The walks through every table: their figures, the faults that they see, and the control.
 
-use reference::compare::{Case, Naive, Reference};
+use reference::compare::{Answer, Case, Naive, Reference};
 use reference::naive::{self, Fault};
-use reference::walk::{control, Beside, Exchange, Figures, Finding, Found};
+use reference::walk::{control, walk, Beside, Exchange, Figures, Finding, Found};
 use reference::walk::{EVERY_OF_2, SHORTEST, UNTOLD, ZEROS_OF_2, ZEROS_OF_3};
 use reference::{Ran, Row, Tally};
 
@@ -202,6 +202,14 @@ fn a_fault_on_both_sides_breaks_demand_3() {
     }
 }
 
+/// They agree that a table is not sound, whose figures of 0 would meet demand 3.
+#[test]
+fn an_unsound_table_breaks_demand_3() {
+    let unsound = [Row { turn: 1, ..Row::IDLE }, Row::IDLE];
+    let found = walk(&[unsound], &Beside { engine: &Reference, fault: Fault::None });
+    assert!(matches!(&found, Err(Found { finding: Finding::Demand3(_), .. })), "{found:?}");
+}
+
 /// The same fault on both sides: they agree, most of them on a wrong cell, and what is left is that the order of two
 /// words matters which are not seen to clash.
 #[test]
@@ -223,9 +231,15 @@ fn a_fault_on_both_sides_breaks_the_exchange() {
     for fault in faults.into_iter().chain(UNTOLD) {
         let found = (ZEROS_OF_2.over)(&Beside { engine: &Naive(fault), fault }).expect_err("an order that matters");
         let Finding::Exchange(cases) = &found.finding else { panic!("{fault:?}: {found:?}") };
-        let [one, other] = cases.each_ref().map(|case| case.answer(&Naive(fault)));
+        let [one, other] = cases.each_ref().map(|case| led_to(case, fault));
         assert_ne!(one, other, "{fault:?}");
     }
+}
+
+/// The refusal of a step, and the rows that it leads to, ahead sets apart.
+fn led_to(case: &Case, fault: Fault) -> (u16, Vec<Row>) {
+    let Answer::Step { stepped, rows } = case.answer(&Naive(fault)) else { panic!("{case}") };
+    (stepped.refusal, rows.inside.iter().map(|&row| Row { ahead: 0, ..row }).collect())
 }
 
 /// Where a cell is told that was not used, fewer words can be exchanged, and none wrongly.

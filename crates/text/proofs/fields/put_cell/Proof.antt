@@ -88,7 +88,8 @@ returns-2 c =
     let d = first .before .before .before .before in
     let s = d .before .before .before in
     let index = s .args .cell .index in
-    let letters = ap₂ (λ (a b : ℕ). a ∷ b ∷ decimal index) (first .before .letter .ensures) (second .before .letter2 .ensures) in
+    let letters =
+    ap₂ (λ (a b : ℕ). a ∷ b ∷ decimal index) (first .before .letter .ensures) (second .before .letter2 .ensures) in
     appended-as (letters ∙ sym (some d))
     (appended-then (omega (arith, s .pre)) (first .put-byte2 .ensures)
     (appended-then
