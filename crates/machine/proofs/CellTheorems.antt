@@ -196,8 +196,8 @@ same-but-ahead t u n h =
 -- Two words of different processes that a table accepts, whose cells are not one cell that one of the two writes: each
 -- is accepted after the other, and both orders lead to the same table, ahead sets apart. Nothing else is assumed; an
 -- accepted word was given to a sound table. Ahead sets may differ: of two that enter, the later has the other ahead.
--- Excludes: an exception for two writes alone; a FLICKER that tells no cell; a refusal, or a LOOK, that depends on a process
--- of which it tells nothing.
+-- Excludes: an exception for two writes alone; a FLICKER that tells no cell; a refusal, or a LOOK, that depends on a
+-- process of which it tells nothing.
 -- Not empty, and not so where they clash: CellExamples.antt.
 pub exchange : (t : Table) (v w : ℕ)
     → refusalOf t v ≡ 0

@@ -243,4 +243,10 @@ impl Fault {
         Fault::PrintAnswers0WhenShort,
         Fault::PrintNeedsOneByteMore,
     ];
+
+    /// Those of the cell that an accepted step tells, which stand together in ALL.
+    pub fn of_step_cells() -> impl Iterator<Item = Fault> {
+        let from_the_first = Fault::ALL.into_iter().skip_while(|&fault| fault != Fault::Go20UsesNone);
+        from_the_first.take_while(|&fault| fault != Fault::RefusedWordUsesCell)
+    }
 }

@@ -158,28 +158,11 @@ fn the_call_from_c_sees_wrong_moves() {
 /// A cell that is told wrongly is seen by the step, by the run and by the text, each by itself.
 #[test]
 fn step_run_and_text_see_wrong_cells() {
-    let cells = [
-        Fault::Go20UsesNone,
-        Fault::Go40UsesNone,
-        Fault::Go24UsesNone,
-        Fault::Go24Reads,
-        Fault::FlickerReads,
-        Fault::FlickerAt24UsesNone,
-        Fault::FlickerTurnOfValue,
-        Fault::LookReadsOwnAct,
-        Fault::Go23FirstCaseReads,
-        Fault::Go23To24Reads,
-        Fault::Go23ReadsLevelAfter,
-        Fault::Go23LastCaseUsesNone,
-        Fault::Go23UsesNone,
-        Fault::TurnOfProcess,
-        Fault::CancelWritesAct,
-    ];
-    for (fault, kind) in cells.iter().flat_map(|&fault| TELL_CELLS.map(|kind| (fault, kind))) {
+    for (fault, kind) in Fault::of_step_cells().flat_map(|fault| TELL_CELLS.map(|kind| (fault, kind))) {
         assert!(seen_by(kind, fault, 8_000).is_some(), "{fault:?} is not seen by {kind:?}");
     }
     // the call from C does not tell a cell
-    assert!(cells.iter().all(|&fault| seen_by(Kind::Call, fault, 200).is_none()));
+    assert!(Fault::of_step_cells().all(|fault| seen_by(Kind::Call, fault, 200).is_none()));
 }
 
 const TELL_CELLS: [Kind; 4] = [Kind::Step, Kind::Run, Kind::Print, Kind::Text];

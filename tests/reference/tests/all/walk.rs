@@ -6,8 +6,8 @@ use reference::walk::{control, walk, Beside, Exchange, Figures, Finding, Found};
 use reference::walk::{EVERY_OF_2, SHORTEST, UNTOLD, ZEROS_OF_2, ZEROS_OF_3};
 use reference::{Ran, Row, Tally};
 
-/// Seen by a walk of two processes from every fresh table.
-const SEEN: [Fault; 45] = [
+/// Seen by a walk of two processes from every fresh table, and so are those of a step's cell.
+const SEEN: [Fault; 30] = [
     Fault::Counts40With30,
     Fault::AheadClearedAtGo40,
     Fault::OwnRowStoreLostAtGo24,
@@ -38,21 +38,6 @@ const SEEN: [Fault; 45] = [
     Fault::StepRefusesKind6,
     // at level 1, an empty est and the turn of another both lead to level 0, bb 0 and 21: the cell tells them apart
     Fault::TurnBeforeSizeOfEst,
-    Fault::Go20UsesNone,
-    Fault::Go40UsesNone,
-    Fault::Go24UsesNone,
-    Fault::Go24Reads,
-    Fault::FlickerReads,
-    Fault::FlickerAt24UsesNone,
-    Fault::FlickerTurnOfValue,
-    Fault::LookReadsOwnAct,
-    Fault::Go23FirstCaseReads,
-    Fault::Go23To24Reads,
-    Fault::Go23ReadsLevelAfter,
-    Fault::Go23LastCaseUsesNone,
-    Fault::Go23UsesNone,
-    Fault::TurnOfProcess,
-    Fault::CancelWritesAct,
     Fault::RefusedWordUsesCell,
 ];
 
@@ -145,8 +130,9 @@ fn two_processes_from_zeros_and_from_every_fresh_table() {
 
 #[test]
 fn every_fault_is_in_one_list() {
+    let cells: Vec<Fault> = Fault::of_step_cells().collect();
     for fault in Fault::ALL {
-        let lists = [&SEEN[..], &SEEN_OF_3, &UNSEEN].iter().filter(|list| list.contains(&fault)).count();
+        let lists = [&SEEN[..], &cells, &SEEN_OF_3, &UNSEEN].iter().filter(|list| list.contains(&fault)).count();
         assert_eq!(lists, 1, "{fault:?}");
     }
 }
@@ -163,7 +149,7 @@ fn differs(found: Found<Finding>, fault: Fault) {
 
 #[test]
 fn faults_that_two_processes_show() {
-    for fault in SEEN {
+    for fault in SEEN.into_iter().chain(Fault::of_step_cells()) {
         let found = (EVERY_OF_2.over)(&Beside { engine: &Reference, fault });
         differs(found.expect_err(&format!("{fault:?} is seen")), fault);
     }
