@@ -6,4 +6,5 @@ pub mod LessLaws
 pub mod SetLaws
 pub mod SizeLaws
 pub mod BitLaws
+pub mod LowestLaws
 pub mod PlacingLaws

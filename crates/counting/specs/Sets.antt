@@ -5,10 +5,11 @@
 --   size s       ==   how many members s has; a set has members below 16 only.
 --   without s p  ==   the set s, less p.
 --   others n p   ==   all of n processes but p.
+--   lowest s     ==   the lowest member of s; 0 where s has none.
 --
 -- Assumes nothing.
-use Prim.Native.Nat.{ℕ, _*_, _/_, _%_, _^_}
-use mathlib.Core.Bool.{Bool, _&&_, not}
+use Prim.Native.Nat.{ℕ, zero, suc, _*_, _/_, _%_, _^_}
+use mathlib.Core.Bool.{Bool, cond, _&&_, not}
 use lib.Dec.{eqb}
 use Rattle.counting.specs.Sums.{bit, sum, count}
 
@@ -35,3 +36,14 @@ without s p = setOf (λ q. has s q && not (eqb q p)) 16
 unfoldable pub others : ℕ → ℕ → ℕ
 unfolding setOf
 others n p = setOf (λ q. not (eqb q p)) n
+
+-- the lowest member of s among q and the n - 1 numbers after it; 0 where s has none of them
+unfoldable pub lowestFrom : ℕ → ℕ → ℕ → ℕ
+unfolding has
+lowestFrom s q zero = 0
+lowestFrom s q (suc n) = cond (has s q) q (lowestFrom s (suc q) n)
+
+-- the lowest member of s
+unfoldable pub lowest : ℕ → ℕ
+unfolding lowestFrom
+lowest s = lowestFrom s 0 16

@@ -20,7 +20,7 @@ use Rattle.machine.specs.Census.{countRows}
 use Rattle.machine.specs.System.{Cp}
 use Rattle.machine.specs.declared.Row.{Row}
 use Rattle.machine.proofs.SoundRows.{sound-row, sound-few}
-use Rattle.exclusion.proofs.Frame.{Becomes, other-rows-keep, TurnsKept, TurnsKeptBut, competes-at}
+use Rattle.machine.proofs.Assignments.{Becomes, other-rows-keep, TurnsKept, TurnsKeptBut, competes-at}
 use Rattle.exclusion.proofs.Reaching.{Held, Reaches, Stops, reaches-competes, reaches-held}
 use Rattle.exclusion.proofs.Bounded.{Bounded, Stopper, countRows-mono, bounded-few, bounded-stop, bounded-leave}
 use Rattle.exclusion.proofs.Bounded.{stopper-kept, stopper-own, bounded-row}

@@ -19,7 +19,7 @@ use Rattle.counting.proofs.CountLaws.{count-mono, count-strict}
 use Rattle.machine.specs.Tables.{Table, row, competes}
 use Rattle.machine.specs.Census.{countRows, isHeld, held}
 use Rattle.machine.specs.declared.Row.{Row}
-use Rattle.exclusion.proofs.Frame.{Becomes, other-rows-keep, competes-within}
+use Rattle.machine.proofs.Assignments.{Becomes, other-rows-keep, competes-within}
 use Rattle.exclusion.proofs.Reaching.{Held, Reaches, Stops, isReaching, held-of-isHeld, isHeld-of-held}
 use Rattle.exclusion.proofs.Reaching.{reaches-of-isReaching, isReaching-of-reaches, reaches-competes}
 use Rattle.exclusion.proofs.Reaching.{stops-reaches, stops-not-held}

@@ -23,9 +23,9 @@ use Rattle.machine.specs.System.Step.{rests, comes, flickers-20, enters, starts
 use Rattle.machine.specs.System.Step.{lowers, to-push, waits, skips, flickers-24, pushes, exits, flickers-40, leaves}
 use Rattle.machine.specs.System.Step.{cancels}
 use Rattle.machine.specs.declared.Row.{Row}
-use Rattle.exclusion.proofs.Frame.{bare, Becomes, TurnsKept, TurnsKeptBut, set-becomes, set-keeps-turns}
-use Rattle.exclusion.proofs.Frame.{turn-becomes, other-turns-keep, turn-set-becomes, turn-set-is}
-use Rattle.exclusion.proofs.Frame.{turn-set-others, map-becomes, competes-at}
+use Rattle.machine.proofs.Assignments.{bare, Becomes, TurnsKept, TurnsKeptBut, set-becomes, set-keeps-turns}
+use Rattle.machine.proofs.Assignments.{turn-becomes, other-turns-keep, turn-set-becomes, turn-set-is}
+use Rattle.machine.proofs.Assignments.{turn-set-others, map-becomes, competes-at}
 
 pub record Idles (r s : Row) : Type 0 where
   pub idle-before : competes r ≡ false

@@ -17,7 +17,7 @@ use Rattle.machine.specs.Census.{isCritical, isHeld, held, critical}
 use Rattle.machine.proofs.SoundRows.{sound-row}
 use Rattle.machine.proofs.Soundness.{step-keeps-sound}
 use Rattle.machine.proofs.Accepted.{always}
-use Rattle.exclusion.proofs.Frame.{competes-at, competes-within}
+use Rattle.machine.proofs.Assignments.{competes-at, competes-within}
 use Rattle.exclusion.proofs.Reaching.{isHeld-of-held}
 use Rattle.exclusion.proofs.Bounded.{countRows-mono, bounded-held}
 use Rattle.exclusion.proofs.Effects.{effect-of}

@@ -23,7 +23,7 @@ use Rattle.machine.specs.Rows.{idle, blank}
 use Rattle.machine.specs.Tables.{Table, row, sound, resting, allResting, fresh, freshTable, competes}
 use Rattle.machine.specs.declared.Row.{Row}
 use Rattle.machine.proofs.SoundRows.{SoundRow, sound-accepted, accepted-sound, rows-sound}
-use Rattle.exclusion.proofs.Frame.{competes-at}
+use Rattle.machine.proofs.Assignments.{competes-at}
 use Rattle.exclusion.proofs.Reaching.{isReaching, reaches-of-isReaching, reaches-competes}
 use Rattle.exclusion.proofs.Bounded.{Bounded, fails}
 use Rattle.exclusion.proofs.Invariant.{Invariant}

@@ -1,5 +1,4 @@
 -- Theorems.antt says what is proved; the others prove it, each from those above it.
-pub mod Frame
 pub mod Reaching
 pub mod Bounded
 pub mod Effects

@@ -9,12 +9,14 @@ pub mod Accepted
 pub mod SoundCells
 pub mod Soundness
 pub mod Frames
+pub mod Assignments
 pub mod Arcs
 pub mod WordLaws
 pub mod Choices
 pub mod OneWord
 pub mod SameOutcome
 pub mod Progress
+pub mod RoundLaws
 pub mod AnswerLaws
 pub mod RunLaws
 pub mod InputLaws

@@ -10,6 +10,7 @@ pub mod Local
 pub mod System
 pub mod Census
 pub mod Runs
+pub mod Rounds
 pub mod Images
 pub mod Bytes
 pub mod Inputs

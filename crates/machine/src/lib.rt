@@ -292,6 +292,15 @@ pub struct StepAnswer {
     pub cell: SharedCell,
 }
 
+// The answer of rounds: the refusal or 0, how many rounds were done, and whether some process is at 30
+// in the table as left: 1, or 0 where none is.
+#[repr(C)]
+pub struct RoundsAnswer {
+    pub refusal: u16,
+    pub rounds: u16,
+    pub occupied: u16,
+}
+
 // The answer of taking a word apart to C: the refusal or 0, and the parts; these are 0 where the word
 // is refused.
 #[repr(C)]

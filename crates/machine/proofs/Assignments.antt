@@ -1,4 +1,4 @@
--- What a step leaves alone: every row but that of p, the turn cells apart.
+-- What an assignment leaves alone: every row but that of p, the turn cells apart.
 --
 --   bare r             ==   row r without its turn cell, which is no variable of the row's process.
 --   Becomes t p g s u  <=>  from t to u the row of p becomes s, every other row r becomes g r, turn cells apart.

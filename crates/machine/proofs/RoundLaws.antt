@@ -1,0 +1,277 @@
+-- Laws of rounds: the word that a round gives is accepted, and what it does to the table.
+--
+--   Move t p u          <=>  the word that a round gives process p makes u of t: the steps of System.antt, but none that
+--                            comes, flickers or cancels, and a look at the lowest member of lis alone.
+--   move-step                a move is a step
+--   process-moves-on         every process of a sound table has a move, and the word of the round makes it
+--   round-word-accepted      so the word is accepted
+--   by-moves                 what each move makes of what held before it, a round makes
+--   round-sound, round-length, rounds-sound, rounds-length    rounds keep a table sound and its number of processes
+--   rounds-add               rounds after rounds
+--
+-- Assumes nothing.
+use Prim.Native.Nat.{ℕ, zero, suc, _+_, _-_, _^_, _≤_, _<_}
+use mathlib.Core.Path.{_≡_, refl, sym, ap, _∙_, subst}
+use mathlib.Core.Bool.{Bool, true, false, cond, _&&_, not, false≢true}
+use mathlib.Core.List.{map}
+use mathlib.Core.Logic.{_≢_}
+use native.Mathlib.Decide.{ℕ-discrete, decLt}
+use native.Mathlib.Nat.{lt-of-lt-of-le}
+use native.Mathlib.Omega.{arith}
+use lib.Dec.{eqb}
+use lib.ListN.{length}
+use lib.Pow.{pow-mono}
+use borrow.Author.Tests.{ne-eqb}
+use Rattle.counting.specs.Sets.{has, size, without, others, lowest}
+use Rattle.counting.proofs.SetLaws.{has-zero}
+use Rattle.counting.proofs.LowestLaws.{lowest-member}
+use Rattle.machine.specs.Rows.{withLocation, withAct, withBb, withLevel, withEst, withLis, withAhead}
+use Rattle.machine.specs.Tables.{Table, row, locations, tableRefusal}
+use Rattle.machine.specs.Words.{STAY, GO, LOOK, wordOf}
+use Rattle.machine.specs.Steps.{refusalOf, afterWord}
+use Rattle.machine.specs.Rounds.{roundWord, roundTo, round, rounds}
+use Rattle.machine.specs.System.{assigned, turnAssigned, Cp, Step, stepWord}
+use Rattle.machine.proofs.OneOfLaws.{by-one}
+use Rattle.machine.proofs.OneWord.{one-word}
+use Rattle.machine.proofs.SoundRows.{sound-row, sound-few, accepted-sound}
+use Rattle.machine.proofs.Soundness.{word-keeps-sound, word-keeps-length}
+
+pub data Move (t : Table) (p : ℕ) : Table → Type 0 where
+  rests : row t p .location ≡ 10 → Move t p t
+  enters :
+      row t p .location ≡ 20
+      → Move t p
+      (assigned t p
+      (λ r.
+      withLocation 21 (withEst (others (length t) p) (withLevel (length t - 1) (withAct 1 (withAhead (Cp t) r))))))
+  starts-pass :
+      row t p .location ≡ 21 → 0 < row t p .level
+      → Move t p (assigned t p (λ r. withLocation 22 (withLis (r .est) r)))
+  wins : row t p .location ≡ 21 → row t p .level ≡ 0 → Move t p (assigned t p (withLocation 30))
+  discards :
+      row t p .location ≡ 22 → has (row t p .lis) (lowest (row t p .lis)) ≡ true
+      → row t (lowest (row t p .lis)) .act ≡ 0
+      → Move t p
+      (assigned t p (λ r. withEst (without (r .est) (lowest (r .lis))) (withLis (without (r .lis) (lowest (r .lis))) r)))
+  keeps :
+      row t p .location ≡ 22 → has (row t p .lis) (lowest (row t p .lis)) ≡ true
+      → (row t (lowest (row t p .lis)) .act ≡ 0 → ⊥)
+      → Move t p (assigned t p (λ r. withLis (without (r .lis) (lowest (r .lis))) r))
+  ends-pass : row t p .location ≡ 22 → row t p .lis ≡ 0 → Move t p (assigned t p (withLocation 23))
+  lowers :
+      row t p .location ≡ 23 → size (row t p .est) < row t p .level
+      → Move t p (assigned t p (λ r. withLocation 21 (withBb 0 (withLevel (size (r .est)) r))))
+  to-push :
+      row t p .location ≡ 23 → row t p .level ≤ size (row t p .est) → row t p .bb ≡ 0
+      → Move t p (assigned t p (withLocation 24))
+  waits :
+      row t p .location ≡ 23 → row t p .level ≤ size (row t p .est) → (row t p .bb ≡ 0 → ⊥)
+      → (row t (row t p .level) .turn ≡ p → ⊥)
+      → Move t p (assigned t p (λ r. withLocation 21 (withBb 0 (withLevel (r .level - 1) r))))
+  skips :
+      row t p .location ≡ 23 → row t p .level ≤ size (row t p .est) → (row t p .bb ≡ 0 → ⊥)
+      → row t (row t p .level) .turn ≡ p
+      → Move t p (assigned t p (withLocation 21))
+  pushes :
+      row t p .location ≡ 24
+      → Move t p
+      (assigned (turnAssigned t (row t p .level) p) p
+      (λ r. withLocation 21 (withAhead (without (Cp t) p) (withEst (others (length t) p) (withBb 1 r)))))
+  exits :
+      row t p .location ≡ 30
+      → Move t p (assigned (map (λ r. withAhead (without (r .ahead) p) r) t) p (withLocation 40))
+  leaves : row t p .location ≡ 40 → Move t p (assigned t p (λ r. withLocation 10 (withAct 0 r)))
+
+-- ---- a move is a step, and its word is that of the round
+
+pub move-step : {t u : Table} {p : ℕ} → Move t p u → Step t p u
+move-step (rests e) = Step.rests e
+move-step (enters e) = Step.enters e
+move-step (starts-pass e h) = Step.starts-pass e h
+move-step (wins e h) = Step.wins e h
+move-step {t} {p = p} (discards e h a) = Step.discards (lowest (row t p .lis)) e h a
+move-step {t} {p = p} (keeps e h a) = Step.keeps (lowest (row t p .lis)) e h a
+move-step (ends-pass e h) = Step.ends-pass e h
+move-step (lowers e h) = Step.lowers e h
+move-step (to-push e h b) = Step.to-push e h b
+move-step (waits e h b v) = Step.waits e h b v
+move-step (skips e h b v) = Step.skips e h b v
+move-step (pushes e) = Step.pushes e
+move-step (exits e) = Step.exits e
+move-step (leaves e) = Step.leaves e
+
+module _ (t : Table) (p : ℕ) where
+  -- the word of the round where the location of p is known
+  word-at : (l : ℕ)
+      → row t p .location ≡ l
+      → roundWord t p
+      ≡ cond (eqb l 10) (wordOf STAY p 0)
+      (cond (eqb l 22 && not (eqb (row t p .lis) 0)) (wordOf LOOK p (lowest (row t p .lis))) (wordOf GO p 0))
+  unfolding roundWord
+  word-at l e = rw e
+
+  word-look : row t p .location ≡ 22
+      → has (row t p .lis) (lowest (row t p .lis)) ≡ true
+      → roundWord t p ≡ wordOf LOOK p (lowest (row t p .lis))
+  word-look e h =
+      let some : row t p .lis ≢ 0 =
+      λ i. false≢true (sym (has-zero _) ∙ ap (λ (s : ℕ). has s (lowest (row t p .lis))) (sym i) ∙ h) in
+      word-at 22 e
+      ∙ ap (λ (b : Bool). cond (not b) (wordOf LOOK p (lowest (row t p .lis))) (wordOf GO p 0)) (ne-eqb _ _ some)
+
+  move-word : {u : Table} (m : Move t p u) → roundWord t p ≡ stepWord p (move-step m)
+  unfolding move-step
+  move-word (rests e) = word-at 10 e
+  move-word (enters e) = word-at 20 e
+  move-word (starts-pass e h) = word-at 21 e
+  move-word (wins e h) = word-at 21 e
+  move-word (discards e h a) = word-look e h
+  move-word (keeps e h a) = word-look e h
+  move-word (ends-pass e h) =
+      word-at 22 e
+      ∙ ap (λ (s : ℕ). cond (not (eqb s 0)) (wordOf LOOK p (lowest (row t p .lis))) (wordOf GO p 0)) h
+  move-word (lowers e h) = word-at 23 e
+  move-word (to-push e h b) = word-at 23 e
+  move-word (waits e h b v) = word-at 23 e
+  move-word (skips e h b v) = word-at 23 e
+  move-word (pushes e) = word-at 24 e
+  move-word (exits e) = word-at 30 e
+  move-word (leaves e) = word-at 40 e
+
+-- ---- every process has a move
+
+module _ (t : Table) (p : ℕ) where
+  at-21 : row t p .location ≡ 21 → Dec (0 < row t p .level) → (u : Table) × Move t p u
+  at-21 e (yes h) = (_, starts-pass e h)
+  at-21 e (no nh) = (_, wins e (omega (arith, nh)))
+
+  at-22 : row t p .location ≡ 22 → row t p .lis < 2 ^ 16 → Dec (row t p .lis ≡ 0) → (u : Table) × Move t p u
+  at-22 e l (yes z) = (_, ends-pass e z)
+  at-22 e l (no nz) = look (ℕ-discrete (row t (lowest (row t p .lis)) .act) 0)
+    where
+      member : has (row t p .lis) (lowest (row t p .lis)) ≡ true
+      member = lowest-member (row t p .lis) l nz
+
+      look : Dec (row t (lowest (row t p .lis)) .act ≡ 0) → (u : Table) × Move t p u
+      look (yes a) = (_, discards e member a)
+      look (no a) = (_, keeps e member a)
+
+  at-23 : row t p .location ≡ 23
+      → Dec (size (row t p .est) < row t p .level)
+      → Dec (row t p .bb ≡ 0)
+      → Dec (row t (row t p .level) .turn ≡ p)
+      → (u : Table) × Move t p u
+  at-23 e (yes h) b v = (_, lowers e h)
+  at-23 e (no nh) (yes b) v = (_, to-push e (omega (arith, nh)) b)
+  at-23 e (no nh) (no b) (yes v) = (_, skips e (omega (arith, nh)) b v)
+  at-23 e (no nh) (no b) (no v) = (_, waits e (omega (arith, nh)) b v)
+
+  some-move : tableRefusal t ≡ 0 → p < length t → (u : Table) × Move t p u
+  some-move z l =
+      let s = sound-row t z p l in
+      let r = row t p in
+      by-one (r .location) locations (
+        (λ e. (_, rests e)),
+        (
+          (λ e. (_, enters e)),
+          (
+            (λ e. at-21 e (decLt 0 (r .level))),
+            (
+              (λ e. at-22 e (lt-of-lt-of-le (s .lis-low) (pow-mono (sound-few t z))) (ℕ-discrete (r .lis) 0)),
+              (
+                (λ e.
+                    at-23 e (decLt (size (r .est)) (r .level)) (ℕ-discrete (r .bb) 0)
+                    (ℕ-discrete (row t (r .level) .turn) p)),
+                ((λ e. (_, pushes e)), ((λ e. (_, exits e)), ((λ e. (_, leaves e)), tt))),
+              ),
+            ),
+          ),
+        ),
+      )
+      (s .location-known)
+
+  pub process-moves-on : tableRefusal t ≡ 0
+      → p < length t
+      → (refusalOf t (roundWord t p) ≡ 0) × Move t p (afterWord t (roundWord t p))
+  process-moves-on z l =
+      let m = some-move z l in
+      let o = one-word t (m .0) p (accepted-sound t z) l (move-step (m .1)) in
+      let w = move-word t p (m .1) in (
+        ap (refusalOf t) w ∙ o .1,
+        subst (Move t p) (sym (ap (afterWord t) w ∙ o .2)) (m .1),
+      )
+
+-- The word that a round gives is accepted, from every sound table.
+pub round-word-accepted : (t : Table) (p : ℕ) → tableRefusal t ≡ 0 → p < length t → refusalOf t (roundWord t p) ≡ 0
+round-word-accepted t p z l = process-moves-on t p z l .0
+
+-- ---- one round
+
+module _ (t : Table) where
+  pub roundTo-length : (p : ℕ) → length (roundTo t p) ≡ length t
+  unfolding roundTo
+  roundTo-length zero = refl
+  roundTo-length (suc p) = word-keeps-length (roundTo t p) (roundWord (roundTo t p) p) ∙ roundTo-length p
+
+  pub roundTo-sound : tableRefusal t ≡ 0 → (p : ℕ) → tableRefusal (roundTo t p) ≡ 0
+  unfolding roundTo
+  roundTo-sound z zero = z
+  roundTo-sound z (suc p) = word-keeps-sound (roundTo t p) (roundWord (roundTo t p) p) (roundTo-sound z p)
+
+  pub round-length : length (round t) ≡ length t
+  unfolding round
+  round-length = roundTo-length (length t)
+
+  pub round-sound : tableRefusal t ≡ 0 → tableRefusal (round t) ≡ 0
+  unfolding round
+  round-sound z = roundTo-sound z (length t)
+
+  -- P p v says what holds after the words of the processes below p
+  module _ (P : ℕ → Table → Type 0) (z : tableRefusal t ≡ 0)
+      (each : (p : ℕ) (v u : Table)
+      → p < length t
+      → length v ≡ length t
+      → tableRefusal v ≡ 0
+      → Move v p u
+      → P p v
+      → P (suc p) u)
+    where
+      to-moves : P 0 t → (p : ℕ) → p ≤ length t → P p (roundTo t p)
+      unfolding roundTo
+      to-moves h zero l = h
+      to-moves h (suc p) l =
+          let v = roundTo t p in
+          let in-v : p < length v = omega (arith, roundTo-length p) in
+          let m = process-moves-on v p (roundTo-sound z p) in-v .1 in
+          each p v _ (omega arith) (roundTo-length p) (roundTo-sound z p) m (to-moves h p (omega arith))
+
+      pub by-moves : P 0 t → P (length t) (round t)
+      unfolding round
+      by-moves h = to-moves h (length t) (omega arith)
+
+-- ---- rounds
+
+pub rounds-length : (r : ℕ) (t : Table) → length (rounds r t) ≡ length t
+unfolding rounds
+rounds-length zero t = refl
+rounds-length (suc r) t = rounds-length r (round t) ∙ round-length t
+
+pub rounds-sound : (r : ℕ) (t : Table) → tableRefusal t ≡ 0 → tableRefusal (rounds r t) ≡ 0
+unfolding rounds
+rounds-sound zero t z = z
+rounds-sound (suc r) t z = rounds-sound r (round t) (round-sound t z)
+
+pub rounds-zero : (t : Table) → rounds 0 t ≡ t
+unfolding rounds
+rounds-zero t = refl
+
+pub rounds-suc : (r : ℕ) (t : Table) → rounds (suc r) t ≡ rounds r (round t)
+unfolding rounds
+rounds-suc r t = refl
+
+pub rounds-add : (a b : ℕ) (t : Table) → rounds (a + b) t ≡ rounds b (rounds a t)
+unfolding rounds
+rounds-add zero b t = let e : 0 + b ≡ b = omega arith in ap (λ (r : ℕ). rounds r t) e
+rounds-add (suc a) b t =
+    let e : suc a + b ≡ suc (a + b) = omega arith in
+    ap (λ (r : ℕ). rounds r t) e ∙ rounds-suc (a + b) t ∙ rounds-add a b (round t)

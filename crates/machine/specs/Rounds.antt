@@ -1,0 +1,112 @@
+-- Rounds: each process in turn is given the word with which it goes on (MANUAL, "Rounds").
+--
+--   roundWord t p    ==  the word that a round gives process p: STAY at 10; at 22 LOOK at the lowest member of lis, where
+--                        it has one; GO otherwise.
+--   roundTo t p      ==  the table after the words of the processes below p, each given to the table that the one before
+--                        left.
+--   round t          ==  the table after a round, one word for each process in number order; rounds r t: after r rounds.
+--   pending t        ==  how many processes are at 20 to 24: they have come and are not yet in the critical section.
+--   occupied t       ==  1 where some process is at 30, in the critical section; else 0.
+--   roundLimit n     ==  the most rounds that are done at a table of n processes.
+--   silenceBound n   ==  the rounds after which some process is at 30, if a list of words made the table, nobody is at 30
+--                        and somebody is pending: a bound that is attained.
+--   allCome n        ==  COME of each of n processes in order; from a fresh table they lead to the longest silence.
+--   roundsOf t       ==  rounds until some process is at 30, or the limit is used up.
+--
+-- Assumes nothing.
+use Prim.Native.Nat.{ℕ, zero, suc, _+_, _-_, _*_}
+use mathlib.Core.Bool.{Bool, true, false, cond, _&&_, not}
+use mathlib.Core.List.{List}
+use lib.Dec.{eqb, leb, ltb}
+use lib.ListN.{length}
+use Rattle.counting.specs.Sums.{bit}
+use Rattle.counting.specs.Sets.{lowest}
+use Rattle.machine.specs.Refusals.{accepted}
+use Rattle.machine.specs.Tables.{Table, row, tableRefusal}
+use Rattle.machine.specs.Words.{STAY, COME, GO, LOOK, wordOf}
+use Rattle.machine.specs.Steps.{afterWord}
+use Rattle.machine.specs.Census.{countRows, critical, upTo}
+use Rattle.machine.specs.declared.Row.{Row}
+use Rattle.machine.specs.declared.RoundsAnswer.{RoundsAnswer}
+
+-- ---- a round
+
+-- STAY at 10; at 22, where lis is not empty, LOOK at its lowest member; GO otherwise
+unfoldable pub roundWord : Table → ℕ → ℕ
+unfolding lowest
+roundWord t p =
+    let r = row t p in
+    cond (eqb (r .location) 10) (wordOf STAY p 0)
+    (cond (eqb (r .location) 22 && not (eqb (r .lis) 0)) (wordOf LOOK p (lowest (r .lis))) (wordOf GO p 0))
+
+-- the words of the processes 0 to p - 1
+unfoldable pub roundTo : Table → ℕ → Table
+unfolding afterWord roundWord
+roundTo t zero = t
+roundTo t (suc p) = let u = roundTo t p in afterWord u (roundWord u p)
+
+-- one word for each process
+unfoldable pub round : Table → Table
+unfolding roundTo
+round t = roundTo t (length t)
+
+unfoldable pub rounds : ℕ → Table → Table
+unfolding round
+rounds zero t = t
+rounds (suc r) t = rounds r (round t)
+
+-- ---- silence: nobody is at 30 and somebody is pending
+
+-- at 20 to 24; the census counts from 21 on, see `waiting`
+abbrev pub isPending : Row → Bool
+isPending r = leb 20 (r .location) && leb (r .location) 24
+
+abbrev pub pending : Table → ℕ
+pending t = countRows isPending t
+
+abbrev pub occupied : Table → ℕ
+occupied t = bit (ltb 0 (critical t))
+
+-- after so many rounds the engine gives up
+abbrev pub roundLimit : ℕ → ℕ
+roundLimit n = 4 * n * n * (n + 3)
+
+-- the longest silence, in rounds
+abbrev pub silenceBound : ℕ → ℕ
+silenceBound n = 2 * n * n + 3 * n - 3
+
+-- COME of process 0, of process 1, ..
+abbrev pub allCome : ℕ → List ℕ
+unfolding upTo
+allCome n = upTo (λ p. wordOf COME p 0) n
+
+-- ---- rounds until some process is at 30
+
+-- the answer, and the table afterwards
+pub record Rounded : Type 0 where
+  pub answer : RoundsAnswer
+  pub table : Table
+
+-- r rounds were done, and t is left
+abbrev pub rounded : ℕ → Table → Rounded
+rounded r t = record { answer = record { refusal = accepted; rounds = r; occupied = occupied t }; table = t }
+
+-- a table that is refused is kept
+abbrev pub unrounded : ℕ → Table → Rounded
+unrounded why t = record { answer = record { refusal = why; rounds = 0; occupied = 0 }; table = t }
+
+-- at most b rounds more, after r of them; somebody at 30 is looked for before each round, not within it
+unfoldable pub roundsFrom : ℕ → ℕ → Table → Rounded
+unfolding round
+roundsFrom zero r t = rounded r t
+roundsFrom (suc b) r t =
+    elim (ltb 0 (critical t)) [ true ↦ rounded r t | false ↦ roundsFrom b (suc r) (round t) ]
+
+-- 6 or 7; no round where nobody is at 20 to 24; else until some process is at 30, or the limit is used up
+unfoldable pub roundsOf : Table → Rounded
+unfolding tableRefusal roundsFrom
+roundsOf t =
+    elim (eqb (tableRefusal t) accepted) [
+      | false ↦ unrounded (tableRefusal t) t
+      | true ↦ elim (ltb 0 (pending t)) [ false ↦ rounded 0 t | true ↦ roundsFrom (roundLimit (length t)) 0 t ]
+    ]

@@ -1,0 +1,3 @@
+-- Theorems.antt says what is proved; the others prove it, each from those above it.
+pub mod Steady
+pub mod Due
