@@ -18,7 +18,7 @@ ghost use Rattle.census.specs.Series.{Near, Small, oneMore, figuresIn};
 // ---- processes at some locations
 
 // How many processes are at the locations from `low` to `high`.
-fn count_at(cells: &[[u16; 8]], low: u16, high: u16) -> u16
+pub fn count_at(cells: &[[u16; 8]], low: u16, high: u16) -> u16
     requires { ⌜ length (now cells) ≤ 16 ⌝ }
     ensures { λ s. ⌜ s ≡ countRows (isAt low high) (rowsOf (now (cells .entry))) ⌝ }
 {

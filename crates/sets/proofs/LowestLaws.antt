@@ -3,16 +3,18 @@
 --   lowest-first   a member below which there is none is the answer
 --   lowest-zero    the empty set has none
 --   lowest-told    what the answer tells: a least member, or no member
+--   lowest-same    a member that is answered is `lowest`
 --
 -- Assumes nothing.
 use Prim.Native.Nat.{ℕ, zero, suc, _<_}
-use mathlib.Core.Path.{_≡_, refl, sym, ap, ap₂, _∙_}
+use mathlib.Core.Path.{_≡_, refl, sym, ap, ap₂, _∙_, subst}
 use mathlib.Core.Bool.{Bool, true, false, cond}
 use native.Mathlib.Decide.{ℕ-discrete}
 use native.Mathlib.Omega.{arith}
-use Rattle.counting.specs.Sets.{has}
+use Rattle.counting.specs.Sets.{has, lowest}
 use Rattle.counting.proofs.SetLaws.{has-zero}
 use Rattle.counting.proofs.BitLaws.{IsLowest}
+use Rattle.counting.proofs.LowestLaws.{lowest-is}
 use Rattle.sets.specs.declared.Lowest.{Lowest}
 use Rattle.sets.specs.declared.Lowest.the-variants.{Member, Empty}
 use Rattle.sets.specs.Answers.{firstOf, lowestBelow, lowestOf}
@@ -74,3 +76,6 @@ below-told s (suc n) = go (lowestBelow s n) (has s n) refl (below-told s n)
 pub lowest-told : (s : ℕ) → Tells s 16 (lowestOf s)
 unfolding lowestOf
 lowest-told s = below-told s 16
+
+pub lowest-same : (s q : ℕ) → lowestOf s ≡ Member q → lowest s ≡ q
+lowest-same s q e = lowest-is s q (subst (Tells s 16) e (lowest-told s))

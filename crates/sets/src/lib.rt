@@ -46,7 +46,7 @@ pub fn lowest_member(s: u16) -> Lowest
 }
 
 // The lowest member of an s that has one.
-fn first_of(s: u16) -> u16
+pub fn first_of(s: u16) -> u16
     requires { ⌜ 0 < s ⌝ }
     ensures { λ r. ⌜ lowestOf s ≡ Lowest.Member r ⌝ }
 {

@@ -109,7 +109,7 @@ fn rest(cells: &mut [[u16; 8]], p: u16) -> Told
 
 // GO of process p where it is allowed. What is left for the last arm is 40: as a case of its own it
 // makes a run of two processes 7 percent slower.
-pub(crate) fn go(cells: &mut [[u16; 8]], p: u16) -> Told
+pub fn go(cells: &mut [[u16; 8]], p: u16) -> Told
     requires { ⌜ Free (now cells) GO p ⌝ }
     ensures { λ s. ⌜ Goes (now (cells .entry)) p (now (cells .exit)) s ⌝ }
 {

@@ -33,7 +33,7 @@ pub(crate) fn flicker(cells: &mut [[u16; 8]], p: u16, a: u16) -> Told
 }
 
 // LOOK of process p at q.
-pub(crate) fn look(cells: &mut [[u16; 8]], p: u16, q: u16) -> Told
+pub fn look(cells: &mut [[u16; 8]], p: u16, q: u16) -> Told
     requires { ⌜ Sees (now cells) p q ⌝ }
     ensures { λ s. ⌜ Moves (now (cells .entry)) LOOK p q (now (cells .exit)) s ⌝ }
 {
