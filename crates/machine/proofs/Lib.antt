@@ -17,6 +17,7 @@ pub mod OneWord
 pub mod SameOutcome
 pub mod Progress
 pub mod RoundLaws
+pub mod RoundAnswers
 pub mod AnswerLaws
 pub mod RunLaws
 pub mod InputLaws
@@ -27,6 +28,7 @@ pub mod CellLaws
 pub mod CellBounds
 pub mod CellEffects
 pub mod CellTheorems
+pub mod RoundTheorems
 pub mod Benchmarks
 pub mod ExportExamples
 pub mod CensusExamples

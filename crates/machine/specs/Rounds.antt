@@ -12,9 +12,11 @@
 --                        and somebody is pending: a bound that is attained.
 --   allCome n        ==  COME of each of n processes in order; from a fresh table they lead to the longest silence.
 --   roundsOf t       ==  rounds until some process is at 30, or the limit is used up.
+--   Awaited b t o    <=> what the outcome o of at most b rounds says of the table t.
 --
 -- Assumes nothing.
-use Prim.Native.Nat.{ℕ, zero, suc, _+_, _-_, _*_}
+use Prim.Native.Nat.{ℕ, zero, suc, _+_, _-_, _*_, _≤_, _<_}
+use mathlib.Core.Path.{_≡_}
 use mathlib.Core.Bool.{Bool, true, false, cond, _&&_, not}
 use mathlib.Core.List.{List}
 use lib.Dec.{eqb, leb, ltb}
@@ -110,3 +112,15 @@ roundsOf t =
       | false ↦ unrounded (tableRefusal t) t
       | true ↦ elim (ltb 0 (pending t)) [ false ↦ rounded 0 t | true ↦ roundsFrom (roundLimit (length t)) 0 t ]
     ]
+
+-- ---- what that comes to
+
+-- rounds from t that had the outcome o, at most b: o has the table after the rounds that it tells; before them nobody
+-- was at 30; whether somebody is now is told; and if nobody is, all b rounds were done
+pub record Awaited (b : ℕ) (t : Table) (o : Rounded) : Type 0 where
+  pub not-refused : o .answer .refusal ≡ accepted
+  pub table-is : o .table ≡ rounds (o .answer .rounds) t
+  pub at-most : o .answer .rounds ≤ b
+  pub nobody-before : (r : ℕ) → r < o .answer .rounds → critical (rounds r t) ≡ 0
+  pub occupied-is : o .answer .occupied ≡ occupied (o .table)
+  pub all-done : critical (o .table) ≡ 0 → o .answer .rounds ≡ b

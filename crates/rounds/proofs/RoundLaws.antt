@@ -4,7 +4,6 @@
 --   from-turn, from-stop                        one round more, and none, by the loop's test
 --   rounds-ended, rounds-stopped, rounds-as     what the answer says of them
 --   occupied-is                                 what the code asks of the number at 30
---   rounds-refused, rounds-none, rounds-some    a refused table, one with nobody at 20 to 24, and the others
 --
 -- Assumes nothing.
 use Prim.Native.Nat.{ℕ, zero, suc, _+_, _-_, _≤_, _<_}
@@ -24,6 +23,7 @@ use Rattle.machine.specs.Steps.{afterWord}
 use Rattle.machine.specs.Census.{critical}
 use Rattle.machine.specs.Rounds.{roundWord, roundTo, round, roundLimit, pending, occupied, Rounded, rounded}
 use Rattle.machine.specs.Rounds.{unrounded, roundsFrom, roundsOf}
+use Rattle.machine.proofs.RoundAnswers.{from-used, from-here, from-next}
 use Rattle.machine.specs.declared.RoundsAnswer.{RoundsAnswer}
 use Rattle.cells.specs.View.{rowsOf}
 use Rattle.rounds.specs.Promises.{Rounds}
@@ -48,33 +48,10 @@ to-end t p e = ap (roundTo t) e
 
 -- ---- rounds
 
-module _ (b r : ℕ) (t : Table) where
-  unfoldable next : Bool → Rounded
-  next c =
-      elim c [ true ↦ rounded r t | false ↦ roundsFrom b (suc r) (round t) ]
-
-  next-is : roundsFrom (suc b) r t ≡ next (ltb 0 (critical t))
-  unfolding roundsFrom next
-  next-is = refl
-
-  from-next : critical t ≡ 0 → roundsFrom (suc b) r t ≡ roundsFrom b (suc r) (round t)
-  unfolding next
-  from-next z = next-is ∙ ap (λ (k : ℕ). next (ltb 0 k)) z
-
-  from-here : 0 < critical t → roundsFrom (suc b) r t ≡ rounded r t
-  unfolding next
-  from-here l = next-is ∙ ap next (lt-ltb _ _ l)
-
--- no round is left
-from-used : (b r : ℕ) (t : Table) → b ≡ 0 → roundsFrom b r t ≡ rounded r t
-unfolding roundsFrom
-from-used zero r t e = refl
-from-used (suc b) r t e = absurd (omega arith)
-
 -- somebody is at 30
 from-occupied : (b r : ℕ) (t : Table) → (critical t ≡ 0 → ⊥) → roundsFrom b r t ≡ rounded r t
-from-occupied zero r t n = from-used 0 r t refl
-from-occupied (suc b) r t n = from-here b r t (omega (arith, n))
+from-occupied zero r t n = from-used r t
+from-occupied (suc b) r t n = from-here b r t n
 
 -- one round of the n that are allowed
 pub from-turn : (n r : ℕ) (t u : Table)
@@ -94,7 +71,8 @@ pub from-stop : (n r : ℕ) (t : Table) (free : Bool)
     → free ≡ eqb (critical t) 0
     → (free && ltb r n) ≡ false
     → roundsFrom (n - r) r t ≡ rounded r t
-from-stop n r t true l e h = from-used (n - r) r t (omega (arith, ltb-false r n h))
+from-stop n r t true l e h =
+    let i : n - r ≡ 0 = omega (arith, ltb-false r n h) in ap (λ (b : ℕ). roundsFrom b r t) i ∙ from-used r t
 from-stop n r t false l e h = from-occupied (n - r) r t (eqb-false (critical t) 0 (sym e))
 
 -- the rounds o of the cells x ended in y, after r of them
@@ -132,31 +110,3 @@ occupied-is t = go (ℕ-discrete (critical t) 0)
     go (yes z) = ap (λ (k : ℕ). boolByte (not (eqb k 0))) z ∙ sym (ap (λ (k : ℕ). bit (ltb 0 k)) z)
     go (no n) =
         ap (λ (b : Bool). boolByte (not b)) (ne-eqb _ _ n) ∙ sym (ap bit (lt-ltb 0 (critical t) (omega (arith, n))))
-
-module _ (t : Table) where
-  unfoldable some : Bool → Rounded
-  some b = elim b [ false ↦ rounded 0 t | true ↦ roundsFrom (roundLimit (length t)) 0 t ]
-
-  unfoldable whole : Bool → Rounded
-  unfolding some
-  whole b = elim b [ false ↦ unrounded (tableRefusal t) t | true ↦ some (ltb 0 (pending t)) ]
-
-  whole-is : roundsOf t ≡ whole (eqb (tableRefusal t) 0)
-  unfolding roundsOf whole some
-  whole-is = refl
-
-  pub rounds-refused : (v : ℕ) → v ≡ tableRefusal t → (v ≡ 0 → ⊥) → roundsOf t ≡ unrounded v t
-  unfolding whole
-  rounds-refused v e n =
-      whole-is ∙ ap whole (ne-eqb _ _ (λ z. n (e ∙ z))) ∙ ap (λ (k : ℕ). unrounded k t) (sym e)
-
-  pub rounds-none : tableRefusal t ≡ 0 → pending t ≡ 0 → roundsOf t ≡ rounded 0 t
-  unfolding whole some
-  rounds-none z e = whole-is ∙ ap whole (eq-eqb _ _ z) ∙ ap (λ (k : ℕ). some (ltb 0 k)) e
-
-  pub rounds-some : tableRefusal t ≡ 0
-      → (pending t ≡ 0 → ⊥)
-      → roundsOf t ≡ roundsFrom (roundLimit (length t)) 0 t
-  unfolding whole some
-  rounds-some z n =
-      whole-is ∙ ap whole (eq-eqb _ _ z) ∙ ap some (lt-ltb 0 (pending t) (omega (arith, n)))

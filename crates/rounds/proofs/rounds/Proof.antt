@@ -5,10 +5,11 @@ use borrow.Author.Needs.{needs}
 use lib.ListN.{length}
 use Rattle.machine.specs.Tables.{tableRefusal}
 use Rattle.machine.specs.Rounds.{roundLimit, roundsFrom}
+use Rattle.machine.proofs.RoundAnswers.{rounds-refused, rounds-none, rounds-some}
 use Rattle.cells.specs.View.{rowsOf}
 use Rattle.cells.proofs.ViewLaws.{rows-length}
 use Rattle.rounds.proofs.LimitLaws.{few-cells}
-use Rattle.rounds.proofs.RoundLaws.{rounds-ended, rounds-stopped, rounds-as, rounds-refused, rounds-none, rounds-some}
+use Rattle.rounds.proofs.RoundLaws.{rounds-ended, rounds-stopped, rounds-as}
 use Rattle.rounds.proofs.rounds.Statement.{statement}
 use Rattle.rounds.proofs.rounds.Tie as tie
 

@@ -1,0 +1,64 @@
+-- Laws of the answer of rounds, case by case.
+--
+--   from-used, from-here, from-next             no round is left; somebody is at 30; one round more
+--   rounds-refused, rounds-none, rounds-some    a refused table, one with nobody at 20 to 24, and the others
+--
+-- Assumes nothing.
+use Prim.Native.Nat.{ℕ, suc, _<_}
+use mathlib.Core.Path.{_≡_, refl, sym, ap, _∙_}
+use mathlib.Core.Bool.{Bool, true, false}
+use native.Mathlib.Omega.{arith}
+use lib.Dec.{eqb, ltb}
+use lib.ListN.{length}
+use borrow.Author.Tests.{eq-eqb, ne-eqb, lt-ltb}
+use Rattle.machine.specs.Tables.{Table, tableRefusal}
+use Rattle.machine.specs.Census.{critical}
+use Rattle.machine.specs.Rounds.{round, roundLimit, pending, Rounded, rounded, unrounded, roundsFrom, roundsOf}
+
+pub from-used : (r : ℕ) (t : Table) → roundsFrom 0 r t ≡ rounded r t
+unfolding roundsFrom
+from-used r t = refl
+
+module _ (b r : ℕ) (t : Table) where
+  unfoldable next : Bool → Rounded
+  next c = elim c [ true ↦ rounded r t | false ↦ roundsFrom b (suc r) (round t) ]
+
+  next-is : roundsFrom (suc b) r t ≡ next (ltb 0 (critical t))
+  unfolding roundsFrom next
+  next-is = refl
+
+  pub from-next : critical t ≡ 0 → roundsFrom (suc b) r t ≡ roundsFrom b (suc r) (round t)
+  unfolding next
+  from-next z = next-is ∙ ap (λ (k : ℕ). next (ltb 0 k)) z
+
+  pub from-here : (critical t ≡ 0 → ⊥) → roundsFrom (suc b) r t ≡ rounded r t
+  unfolding next
+  from-here n = next-is ∙ ap next (lt-ltb 0 (critical t) (omega (arith, n)))
+
+module _ (t : Table) where
+  unfoldable some : Bool → Rounded
+  some b = elim b [ false ↦ rounded 0 t | true ↦ roundsFrom (roundLimit (length t)) 0 t ]
+
+  unfoldable whole : Bool → Rounded
+  unfolding some
+  whole b = elim b [ false ↦ unrounded (tableRefusal t) t | true ↦ some (ltb 0 (pending t)) ]
+
+  whole-is : roundsOf t ≡ whole (eqb (tableRefusal t) 0)
+  unfolding roundsOf whole some
+  whole-is = refl
+
+  pub rounds-refused : (v : ℕ) → v ≡ tableRefusal t → (v ≡ 0 → ⊥) → roundsOf t ≡ unrounded v t
+  unfolding whole
+  rounds-refused v e n =
+      whole-is ∙ ap whole (ne-eqb _ _ (λ z. n (e ∙ z))) ∙ ap (λ (k : ℕ). unrounded k t) (sym e)
+
+  pub rounds-none : tableRefusal t ≡ 0 → pending t ≡ 0 → roundsOf t ≡ rounded 0 t
+  unfolding whole some
+  rounds-none z e = whole-is ∙ ap whole (eq-eqb _ _ z) ∙ ap (λ (k : ℕ). some (ltb 0 k)) e
+
+  pub rounds-some : tableRefusal t ≡ 0
+      → (pending t ≡ 0 → ⊥)
+      → roundsOf t ≡ roundsFrom (roundLimit (length t)) 0 t
+  unfolding whole some
+  rounds-some z n =
+      whole-is ∙ ap whole (eq-eqb _ _ z) ∙ ap some (lt-ltb 0 (pending t) (omega (arith, n)))
