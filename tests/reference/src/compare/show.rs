@@ -3,7 +3,7 @@
 use super::lent::{Lent, FILL};
 use super::{Answer, Case};
 use crate::generate::inputs::Input;
-use crate::{PartsAnswer, Ran, Reading, Row, StepAnswer, WordAnswer};
+use crate::{PartsAnswer, Ran, Reading, Rounded, Row, StepAnswer, WordAnswer};
 use std::fmt;
 
 /// Words in hexadecimal, ten a line.
@@ -68,6 +68,7 @@ impl fmt::Display for Case {
                 write!(f, "\n  {} words:{}", words.len(), Hex(words))
             }
             Case::Census { rows } => show_with_rows(f, "census".into(), rows),
+            Case::Rounds { rows } => show_with_rows(f, "rounds".into(), rows),
             Case::Fresh { rows } => show_with_rows(f, "fresh table".into(), rows),
             Case::ReadImage { words, rows } => {
                 show_with_rows(f, "image read".into(), rows)?;
@@ -138,6 +139,9 @@ impl fmt::Display for Answer {
                 let what = format!("taken {taken} refusal {refusal} cell {cell}, {:?}", tally.inside[0]);
                 show_lent_rows(f, what, rows)?;
                 show_lent(f, tally)
+            }
+            Answer::Rounds { rounded: Rounded { refusal, rounds, occupied }, rows } => {
+                show_lent_rows(f, format!("refusal {refusal}, rounds {rounds}, occupied {occupied}"), rows)
             }
             Answer::ReadImage { reading: Reading { refusal, place, size }, rows } => {
                 show_lent_rows(f, format!("refusal {refusal}, place {place}, size {size}"), rows)
