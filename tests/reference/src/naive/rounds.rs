@@ -95,8 +95,10 @@ fn word_of(system: &System, p: usize, fault: Fault) -> u32 {
     let (kind, argument) = if *location == 10 {
         (if fault == Fault::RoundComesAt10 { COME } else { STAY }, 0)
     } else if *location == 22 && size(lis) > 0 {
-        let members: Vec<usize> = (0..16).filter(|&q| lis[q]).collect();
-        (LOOK, if fault == Fault::LooksAtHighest { members[members.len() - 1] } else { members[0] })
+        let (mut lowest, mut highest) = (0..16, (0..16).rev());
+        let member = |q: &usize| lis[*q];
+        let chosen = if fault == Fault::LooksAtHighest { highest.find(member) } else { lowest.find(member) };
+        (LOOK, chosen.expect("a member"))
     } else {
         (GO, 0)
     };
