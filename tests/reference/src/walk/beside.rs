@@ -24,8 +24,8 @@ pub enum Finding {
     /// The order of two words makes a difference to the engine, though the cells that they used do not clash: the
     /// second after the first, and the first after the second.
     Exchange(Box<[Case; 2]>),
-    /// Nobody is at 30 and somebody is at 20 to 24, and rounds lead nobody to 30, or more of them are done than can be
-    /// needed.
+    /// Nobody is at 30 and somebody is at 20 to 24, and rounds lead nobody to 30, or not in time; or rounds are done
+    /// though it is otherwise.
     Silence(Case),
 }
 
@@ -39,7 +39,6 @@ impl<const N: usize> Guide<N> for Beside<'_> {
         mut each: impl FnMut(u32, Option<[Row; N]>),
     ) -> Result<(Exchange, Silence), Finding> {
         self.look(rows)?;
-        let silence = self.do_rounds(rows)?;
         let model = Standing::new(rows, self.fault);
         let mut taken = Vec::with_capacity(4 * N);
         for &word in words {
@@ -57,7 +56,8 @@ impl<const N: usize> Guide<N> for Beside<'_> {
             each(word, accepted.then_some(after));
         }
         let pairs = exchange(&taken, |rows, word| self.engine.step(rows, word));
-        Ok((pairs.map_err(|pair| in_both_orders(&pair))?, silence))
+        // last, so that a wrong step is found as such
+        Ok((pairs.map_err(|pair| in_both_orders(&pair))?, self.do_rounds(rows)?))
     }
 }
 
@@ -80,11 +80,15 @@ impl Beside<'_> {
         }
     }
 
-    /// Rounds from a copy of the table.
+    /// Rounds from a copy of the table. Those of three processes are compared with the reference, since the naive model
+    /// would take nearly half as long as the walk.
     fn do_rounds<const N: usize>(&self, rows: &[Row; N]) -> Result<Silence, Finding> {
         let (mut after, mut model_after) = (*rows, *rows);
         let rounded = self.engine.rounds(&mut after);
-        let model_rounded = naive::rounds(&mut model_after, self.fault);
+        let model_rounded = match N {
+            2 => naive::rounds(&mut model_after, self.fault),
+            _ => crate::rounds(&mut model_after),
+        };
         let case = || Case::Rounds { rows: rows.to_vec() };
         if (rounded, after) != (model_rounded, model_after) {
             return Err(Finding::Difference(case()));
