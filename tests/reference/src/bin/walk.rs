@@ -4,8 +4,8 @@
 //!     walk            three lines for each walk, the first with the most memory that the program has had; then
 //!                     `walked: ..`
 //!     walk --control  the naive model alone, which lets two of three processes be at 30 if est is kept at GO 24; with
-//!                     cells that are not told, so that the order of two words matters though none is seen to clash; and
-//!                     with rounds that end never or too late
+//!                     cells that are not told, so that the order of two words matters though none is seen to clash;
+//!                     and with rounds that never end or end too late
 //!
 //! It exits with 1 after a difference, a table that breaks demand 3, two words without a clash whose order matters,
 //! rounds that lead nobody to 30 in time, or a figure other than the one expected.

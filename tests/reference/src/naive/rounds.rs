@@ -79,8 +79,8 @@ fn do_round(system: &mut System, fault: Fault) -> bool {
     for i in 0..n {
         let p = if fault == Fault::RoundFromTheLast { n - 1 - i } else { i };
         let word = word_of(system, p, fault);
-        // every table takes it, unless a fault of the step has it refused: then the table stays
-        let _ = take(system, word, fault);
+        let taken = take(system, word, fault).is_ok();
+        assert!(taken || fault != Fault::None, "every word of a round is taken");
         let asks_within = fault == Fault::RoundEndsAt30 || fault == Fault::RoundEndsAt30Uncounted;
         if asks_within && somebody_at_30(system, fault) {
             return i == n - 1;
@@ -111,7 +111,7 @@ fn all_at_once(start: &System) -> System {
     let mut end = start.clone();
     for p in 0..start.n() {
         let mut alone = start.clone();
-        let _ = take(&mut alone, word_of(start, p, Fault::None), Fault::None);
+        take(&mut alone, word_of(start, p, Fault::None), Fault::None).ok();
         end.processes[p] = alone.processes[p].clone();
         for k in 0..start.n() {
             if alone.turn[k] != start.turn[k] {

@@ -1,6 +1,6 @@
 //! Every table that accepted words lead to from fresh tables of two or three processes, with every word given to each,
-//! every two accepted words of different processes in both orders, and rounds: an engine beside the naive model, or that
-//! model alone as a control.
+//! every two accepted words of different processes in both orders, and rounds: an engine beside the naive model, or
+//! that model alone as a control.
 
 mod beside;
 mod control;

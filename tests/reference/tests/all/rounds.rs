@@ -89,8 +89,8 @@ fn a_round_is_done_to_its_end() {
     });
 }
 
-/// A word reads what those before it in the round have written: process 1 rests before process 2 looks at it, and enters
-/// after process 0 has looked.
+/// A word reads what those before it in the round have written, and not what those after it will: process 0 looks at
+/// process 1 before that rests or enters, and process 2 looks afterwards.
 #[test]
 fn each_word_goes_to_the_table_that_the_word_before_left() {
     on_both(|engine| {

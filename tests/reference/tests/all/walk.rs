@@ -275,8 +275,8 @@ fn pairs_of_every_sort_are_met() {
     }
 }
 
-/// The same fault on both sides: they agree, and what is left is that rounds lead nobody to 30, or too late, or are done
-/// where none is asked for.
+/// The same fault on both sides: they agree, and what is left is that rounds lead nobody to 30, or too late, or are
+/// done where none is asked for.
 #[test]
 fn a_fault_on_both_sides_breaks_the_bound() {
     let faults = [
