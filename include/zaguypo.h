@@ -58,7 +58,7 @@ uint64_t zaguypo_run(const uint8_t *input, size_t input_len, uint8_t *image, siz
    others change; where text_len is less, every lent byte is as given. */
 size_t zaguypo_print(const uint8_t *input, size_t input_len, char *text, size_t text_len);
 
-/* ---- tables of rows ("Tables", "Steps", "Ahead sets", "Runs", "Census") */
+/* ---- tables of rows ("Tables", "Steps", "Ahead sets", "Runs", "Census", "Rounds") */
 
 /* One process; process q is row q. The sets have bit q for process q. Row k holds the cell turn[k]; row 0 holds 0 there. */
 struct zaguypo_row {
@@ -121,6 +121,22 @@ struct zaguypo_figures {
    waiting and critical add up to below[size] for every accepted table. Figures where they add up to more are of the old reading:
    the difference is the number of processes at 20. Under either reading below[size] - critical is what waiting counts today. */
 struct zaguypo_figures zaguypo_census(const struct zaguypo_row *rows, size_t size);
+
+/* The answer of rounds, since version 2.1.0: the refusal or 0, the rounds done, and whether a process is at 30 in the
+   rows as left. Where the table is refused, the other two are 0. */
+struct zaguypo_rounded {
+    uint16_t refusal;  /* 0, 6 or 7 */
+    uint16_t rounds;   /* at most 4N * N * (N + 3), 19,456 for sixteen processes */
+    uint16_t occupied; /* 1 where some process is at 30, else 0 */
+};
+
+/* Rounds, since version 2.1.0. A round gives each process in number order one word, and each word goes to the table
+   that the word before left: STAY at 10; at 22 with lis not empty LOOK at the lowest member of lis; GO otherwise.
+   Rounds are done in the lent rows until some process is at 30 after a whole one, or 4N * N * (N + 3) are done. With a
+   process at 30 beforehand, or with nobody at 20 to 24, none is done and no row changes; nor does one after 6 and 7.
+   From a table that words made from a fresh one, with nobody at 30 and somebody at 20 to 24, at most 2N * N + 3N - 3
+   are done and occupied is 1. Sound tables that no words lead to may use up the bound, with occupied 0 ("Rounds"). */
+struct zaguypo_rounded zaguypo_rounds(struct zaguypo_row *rows, size_t size);
 
 /* ---- images: a table as 5N words ("Images") */
 

@@ -19,13 +19,14 @@ struct given {
    the fields are kept. The text is last: only its first text_len bytes are ever written. */
 struct answers {
     uint64_t run, printed;
-    struct zaguypo_row fresh[16], stepped[16], run_rows[16], read[16];
+    struct zaguypo_row fresh[16], stepped[16], run_rows[16], rounded_rows[16], read[16];
     struct zaguypo_tally tally;
     uint32_t ran_taken, ran_refusal;
     struct zaguypo_word word;
     uint32_t written[ZAGUYPO_IMAGE_WORDS(16)];
     struct zaguypo_parts parts;
     struct zaguypo_figures figures;
+    struct zaguypo_rounded rounded;
     struct zaguypo_reading reading;
     struct zaguypo_stepped step;
     struct zaguypo_cell ran_cell;
@@ -51,6 +52,10 @@ static void call_run_rows(const struct given *g, struct answers *a) {
     a->ran_taken = ran.taken, a->ran_refusal = ran.refusal, a->ran_cell = ran.cell;
 }
 static void call_census(const struct given *g, struct answers *a) { a->figures = zaguypo_census(g->rows, g->size); }
+static void call_rounds(const struct given *g, struct answers *a) {
+    memcpy(a->rounded_rows, g->rows, sizeof g->rows);
+    a->rounded = zaguypo_rounds(a->rounded_rows, g->size);
+}
 static void call_read(const struct given *g, struct answers *a) {
     a->reading = zaguypo_read(g->image, g->image_count, a->read, 16);
 }
@@ -63,13 +68,14 @@ static void call_together(const struct given *g, struct answers *a) {
 }
 
 typedef void calling(const struct given *, struct answers *);
-enum { CALLS = 10 };
+enum { CALLS = 11 };
 static const struct { const char *name; calling *call; } calls[CALLS] = {
     {"zaguypo_run", call_run},           {"zaguypo_print", call_print},
     {"zaguypo_fresh", call_fresh},       {"zaguypo_step", call_step},
     {"zaguypo_run_rows", call_run_rows}, {"zaguypo_census", call_census},
-    {"zaguypo_read", call_read},         {"zaguypo_write", call_write},
-    {"zaguypo_apart", call_apart},       {"zaguypo_together", call_together},
+    {"zaguypo_rounds", call_rounds},     {"zaguypo_read", call_read},
+    {"zaguypo_write", call_write},       {"zaguypo_apart", call_apart},
+    {"zaguypo_together", call_together},
 };
 
 /* ---- what is given */

@@ -10,6 +10,7 @@
 #include "every/words.h"
 #include "every/fresh.h"
 #include "every/census.h"
+#include "every/rounds.h"
 #include "every/images.h"
 #include "every/read.h"
 #include "every/write.h"
@@ -28,6 +29,7 @@ int main(void) {
     words();
     fresh();
     census();
+    rounds();
     read_images();
     write_images();
     print();

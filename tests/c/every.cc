@@ -26,7 +26,7 @@ Words put_together() {
     return {come.word, go.word};
 }
 
-// fresh, step, run_rows, census
+// fresh, step, run_rows, census, rounds
 void step_rows(const Words &words) {
     Table rows{};
     check("fresh", zaguypo_fresh(rows.data(), rows.size()) == 0 && rows[0].location == 10 && rows[2].location == 10);
@@ -41,6 +41,10 @@ void step_rows(const Words &words) {
     const zaguypo_figures figures = zaguypo_census(rows.data(), rows.size());
     check("census", figures.refusal == 0 && figures.critical == 0 && figures.waiting == 1);
     check("census at k", figures.below[2] == 0 && figures.below[3] == 1 && figures.held[0] == 0 && figures.held[1] == 1);
+    const zaguypo_rounded rounded = zaguypo_rounds(rows.data(), rows.size());
+    check("rounds", rounded.refusal == 0 && rounded.rounds == 6 && rounded.occupied == 1 && rows[1].location == 30);
+    const zaguypo_rounded again = zaguypo_rounds(rows.data(), rows.size());
+    check("no more rounds", again.refusal == 0 && again.rounds == 0 && again.occupied == 1 && rows[1].location == 30);
 }
 
 // write, read

@@ -48,6 +48,11 @@ HAS_AT(zaguypo_figures, waiting, 4, 2);
 HAS_AT(zaguypo_figures, below, 6, 34);
 HAS_AT(zaguypo_figures, held, 40, 34);
 
+HAS_SIZE(zaguypo_rounded, 6);
+HAS_AT(zaguypo_rounded, refusal, 0, 2);
+HAS_AT(zaguypo_rounded, rounds, 2, 2);
+HAS_AT(zaguypo_rounded, occupied, 4, 2);
+
 HAS_SIZE(zaguypo_reading, 6);
 HAS_AT(zaguypo_reading, refusal, 0, 2);
 HAS_AT(zaguypo_reading, place, 2, 2);

@@ -1,6 +1,6 @@
 /* zaguypo_step and zaguypo_run_rows from C: the declarations fit the compiled functions, only the lent rows and the tally are
    written, and every length has its answer. Expected rows and answers are written out by hand from the manual; what each word
-   does to any row is for the comparison in tests/reference. */
+   does to any row is for the comparison in tests/reference. And zaguypo_rounds does what single steps do. */
 #include "calls.h"
 #include "check.h"
 #include "lend.h"
@@ -207,10 +207,72 @@ static void circuits(void) {
     ran(g.rows, 16, g.words, 8192, 0, (struct zaguypo_tally){8192, 357, 356}, act_read(0), after);
 }
 
+/* whether somebody is at one of the locations from `first` to `last` */
+static int somebody(const struct zaguypo_row *rows, uint32_t n, unsigned first, unsigned last) {
+    for (uint32_t q = 0; q < n; q++)
+        if (rows[q].location >= first && rows[q].location <= last) return 1;
+    return 0;
+}
+
+/* nobody is at 30 and somebody at 20 to 24 */
+static int quiet(const struct zaguypo_row *rows, uint32_t n) {
+    return !somebody(rows, n, 30, 30) && somebody(rows, n, 20, 24);
+}
+
+/* the word that a round has for process p */
+static uint32_t word_of_round(const struct zaguypo_row *rows, uint32_t p) {
+    uint32_t q = 0;
+    if (rows[p].location == 10) return 0x10000000 | p << 16;
+    if (rows[p].location != 22 || rows[p].lis == 0) return 0x40000000 | p << 16;
+    while (!(rows[p].lis >> q & 1)) q++;
+    return 0x50000000 | p << 16 | q;
+}
+
+/* Rounds on lent rows, and the same made of steps, of which every one must be taken. */
+static void rounds_and_steps(const struct zaguypo_row *table, uint32_t n) {
+    struct zaguypo_row after[MOST];
+    struct zaguypo_rounded by_steps = {0, 0, 0};
+    int refused = 0;
+    memcpy(after, table, n * sizeof *table);
+    for (; quiet(after, n) && by_steps.rounds < 4 * n * n * (n + 3); by_steps.rounds++)
+        for (uint32_t p = 0; p < n; p++) refused |= zaguypo_step(after, n, word_of_round(after, p)).refusal;
+    by_steps.occupied = (uint16_t)somebody(after, n, 30, 30);
+    struct lent rows = lend(table, n * sizeof *table);
+    must_hold(&rows, after, n * sizeof *after);
+    const struct zaguypo_rounded r = zaguypo_rounds(lent_memory(&rows), n);
+    check("rounds, every step is taken", !refused);
+    check("rounds, refusal", r.refusal == 0);
+    check("rounds, as many as by steps", r.rounds == by_steps.rounds && r.occupied == by_steps.occupied);
+    check("rounds, rows", given_back(&rows));
+}
+
+/* a word of a round, or COME or FLICKER, which may be refused */
+static uint32_t drawn_word(const struct zaguypo_row *rows, uint32_t n) {
+    const uint32_t p = draw(n);
+    if (draw(4)) return word_of_round(rows, p);
+    return (rows[p].location == 10 ? 0x20000000 : 0x30000000 | draw(n)) | p << 16;
+}
+
+/* Tables that words lead to from idle ones, with somebody at 20 to 24 and nobody at 30: rounds lead there in time. And,
+   where a bound that is used up is short, any sound tables. */
+static void rounds(uint32_t n) {
+    struct zaguypo_row table[MOST];
+    for (int i = 0; i < 6; i++) {
+        const uint32_t least = 2 * n + draw(20 * n), most = 1000 * n;
+        idle_rows(table, n);
+        for (uint32_t words = 0; words < least || (words < most && !quiet(table, n)); words++)
+            zaguypo_step(table, n, drawn_word(table, n));
+        rounds_and_steps(table, n);
+        const struct zaguypo_rounded r = zaguypo_rounds(table, n);
+        check("rounds, in time", r.occupied == 1 && r.rounds > 0 && r.rounds <= 2 * n * n + 3 * n - 3);
+    }
+    for (int i = 0; i < 20 && n <= 5; i++) sound_rows(table, n), rounds_and_steps(table, n);
+}
+
 int main(void) {
     for (int i = 0; i < 8193; i++) stays[i] = 0x10000000;
     wrong_sizes();
-    for (uint32_t n = 2; n <= 16; n++) unsound_rows(n), refused_words(n), lists(n);
+    for (uint32_t n = 2; n <= 16; n++) unsound_rows(n), refused_words(n), lists(n), rounds(n);
     example();
     crowd();
     cancelled();

@@ -96,11 +96,18 @@ static void give_location(struct given *g, uint16_t location) {
     g->word = 0x400F0000;
 }
 
-/* the longest run, with room for its text and without, and short ones, a step at each location, and bytes and tables that are
-   refused */
+/* 16 processes that use up the bound on rounds: all but the first rest with act 1, and the first waits for them */
+static void give_rounds(struct given *g) {
+    give(g, 16, 0);
+    for (int q = 1; q < 16; q++) g->rows[q].act = 1;
+    g->rows[0].location = 20;
+}
+
+/* the longest run, with room for its text and without, and short ones, a step at each location, the most rounds, and
+   bytes and tables that are refused */
 int main(void) {
     static const uint16_t locations[] = {10, 20, 21, 22, 23, 24, 30, 40};
-    static struct given given[14];
+    static struct given given[15];
     give(&given[0], 16, ZAGUYPO_RUN_LIMIT);
     give(&given[13], 16, ZAGUYPO_RUN_LIMIT);
     given[13].text_len = 100;
@@ -109,6 +116,7 @@ int main(void) {
     give(&given[3], 2, 0);
     given[4].input_len = 3;
     for (int i = 0; i < 8; i++) give_location(&given[5 + i], locations[i]);
-    for (int c = 0; c < CALLS; c++) measure(calls[c].name, calls[c].call, given, 14);
+    give_rounds(&given[14]);
+    for (int c = 0; c < CALLS; c++) measure(calls[c].name, calls[c].call, given, 15);
     return done("stack");
 }

@@ -27,8 +27,8 @@ static uint32_t draw(uint32_t *seed, uint32_t below) {
     return x % below;
 }
 
-/* Up to 300 words of circuits from an idle table, or the longest run; then changes to the input, to the image and to a row,
-   which some of the functions refuse. */
+/* Up to 300 words of circuits from an idle table, or the longest run; then changes to the input, to the image and to
+   the rows, which some of the functions refuse. */
 static void give_any(struct given *g, uint32_t seed, int longest) {
     uint32_t n = 2 + draw(&seed, 15), q = draw(&seed, n);
     give(g, n, longest ? ZAGUYPO_RUN_LIMIT : draw(&seed, 300));
@@ -37,6 +37,7 @@ static void give_any(struct given *g, uint32_t seed, int longest) {
     if (!longest) g->text_len = draw(&seed, 6000);
     if (draw(&seed, 2)) g->input[draw(&seed, (uint32_t)g->input_len)] ^= 1;
     if (draw(&seed, 2)) g->image[draw(&seed, 5 * n)] ^= 1u << draw(&seed, 32);
+    for (uint32_t r = 0, all = draw(&seed, 2); all && r < n; r++) g->rows[r].location = 20;
     if (draw(&seed, 2)) g->rows[q].location = (uint16_t)(20 + draw(&seed, 6));
     g->rows[q].level = (uint16_t)draw(&seed, n);
     g->rows[q].ahead = (uint16_t)draw(&seed, 1u << n);

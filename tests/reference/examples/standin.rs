@@ -1,6 +1,6 @@
 //! The reference under the exported names, as a static library: tries the linked build before the other library exists.
 
-use reference::{Census, PartsAnswer, Ran, Reading, Row, StepAnswer, Tally, WordAnswer};
+use reference::{Census, PartsAnswer, Ran, Reading, Rounded, Row, StepAnswer, Tally, WordAnswer};
 use std::ffi::c_char;
 use std::slice::{from_raw_parts, from_raw_parts_mut};
 
@@ -71,6 +71,13 @@ pub unsafe extern "C" fn zaguypo_run_rows(
 #[no_mangle]
 pub unsafe extern "C" fn zaguypo_census(rows: *const Row, size: usize) -> Census {
     reference::census(array(rows, size))
+}
+
+/// # Safety
+/// The pointer goes with its length.
+#[no_mangle]
+pub unsafe extern "C" fn zaguypo_rounds(rows: *mut Row, size: usize) -> Rounded {
+    reference::rounds(array_mut(rows, size))
 }
 
 /// # Safety

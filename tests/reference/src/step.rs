@@ -102,6 +102,31 @@ impl<'a> Machine<'a> {
         Ok(Event { kind, p, before, after, cell })
     }
 
+    /// Gives process p its word of a round, and answers the location that it leads to: STAY at 10, LOOK at the lowest
+    /// member of lis at 22, GO elsewhere and where lis is empty. Every table takes it.
+    #[inline(always)]
+    pub fn advance(&mut self, p: usize) -> u16 {
+        let row = &mut self.rows[p];
+        let lis = row.lis;
+        let led = match row.loc {
+            10 => return 10,
+            20 => self.enter(p, 0),
+            21 => self.pass(p, 0),
+            22 if lis != 0 => Ok(self.look_at(p, lis.trailing_zeros() as usize)),
+            22 => none(0, 23),
+            23 => self.reconsider(p, 0),
+            24 => self.push(p, 0),
+            30 => self.leave(p, 0),
+            _ => {
+                row.act = 0;
+                none(0, 10)
+            }
+        };
+        let (after, _) = led.expect("argument 0 is what GO asks for");
+        self.rows[p].loc = after;
+        after
+    }
+
     /// All processes but p.
     #[inline(always)]
     fn others(&self, p: usize) -> u16 {
@@ -164,7 +189,7 @@ impl<'a> Machine<'a> {
         Ok((40, Cell::NONE))
     }
 
-    /// LOOK at 22: q leaves lis, and est too if its act is 0.
+    /// LOOK at 22: the argument must be a member of lis.
     #[inline(always)]
     fn look(&mut self, p: usize, argument: u32) -> Result<Led, u16> {
         let lis = self.rows[p].lis;
@@ -172,12 +197,17 @@ impl<'a> Machine<'a> {
             return Err(refusal::NOT_ALLOWED);
         }
         demand(u32::from(lis) & 1u32.checked_shl(argument).unwrap_or(0) != 0)?;
-        let q = argument as usize;
+        Ok(self.look_at(p, argument as usize))
+    }
+
+    /// q leaves lis of p, and est too if its act is 0.
+    #[inline(always)]
+    fn look_at(&mut self, p: usize, q: usize) -> Led {
         let idle = self.rows[q].act ^ 1;
         let row = &mut self.rows[p];
-        row.lis = lis & !only(q);
+        row.lis &= !only(q);
         row.est &= !(idle << q);
-        Ok((22, Cell::act_read(q)))
+        (22, Cell::act_read(q))
     }
 
     /// GO at 23: the size of est decides first, then bb, then the turn cell of the level, which only then counts as

@@ -60,6 +60,7 @@ fn main() {
     SIZES.into_iter().for_each(|n| steps(&linked, n, repetitions));
     SIZES.into_iter().for_each(|n| runs(&linked, n, repetitions));
     SIZES.into_iter().for_each(|n| census(&linked, n, repetitions));
+    SIZES.into_iter().for_each(|n| rounds(&linked, n, repetitions));
     SIZES.into_iter().for_each(|n| prints(&linked, n, repetitions));
     if let Ok(program) = std::env::var("ZAGUYPO_REPLAY") {
         texts(&program, repetitions.min(101));
@@ -129,6 +130,23 @@ fn census(linked: &impl Engine, n: usize, repetitions: usize) {
     reference::run(&mut rows, &words, &mut Tally::default());
     let (mut ours, mut theirs) = (|| many(linked, &rows), || many(&Reference, &rows));
     measure(&format!("census, N = {n}, a call"), repetitions, 1000, &mut ours, &mut theirs);
+}
+
+/// Rounds from COME of every process on, as many as a list can leave to be done, a word; they are done again and again
+/// until they have had about as many words as the other lines.
+fn rounds(linked: &impl Engine, n: usize, repetitions: usize) {
+    fn many(engine: &impl Engine, start: &[Row], times: usize) {
+        let mut rows = start.to_vec();
+        for _ in 0..times {
+            rows.copy_from_slice(start);
+            black_box(engine.rounds(black_box(&mut rows)));
+        }
+    }
+    let start = vec![Row { loc: 20, ..Row::IDLE }; n];
+    let words = n * usize::from(reference::rounds(&mut start.clone()).rounds);
+    let times = WORDS.div_ceil(words);
+    let (mut ours, mut theirs) = (|| many(linked, &start, times), || many(&Reference, &start, times));
+    measure(&format!("rounds, N = {n}, a word"), repetitions, times * words, &mut ours, &mut theirs);
 }
 
 /// The printed run of a deep run into lent bytes with room for every text, a word.

@@ -4,8 +4,8 @@
 //!
 //! C runs on bytes (210,000 by default) with the other kinds in proportion, or T seconds; `--case I` shows one case of a seed.
 //! The seed is 1 where none is given, so that two comparisons without one are the same. On a difference it prints the case, made
-//! small, and both answers, and exits with 1; if some refusal, location, CANCEL or shared cell was never met it exits
-//! with 2.
+//! small, and both answers, and exits with 1; if some refusal, location, CANCEL, shared cell or end of rounds was never
+//! met it exits with 2.
 
 use reference::compare::{make_case, shrink, Case, Counts, Engine, Kind, Reference};
 use reference::generate::Random;
@@ -51,12 +51,12 @@ fn other(_: Option<String>) -> impl Engine {
     reference::compare::Naive(reference::naive::Fault::None)
 }
 
-/// The kind of a case by its number: 16 of 30 are runs on bytes, each other exported function has one to three of 30, and the
-/// printing program, which is a process each time, one of 120.
+/// The kind of a case by its number: 16 of 31 are runs on bytes, each other exported function has one to three of 31, and the
+/// printing program, which is a process each time, one of 124.
 fn kind_of(number: u64) -> Kind {
-    match number % 30 {
+    match number % 31 {
         0..=15 => Kind::Call,
-        16 if number % 120 == 16 => Kind::Text,
+        16 if number % 124 == 16 => Kind::Text,
         16..=18 => Kind::Step,
         19 | 20 => Kind::Run,
         21 => Kind::Census,
@@ -65,6 +65,7 @@ fn kind_of(number: u64) -> Kind {
         26 => Kind::WriteImage,
         27 => Kind::Fresh,
         28 => Kind::TakeApart,
+        29 => Kind::Rounds,
         _ => Kind::PutTogether,
     }
 }

@@ -1,17 +1,19 @@
 //! Walks through every table that two processes reach from a fresh one, and three from zeros: the linked library, or the
 //! reference where none is linked, beside the naive model.
 //!
-//!     walk            two lines for each walk, the first with the most memory that the program has had; then `walked: ..`
-//!     walk --control  the naive model alone, which lets two of three processes be at 30 if est is kept at GO 24; and
-//!                     with cells that are not told, so that the order of two words matters though none is seen to clash
+//!     walk            three lines for each walk, the first with the most memory that the program has had; then
+//!                     `walked: ..`
+//!     walk --control  the naive model alone, which lets two of three processes be at 30 if est is kept at GO 24; with
+//!                     cells that are not told, so that the order of two words matters though none is seen to clash;
+//!                     and with rounds that never end or end too late
 //!
-//! It exits with 1 after a difference, a table that breaks demand 3, two words without a clash whose order matters, or
-//! a figure other than the one expected.
+//! It exits with 1 after a difference, a table that breaks demand 3, two words without a clash whose order matters,
+//! rounds that lead nobody to 30 in time, or a figure other than the one expected.
 
 use reference::compare::{Case, Engine, Hex, Naive};
 use reference::naive::Fault;
-use reference::walk::{control, Beside, Exchange, Figures, Finding, Found, Walk};
-use reference::walk::{EVERY_OF_2, SHORTEST, UNTOLD, ZEROS_OF_2, ZEROS_OF_3};
+use reference::walk::{control, Beside, Exchange, Figures, Finding, Found, Silence, Walk};
+use reference::walk::{EVERY_OF_2, SHORTEST, TOO_LONG, UNTOLD, ZEROS_OF_2, ZEROS_OF_3};
 use reference::Tally;
 use std::time::Instant;
 
@@ -53,10 +55,13 @@ fn passes(walk: &Walk, engine: &dyn Engine) -> bool {
             let seconds = start.elapsed().as_secs_f64();
             println!("walk {}: {}, {seconds:.1} s, {} MB", walk.name, shown(&figures), most_memory());
             println!("exchange {}: {}", walk.name, exchanged(&figures.exchange));
-            if figures != walk.expected {
-                println!("EXPECTED: {}; {}", shown(&walk.expected), exchanged(&walk.expected.exchange));
+            println!("rounds {}: {}", walk.name, rounded(&figures.silence));
+            let Walk { expected, .. } = walk;
+            if figures != *expected {
+                let (pairs, rounds) = (exchanged(&expected.exchange), rounded(&expected.silence));
+                println!("EXPECTED: {}; {pairs}; {rounds}", shown(expected));
             }
-            figures == walk.expected
+            figures == *expected
         }
         Err(found) => {
             println!("walk {}", walk.name);
@@ -77,6 +82,10 @@ fn exchanged(Exchange { apart, ahead_differs, clashing, clash_differs }: &Exchan
     )
 }
 
+fn rounded(Silence { tables, rounds, most }: &Silence) -> String {
+    format!("from {tables} tables with somebody at 20 to 24 and nobody at 30, {rounds} in all, at most {most} from one")
+}
+
 /// The most memory that this program has had so far, in MB.
 fn most_memory() -> u64 {
     let status = std::fs::read_to_string("/proc/self/status").expect("Linux");
@@ -89,6 +98,7 @@ fn show(found: Found<Finding>, engine: &dyn Engine) {
         Finding::Difference(case) => ("DIFFERENCE", vec![case]),
         Finding::Demand3(case) => ("DEMAND 3 BROKEN", vec![case]),
         Finding::Exchange(cases) => ("THE ORDER OF TWO WORDS MATTERS", cases.to_vec()),
+        Finding::Silence(case) => ("ROUNDS LEAD NOBODY TO 30 IN TIME", vec![case]),
     };
     for case in cases {
         println!("{what}: {case}");
@@ -104,7 +114,9 @@ fn controls() -> bool {
     show_control(2, &two);
     show_control(3, &three);
     let exchanges = UNTOLD.map(exchange_fails);
-    two.is_ok() && three.is_err_and(|found| found.words.len() == SHORTEST) && exchanges == [true; UNTOLD.len()]
+    let rounds = TOO_LONG.map(rounds_fail);
+    let excluded = two.is_ok() && three.is_err_and(|found| found.words.len() == SHORTEST);
+    excluded && exchanges == [true; UNTOLD.len()] && rounds == [true; TOO_LONG.len()]
 }
 
 /// The naive model with a fault on both sides, so that they agree: two words whose order matters are found.
@@ -113,6 +125,18 @@ fn exchange_fails(fault: Fault) -> bool {
         Err(Found { finding: Finding::Exchange(cases), words, .. }) => {
             println!("control exchange, {fault:?}: after {} words the order of two matters", words.len());
             cases.iter().for_each(|case| println!("  {case}\n  leads to {}", case.answer(&Naive(fault))));
+            true
+        }
+        _ => false,
+    }
+}
+
+/// The same: rounds that lead nobody to 30 in time are found.
+fn rounds_fail(fault: Fault) -> bool {
+    match (ZEROS_OF_2.over)(&Beside { engine: &Naive(fault), fault }) {
+        Err(Found { finding: Finding::Silence(case), words, .. }) => {
+            println!("control rounds, {fault:?}: after {} words there are too many", words.len());
+            println!("  {case}\n  lead to {}", case.answer(&Naive(fault)));
             true
         }
         _ => false,

@@ -3,7 +3,7 @@
 use super::lent::{lend, lend_to_read, Lent, FILL, FILL_WORD};
 use super::{Case, Engine};
 use crate::generate::inputs::Input;
-use crate::{refusal, Census, PartsAnswer, Ran, Reading, Row, StepAnswer, Tally, WordAnswer};
+use crate::{refusal, Census, PartsAnswer, Ran, Reading, Rounded, Row, StepAnswer, Tally, WordAnswer};
 
 #[derive(Clone, Debug, PartialEq, Eq)]
 pub enum Answer {
@@ -13,6 +13,7 @@ pub enum Answer {
     Step { stepped: StepAnswer, rows: Lent<Row> },
     Run { ran: Ran, tally: Lent<Tally>, rows: Lent<Row> },
     Census { census: Census, input_whole: bool },
+    Rounds { rounded: Rounded, rows: Lent<Row> },
     Fresh { refusal: u16, rows: Lent<Row> },
     TakeApart(PartsAnswer),
     PutTogether(WordAnswer),
@@ -40,6 +41,10 @@ impl Case {
             Case::Census { rows } => {
                 let (census, input_whole) = lend_to_read(rows, 0, |rows| engine.census(rows));
                 Answer::Census { census, input_whole }
+            }
+            Case::Rounds { rows } => {
+                let (rounded, rows) = lend(rows, 0, |rows| (engine.rounds(rows), true));
+                Answer::Rounds { rounded, rows }
             }
             Case::Fresh { rows } => {
                 let (refusal, rows) = lend(rows, 0, |rows| (engine.fresh(rows), true));
@@ -90,6 +95,7 @@ impl Answer {
             Answer::Fresh { refusal, .. } | Answer::WriteImage { refusal, .. } => *refusal,
             Answer::Run { ran, .. } => ran.refusal as u16,
             Answer::Census { census, .. } => census.refusal,
+            Answer::Rounds { rounded, .. } => rounded.refusal,
             Answer::TakeApart(parts) => parts.refusal,
             Answer::PutTogether(word) => word.refusal as u16,
             Answer::ReadImage { reading, .. } => reading.refusal,

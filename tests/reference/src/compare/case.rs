@@ -12,6 +12,7 @@ pub enum Kind {
     Step,
     Run,
     Census,
+    Rounds,
     Fresh,
     TakeApart,
     PutTogether,
@@ -20,13 +21,14 @@ pub enum Kind {
 }
 
 impl Kind {
-    pub const ALL: [Kind; 11] = [
+    pub const ALL: [Kind; 12] = [
         Kind::Call,
         Kind::Text,
         Kind::Print,
         Kind::Step,
         Kind::Run,
         Kind::Census,
+        Kind::Rounds,
         Kind::Fresh,
         Kind::TakeApart,
         Kind::PutTogether,
@@ -45,6 +47,7 @@ pub enum Case {
     Step { rows: Vec<Row>, word: u32 },
     Run { rows: Vec<Row>, words: Vec<u32>, tally: Tally },
     Census { rows: Vec<Row> },
+    Rounds { rows: Vec<Row> },
     Fresh { rows: Vec<Row> },
     TakeApart { word: u32 },
     PutTogether { kind: u32, process: u32, argument: u32 },
@@ -61,6 +64,7 @@ impl Case {
             Case::Step { .. } => Kind::Step,
             Case::Run { .. } => Kind::Run,
             Case::Census { .. } => Kind::Census,
+            Case::Rounds { .. } => Kind::Rounds,
             Case::Fresh { .. } => Kind::Fresh,
             Case::TakeApart { .. } => Kind::TakeApart,
             Case::PutTogether { .. } => Kind::PutTogether,

@@ -1,5 +1,6 @@
 //! What a comparison has met, so that it cannot go blind.
 
+use super::rounds::Rounds;
 use super::{Answer, Case, Kind};
 use crate::bytes::{read_input, words};
 use crate::row::{at_30, Row, LOCATIONS, MOST};
@@ -25,7 +26,8 @@ pub struct Cells {
 }
 
 /// Calls by kind, refusals by kind and number, words taken; for each number of processes the CANCELs among these, the
-/// lines of printed runs with two or more at 30, and visits of each location; lines with ten or more at 30; cells told.
+/// lines of printed runs with two or more at 30, and visits of each location; lines with ten or more at 30; cells told;
+/// what rounds answered.
 #[derive(Clone, Debug, Default)]
 pub struct Counts {
     pub calls: [u64; Kind::ALL.len()],
@@ -36,6 +38,7 @@ pub struct Counts {
     pub ten_together: u64,
     pub visits: [[u64; LOCATIONS.len()]; MOST + 1],
     pub cells: Cells,
+    pub rounds: Rounds,
 }
 
 impl Counts {
@@ -44,6 +47,7 @@ impl Counts {
         self.calls[kind] += 1;
         self.refusals[kind][answer.refusal() as usize] += 1;
         self.cells.note(answer);
+        self.rounds.note(answer);
         match (case, answer.refusal()) {
             (_, 1..=7 | 12..) => {}
             (Case::Call { input, .. }, _) => self.walk_input(&input.bytes, false),
@@ -86,7 +90,7 @@ impl Counts {
             Kind::Text => &[0, 1, 2, 3, 4, 5, 8, 9, 10, 11, 12, 14],
             Kind::Step => &[0, 6, 7, 8, 9, 10, 11],
             Kind::Run => &[0, 6, 7, 8, 9, 10, 11, 12],
-            Kind::Census => &[0, 6, 7],
+            Kind::Census | Kind::Rounds => &[0, 6, 7],
             Kind::Fresh => &[0, 6],
             Kind::TakeApart => &[0, 8, 9],
             Kind::PutTogether => &[0, 8, 9, 11],
@@ -123,6 +127,9 @@ impl Counts {
             unseen.push("no line with ten at 30".to_string());
         }
         unseen.extend(self.cells_unseen());
+        if self.calls[Kind::Rounds as usize] > 0 {
+            unseen.extend(self.rounds.unseen());
+        }
         unseen
     }
 
@@ -169,7 +176,7 @@ impl Counts {
         let refusals = self.met().into_iter().enumerate().map(|(number, met)| (number.to_string(), met));
         let visits = LOCATIONS.iter().map(|loc| loc.to_string()).zip(total);
         out + &format!(
-            "\nsummary: seed {seed}: calls [{}] words {} cancels {} lines with two at 30 {}, with ten {} {} \
+            "\nsummary: seed {seed}: calls [{}] words {} cancels {} lines with two at 30 {}, with ten {} {} {} \
              refusals [{}] visits [{}]",
             listed(calls),
             self.words,
@@ -177,6 +184,7 @@ impl Counts {
             self.together.iter().sum::<u64>(),
             self.ten_together,
             self.cells.report(),
+            self.rounds.report(),
             listed(refusals),
             listed(visits)
         )

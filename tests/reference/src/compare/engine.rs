@@ -2,7 +2,7 @@
 
 use super::Kind;
 use crate::naive::{self, Fault};
-use crate::{Census, PartsAnswer, Ran, Reading, Row, StepAnswer, Tally, WordAnswer};
+use crate::{Census, PartsAnswer, Ran, Reading, Rounded, Row, StepAnswer, Tally, WordAnswer};
 
 /// Every function of include/zaguypo.h, and the printing program as `text`. An engine that lacks a kind of call says so in
 /// `offers` and is not asked for it.
@@ -15,6 +15,7 @@ pub trait Engine {
     fn step(&self, rows: &mut [Row], word: u32) -> StepAnswer;
     fn run(&self, rows: &mut [Row], words: &[u32], tally: &mut Tally) -> Ran;
     fn census(&self, rows: &[Row]) -> Census;
+    fn rounds(&self, rows: &mut [Row]) -> Rounded;
     fn fresh(&self, rows: &mut [Row]) -> u16;
     fn take_apart(&self, word: u32) -> PartsAnswer;
     fn put_together(&self, kind: u32, process: u32, argument: u32) -> WordAnswer;
@@ -49,6 +50,9 @@ impl Engine for Reference {
     }
     fn census(&self, rows: &[Row]) -> Census {
         crate::census(rows)
+    }
+    fn rounds(&self, rows: &mut [Row]) -> Rounded {
+        crate::rounds(rows)
     }
     fn fresh(&self, rows: &mut [Row]) -> u16 {
         crate::fresh_in(rows)
@@ -94,6 +98,9 @@ impl Engine for Naive {
     }
     fn census(&self, rows: &[Row]) -> Census {
         naive::census(rows, self.0)
+    }
+    fn rounds(&self, rows: &mut [Row]) -> Rounded {
+        naive::rounds(rows, self.0)
     }
     fn fresh(&self, rows: &mut [Row]) -> u16 {
         naive::fresh(rows, self.0)

@@ -1,15 +1,15 @@
 //! The linked library behind the common face. Everything that depends on its names and types is in the one block below.
 
 use super::{Engine, Kind};
-use crate::{Census, PartsAnswer, Ran, Reading, Row, StepAnswer, Tally, WordAnswer};
+use crate::{Census, PartsAnswer, Ran, Reading, Rounded, Row, StepAnswer, Tally, WordAnswer};
 use std::io::{Read, Write};
 use std::path::PathBuf;
 use std::process::{Command, Stdio};
 
 /// THE EXPORTED NAMES, as include/zaguypo.h declares them. The records are `repr(C)` in row.rs, cell.rs, step.rs,
-/// run.rs, census.rs, image.rs and word.rs.
+/// run.rs, census.rs, rounds.rs, image.rs and word.rs.
 mod exported {
-    use crate::{Census, PartsAnswer, Ran, Reading, Row, StepAnswer, Tally, WordAnswer};
+    use crate::{Census, PartsAnswer, Ran, Reading, Rounded, Row, StepAnswer, Tally, WordAnswer};
     use std::ffi::c_char;
 
     extern "C" {
@@ -21,6 +21,7 @@ mod exported {
         pub fn zaguypo_run_rows(rows: *mut Row, size: usize, words: *const u32, count: usize, tally: *mut Tally)
             -> Ran;
         pub fn zaguypo_census(rows: *const Row, size: usize) -> Census;
+        pub fn zaguypo_rounds(rows: *mut Row, size: usize) -> Rounded;
 
         pub fn zaguypo_read(words: *const u32, count: usize, rows: *mut Row, size: usize) -> Reading;
         pub fn zaguypo_write(rows: *const Row, size: usize, words: *mut u32, count: usize) -> u16;
@@ -30,8 +31,8 @@ mod exported {
     }
 }
 
-// the sizes that C has for the answers with a cell; the second ends in two bytes of padding
-const _: () = assert!(size_of::<StepAnswer>() == 8 && size_of::<Ran>() == 16);
+// the sizes that C has for the answers with a cell, the second of which ends in two bytes of padding, and for rounds
+const _: () = assert!(size_of::<StepAnswer>() == 8 && size_of::<Ran>() == 16 && size_of::<Rounded>() == 6);
 
 /// The library, and the printing program if its path is given.
 pub struct Linked {
@@ -71,6 +72,10 @@ impl Engine for Linked {
 
     fn census(&self, rows: &[Row]) -> Census {
         unsafe { exported::zaguypo_census(rows.as_ptr(), rows.len()) }
+    }
+
+    fn rounds(&self, rows: &mut [Row]) -> Rounded {
+        unsafe { exported::zaguypo_rounds(rows.as_mut_ptr(), rows.len()) }
     }
 
     fn fresh(&self, rows: &mut [Row]) -> u16 {

@@ -2,6 +2,7 @@
 
 use super::{Case, Kind};
 use crate::generate::inputs::{input, lone_image, some_count, some_size, some_table, Input};
+use crate::generate::rounds::table_for_rounds;
 use crate::generate::schedule::{faulty_word, schedule};
 use crate::generate::tables::{damage_rows, old_rows};
 use crate::generate::Random;
@@ -24,6 +25,7 @@ pub fn make_case(rng: &mut Random, kind: Kind) -> Case {
         }
         Kind::Run => make_run(rng),
         Kind::Census => Case::Census { rows: lent_rows(rng) },
+        Kind::Rounds => make_rounds(rng),
         Kind::Fresh => {
             let count = if rng.chance(1, 2) { some_size(rng) } else { rng.pick(&[0, 1, 2, 15, 16, 17, 18, 32, 33]) };
             Case::Fresh { rows: old_rows(rng, count) }
@@ -44,15 +46,20 @@ pub fn make_case(rng: &mut Random, kind: Kind) -> Case {
 fn lent_rows(rng: &mut Random) -> Vec<Row> {
     let n = some_size(rng);
     let mut rows = walked(rng, n);
+    spoil(rng, &mut rows);
+    rows
+}
+
+/// Damages one table in four, or gives it a wrong number of rows.
+fn spoil(rng: &mut Random, rows: &mut Vec<Row>) {
     match rng.below(16) {
-        0..=2 => damage_rows(rng, &mut rows),
+        0..=2 => damage_rows(rng, rows),
         3 => rows.resize(rng.pick(&[0, 1, 17, 18, 33]), Row::IDLE),
         _ => {}
     }
     if rng.chance(1, 64) {
-        damage_rows(rng, &mut rows);
+        damage_rows(rng, rows);
     }
-    rows
 }
 
 /// A table, as it is or after some words.
@@ -90,6 +97,14 @@ fn make_run(rng: &mut Random) -> Case {
     let mut old = || rng.below(1000) as u32;
     let tally = Tally { words: old(), comes: old(), arrivals: old() };
     Case::Run { rows, words, tally }
+}
+
+/// Three tables in four are sound, most of them such that rounds are done.
+fn make_rounds(rng: &mut Random) -> Case {
+    let n = some_size(rng);
+    let mut rows = table_for_rounds(rng, n);
+    spoil(rng, &mut rows);
+    Case::Rounds { rows }
 }
 
 /// A printed run with about as many bytes lent as its text has, or as every text may have.

@@ -9,6 +9,7 @@ mod lent;
 mod linked;
 mod making;
 mod pieces;
+mod rounds;
 mod show;
 mod shrink;
 
@@ -19,5 +20,6 @@ pub use engine::{Engine, Naive, Reference};
 #[cfg(feature = "linked")]
 pub use linked::Linked;
 pub use making::make_case;
+pub use rounds::Rounds;
 pub use show::Hex;
 pub use shrink::shrink;

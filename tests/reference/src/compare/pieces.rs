@@ -70,7 +70,7 @@ pub fn with_words(case: &Case, list: Vec<u32>) -> Case {
 pub fn rows_of(case: &Case) -> Option<Vec<Row>> {
     match case {
         Case::Step { rows, .. } | Case::Run { rows, .. } | Case::Census { rows } => Some(rows.clone()),
-        Case::Fresh { rows } | Case::WriteImage { rows, .. } => Some(rows.clone()),
+        Case::Rounds { rows } | Case::Fresh { rows } | Case::WriteImage { rows, .. } => Some(rows.clone()),
         Case::ReadImage { words, .. } => read(words.iter().copied()).ok().map(|table| table.to_vec()),
         _ => read_input(bytes_of(case)?).ok().map(|input| input.table.to_vec()),
     }
@@ -85,7 +85,7 @@ pub fn with_rows(case: &Case, new: Vec<Row>) -> Case {
     let mut case = case.clone();
     match &mut case {
         Case::Step { rows, .. } | Case::Run { rows, .. } | Case::Census { rows } => *rows = new,
-        Case::Fresh { rows } | Case::WriteImage { rows, .. } => *rows = new,
+        Case::Rounds { rows } | Case::Fresh { rows } | Case::WriteImage { rows, .. } => *rows = new,
         Case::ReadImage { words, rows } if sound => {
             rows.truncate((rows.len() + new.len()).saturating_sub(words.len() / 5));
             *words = image_of(&new);

@@ -3,7 +3,7 @@
 use super::lent::{Lent, FILL};
 use super::{Answer, Case};
 use crate::generate::inputs::Input;
-use crate::{PartsAnswer, Ran, Reading, Row, StepAnswer, WordAnswer};
+use crate::{PartsAnswer, Ran, Reading, Rounded, Row, StepAnswer, Tally, WordAnswer};
 use std::fmt;
 
 /// Words in hexadecimal, ten a line.
@@ -68,6 +68,7 @@ impl fmt::Display for Case {
                 write!(f, "\n  {} words:{}", words.len(), Hex(words))
             }
             Case::Census { rows } => show_with_rows(f, "census".into(), rows),
+            Case::Rounds { rows } => show_with_rows(f, "rounds".into(), rows),
             Case::Fresh { rows } => show_with_rows(f, "fresh table".into(), rows),
             Case::ReadImage { words, rows } => {
                 show_with_rows(f, "image read".into(), rows)?;
@@ -99,6 +100,12 @@ fn show_whole(f: &mut fmt::Formatter, guards_whole: bool, input_whole: bool) -> 
 fn show_lent_rows(f: &mut fmt::Formatter, what: String, rows: &Lent<Row>) -> fmt::Result {
     show_with_rows(f, what, &rows.inside)?;
     show_lent(f, rows)
+}
+
+fn show_ran(f: &mut fmt::Formatter, ran: &Ran, tally: &Lent<Tally>, rows: &Lent<Row>) -> fmt::Result {
+    let Ran { taken, refusal, cell } = ran;
+    show_lent_rows(f, format!("taken {taken} refusal {refusal} cell {cell}, {:?}", tally.inside[0]), rows)?;
+    show_lent(f, tally)
 }
 
 /// The text of a printed run, where it fits, and what else happened to the lent bytes.
@@ -134,10 +141,9 @@ impl fmt::Display for Answer {
                 show_lent_rows(f, format!("refusal {refusal}, cell {cell}"), rows)
             }
             Answer::Fresh { refusal, rows } => show_lent_rows(f, format!("refusal {refusal}"), rows),
-            Answer::Run { ran: Ran { taken, refusal, cell }, tally, rows } => {
-                let what = format!("taken {taken} refusal {refusal} cell {cell}, {:?}", tally.inside[0]);
-                show_lent_rows(f, what, rows)?;
-                show_lent(f, tally)
+            Answer::Run { ran, tally, rows } => show_ran(f, ran, tally, rows),
+            Answer::Rounds { rounded: Rounded { refusal, rounds, occupied }, rows } => {
+                show_lent_rows(f, format!("refusal {refusal}, rounds {rounds}, occupied {occupied}"), rows)
             }
             Answer::ReadImage { reading: Reading { refusal, place, size }, rows } => {
                 show_lent_rows(f, format!("refusal {refusal}, place {place}, size {size}"), rows)

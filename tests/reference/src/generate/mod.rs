@@ -2,6 +2,7 @@
 
 pub mod inputs;
 pub mod random;
+pub mod rounds;
 pub mod schedule;
 pub mod tables;
 

@@ -6,6 +6,7 @@ mod bytes;
 mod calls;
 mod cells;
 mod image;
+mod rounds;
 mod step;
 mod system;
 mod words;
@@ -13,11 +14,12 @@ mod words;
 pub use bytes::{c_call, print, text};
 pub use calls::{census, fresh, run, step, Standing};
 pub use image::{read_image, write_image};
+pub use rounds::rounds;
 pub use words::{put_together, take_apart};
 
 /// One error put into the model; the first group is of errors that are near, the third of CANCEL and the kinds, the
 /// fourth of the printed number at 30, which may be carried wrongly, the fifth of the shared cell that a step, a run
-/// and a line tell, the last that of memory lent by C and of answers in records.
+/// and a line tell, the sixth of rounds, the last that of memory lent by C and of answers in records.
 #[derive(Clone, Copy, Debug, PartialEq, Eq)]
 pub enum Fault {
     None,
@@ -116,6 +118,28 @@ pub enum Fault {
     PrintedTurnAsAct,
     PrintedCellOfWordBefore,
 
+    LooksAtHighest,
+    RoundComesAt10,
+    RoundFromTheLast,
+    RoundAllAtOnce,
+    RoundEndsAt30,
+    RoundEndsAt30Uncounted,
+    OneRoundFewer,
+    OneRoundMore,
+    BoundWithNAnd2,
+    BoundOneLess,
+    BoundOneMore,
+    PendingFrom21,
+    PendingAlsoAt40,
+    NobodyPendingUnseen,
+    At30BeforehandUnseen,
+    RoundsTake40For30,
+    OccupiedBeforeTheLastRound,
+    OccupiedBeforehandUntold,
+    OccupiedIsANumber,
+    RoundsOnACopy,
+    RoundsClearRefusedRows,
+
     FreshOf17Rows,
     FreshKeepsWhatMayBeAnything,
     ReadLentBeforeWords,
@@ -135,7 +159,7 @@ pub enum Fault {
 }
 
 impl Fault {
-    pub const ALL: [Fault; 106] = [
+    pub const ALL: [Fault; 127] = [
         Fault::Counts40With30,
         Fault::EstKeptAtGo24,
         Fault::TurnBeforeSizeOfEst,
@@ -226,6 +250,27 @@ impl Fault {
         Fault::PrintedIndexOfOneDigit,
         Fault::PrintedTurnAsAct,
         Fault::PrintedCellOfWordBefore,
+        Fault::LooksAtHighest,
+        Fault::RoundComesAt10,
+        Fault::RoundFromTheLast,
+        Fault::RoundAllAtOnce,
+        Fault::RoundEndsAt30,
+        Fault::RoundEndsAt30Uncounted,
+        Fault::OneRoundFewer,
+        Fault::OneRoundMore,
+        Fault::BoundWithNAnd2,
+        Fault::BoundOneLess,
+        Fault::BoundOneMore,
+        Fault::PendingFrom21,
+        Fault::PendingAlsoAt40,
+        Fault::NobodyPendingUnseen,
+        Fault::At30BeforehandUnseen,
+        Fault::RoundsTake40For30,
+        Fault::OccupiedBeforeTheLastRound,
+        Fault::OccupiedBeforehandUntold,
+        Fault::OccupiedIsANumber,
+        Fault::RoundsOnACopy,
+        Fault::RoundsClearRefusedRows,
         Fault::FreshOf17Rows,
         Fault::FreshKeepsWhatMayBeAnything,
         Fault::ReadLentBeforeWords,
@@ -248,5 +293,11 @@ impl Fault {
     pub fn of_step_cells() -> impl Iterator<Item = Fault> {
         let from_the_first = Fault::ALL.into_iter().skip_while(|&fault| fault != Fault::Go20UsesNone);
         from_the_first.take_while(|&fault| fault != Fault::RefusedWordUsesCell)
+    }
+
+    /// Those of rounds, which stand together in ALL.
+    pub fn of_rounds() -> impl Iterator<Item = Fault> {
+        let from_the_first = Fault::ALL.into_iter().skip_while(|&fault| fault != Fault::LooksAtHighest);
+        from_the_first.take_while(|&fault| fault != Fault::FreshOf17Rows)
     }
 }

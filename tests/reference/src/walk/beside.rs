@@ -2,12 +2,13 @@
 
 use super::exchange::{exchange, Exchange, Taken};
 use super::search::Guide;
+use super::silence::Silence;
 use crate::compare::{Case, Engine};
 use crate::naive::{self, Fault, Standing};
 use crate::{refusal, Census, Row};
 
-/// The engine, and the naive model with a fault or none: they must agree, on tables that must meet demand 3 and at
-/// which words without a clash can be exchanged.
+/// The engine, and the naive model with a fault or none: they must agree, on tables that must meet demand 3, at which
+/// words without a clash can be exchanged, and from which rounds lead to 30 in time.
 pub struct Beside<'a> {
     pub engine: &'a dyn Engine,
     pub fault: Fault,
@@ -23,6 +24,9 @@ pub enum Finding {
     /// The order of two words makes a difference to the engine, though the cells that they used do not clash: the
     /// second after the first, and the first after the second.
     Exchange(Box<[Case; 2]>),
+    /// Nobody is at 30 and somebody is at 20 to 24, and rounds lead nobody to 30, or not in time; or rounds are done
+    /// though it is otherwise.
+    Silence(Case),
 }
 
 impl<const N: usize> Guide<N> for Beside<'_> {
@@ -33,7 +37,7 @@ impl<const N: usize> Guide<N> for Beside<'_> {
         rows: &[Row; N],
         words: &[u32],
         mut each: impl FnMut(u32, Option<[Row; N]>),
-    ) -> Result<Exchange, Finding> {
+    ) -> Result<(Exchange, Silence), Finding> {
         self.look(rows)?;
         let model = Standing::new(rows, self.fault);
         let mut taken = Vec::with_capacity(4 * N);
@@ -51,7 +55,9 @@ impl<const N: usize> Guide<N> for Beside<'_> {
             }
             each(word, accepted.then_some(after));
         }
-        exchange(&taken, |rows, word| self.engine.step(rows, word)).map_err(|pair| in_both_orders(&pair))
+        let pairs = exchange(&taken, |rows, word| self.engine.step(rows, word));
+        // last, so that a wrong step is found as such
+        Ok((pairs.map_err(|pair| in_both_orders(&pair))?, self.do_rounds(rows)?))
     }
 }
 
@@ -72,6 +78,22 @@ impl Beside<'_> {
         } else {
             Ok(())
         }
+    }
+
+    /// Rounds from a copy of the table. Those of three processes are compared with the reference, since the naive model
+    /// would take nearly half as long as the walk.
+    fn do_rounds<const N: usize>(&self, rows: &[Row; N]) -> Result<Silence, Finding> {
+        let (mut after, mut model_after) = (*rows, *rows);
+        let rounded = self.engine.rounds(&mut after);
+        let model_rounded = match N {
+            2 => naive::rounds(&mut model_after, self.fault),
+            _ => crate::rounds(&mut model_after),
+        };
+        let case = || Case::Rounds { rows: rows.to_vec() };
+        if (rounded, after) != (model_rounded, model_after) {
+            return Err(Finding::Difference(case()));
+        }
+        Silence::of(rows, &rounded, &after).ok_or_else(|| Finding::Silence(case()))
     }
 }
 

@@ -2,6 +2,7 @@
 
 use super::exchange::Exchange;
 use super::search::{walk, Figures, Found, Guide};
+use super::silence::Silence;
 use super::starts::zeros;
 use crate::naive::{Fault, Standing};
 use crate::row::at_30;
@@ -26,7 +27,7 @@ impl<const N: usize> Guide<N> for Alone {
         rows: &[Row; N],
         words: &[u32],
         mut each: impl FnMut(u32, Option<[Row; N]>),
-    ) -> Result<Exchange, TwoAt30> {
+    ) -> Result<(Exchange, Silence), TwoAt30> {
         if at_30(rows) > 1 {
             return Err(TwoAt30);
         }
@@ -36,7 +37,7 @@ impl<const N: usize> Guide<N> for Alone {
             let answer = model.step(word, &mut after);
             each(word, (answer.refusal == refusal::NONE).then_some(after));
         }
-        // pairs of words are not tried
-        Ok(Exchange::default())
+        // neither pairs of words nor rounds are tried
+        Ok(Default::default())
     }
 }

@@ -1,18 +1,20 @@
 //! Every table that accepted words lead to from fresh tables of two or three processes, with every word given to each,
-//! and every two accepted words of different processes in both orders: an engine beside the naive model, or that model
-//! alone as a control.
+//! every two accepted words of different processes in both orders, and rounds: an engine beside the naive model, or
+//! that model alone as a control.
 
 mod beside;
 mod control;
 mod exchange;
 mod packed;
 mod search;
+mod silence;
 mod starts;
 
 pub use beside::{Beside, Finding};
 pub use control::control;
 pub use exchange::{exchange, Exchange, Taken};
 pub use search::{candidates, walk, Figures, Found};
+pub use silence::{most_needed, Silence};
 
 use crate::naive::Fault;
 use starts::{every_fresh, zeros};
@@ -31,6 +33,7 @@ pub const ZEROS_OF_2: Walk = Walk {
         accepted: 4_164,
         refused: 36_012,
         exchange: Exchange { apart: 3_596, ahead_differs: 40, clashing: 216, clash_differs: 110 },
+        silence: Silence { tables: 984, rounds: 5_012, most: 11 },
     },
     over: |beside| walk(&[zeros::<2>()], beside),
 };
@@ -42,6 +45,7 @@ pub const EVERY_OF_2: Walk = Walk {
         accepted: 371_668,
         refused: 1_849_676,
         exchange: Exchange { apart: 558_292, ahead_differs: 8_456, clashing: 2_400, clash_differs: 1_202 },
+        silence: Silence { tables: 42_554, rounds: 293_170, most: 11 },
     },
     over: |beside| walk(&every_fresh::<2>(), beside),
 };
@@ -53,12 +57,16 @@ pub const ZEROS_OF_3: Walk = Walk {
         accepted: 19_453_920,
         refused: 227_246_808,
         exchange: Exchange { apart: 34_096_971, ahead_differs: 283_104, clashing: 1_960_920, clash_differs: 1_019_472 },
+        silence: Silence { tables: 3_293_451, rounds: 33_802_163, most: 24 },
     },
     over: |beside| walk(&[zeros::<3>()], beside),
 };
 
 /// Words that use a shared cell and do not tell: controls in which the order of two words without a clash matters.
 pub const UNTOLD: [Fault; 2] = [Fault::Go23UsesNone, Fault::FlickerAt24UsesNone];
+
+/// Rounds that lead nobody to 30, and rounds of which one too many is counted: controls that break the bound.
+pub const TOO_LONG: [Fault; 2] = [Fault::LookKeepsIdle, Fault::OneRoundMore];
 
 /// In the control of three processes: the words of a shortest list after which two of them are at 30.
 pub const SHORTEST: usize = 37;

@@ -2,6 +2,7 @@
 
 use super::exchange::Exchange;
 use super::packed::{pack, unpack, Tables};
+use super::silence::Silence;
 use crate::word::{join, CANCEL, STAY};
 use crate::Row;
 
@@ -11,13 +12,13 @@ pub trait Guide<const N: usize> {
     type Finding;
 
     /// Looks at a table and gives it every word; tells `each` the word and what it led to, None where it was refused.
-    /// Answers what it counted of pairs of words.
+    /// Answers what it counted of pairs of words and of rounds.
     fn visit(
         &self,
         rows: &[Row; N],
         words: &[u32],
         each: impl FnMut(u32, Option<[Row; N]>),
-    ) -> Result<Exchange, Self::Finding>;
+    ) -> Result<(Exchange, Silence), Self::Finding>;
 }
 
 /// What a walk counted. Accepted and refused words are pairs of a table and a word.
@@ -27,6 +28,7 @@ pub struct Figures {
     pub accepted: u64,
     pub refused: u64,
     pub exchange: Exchange,
+    pub silence: Silence,
 }
 
 /// What was found at a table, and a shortest list of words that leads to it, with the rows where the list begins.
@@ -59,7 +61,10 @@ pub fn walk<const N: usize, G: Guide<N>>(starts: &[[Row; N]], guide: &G) -> Resu
             None => figures.refused += 1,
         });
         match visited {
-            Ok(pairs) => figures.exchange += pairs,
+            Ok((pairs, rounds)) => {
+                figures.exchange += pairs;
+                figures.silence += rounds;
+            }
             Err(finding) => {
                 let (start, words) = met.way_to(place);
                 return Err(Found { finding, start: unpack::<N>(start).to_vec(), words });

@@ -10,4 +10,5 @@ mod lent;
 mod manual;
 mod models;
 mod printed;
+mod rounds;
 mod walk;

@@ -120,6 +120,32 @@ fn a_comparison_without_stops_or_wide_cells_is_blind() {
     assert!(!misses_after(&mut counts, text(&[at_20; 16], 0x300A0000), wide));
 }
 
+/// Each end of rounds must be met, that at 30 for each number of processes, and both refusals.
+#[test]
+fn a_comparison_without_every_end_of_rounds_is_blind() {
+    let mut counts = Counts::default();
+    let at = |loc, act| Row { loc, act, ..Row::IDLE };
+    let rounds = |rows: &[Row]| Case::Rounds { rows: rows.into() };
+    let ends = [
+        ("no rounds to 30 with 2 processes", vec![at(20, 0), at(10, 0)]),
+        ("no rounds to 30 with 16 processes", vec![at(20, 0); 16]),
+        ("no bound of rounds that is used up", vec![at(20, 0), at(10, 1)]),
+        ("no rounds asked for with a process at 30", vec![at(20, 0), at(30, 0)]),
+        ("no rounds asked for with nobody at 20 to 24 or 30", vec![at(10, 0), at(40, 0)]),
+        ("Rounds never met refusal 6", vec![at(20, 0)]),
+        ("Rounds never met refusal 7", vec![at(20, 0), at(20, 2)]),
+    ];
+    // where no rounds are asked for none is missed
+    assert!(ends.iter().all(|(what, _)| !counts.unseen().iter().any(|unseen| unseen == what)));
+    assert!(misses_after(&mut counts, rounds(&[at(20, 0); 3]), ends[0].0));
+    for (place, (what, rows)) in ends.iter().enumerate() {
+        assert!(!misses_after(&mut counts, rounds(rows), what), "{what}");
+        let later = ends[place + 1..].iter();
+        later.for_each(|(what, _)| assert!(counts.unseen().iter().any(|unseen| unseen == what), "{what}"));
+    }
+    assert!(counts.unseen().contains(&"no rounds to 30 with 15 processes".to_string()));
+}
+
 #[test]
 fn every_fault_is_seen() {
     for fault in Fault::ALL {
@@ -152,6 +178,30 @@ fn the_call_from_c_sees_wrong_moves() {
             case.answer(&Reference) != case.answer(&Naive(fault))
         });
         assert!(seen, "{fault:?} is not seen");
+    }
+}
+
+/// So are they by rounds, but for those of words that no round has; and those of rounds by nothing else.
+#[test]
+fn rounds_see_wrong_moves() {
+    let moves = [
+        Fault::EstKeptAtGo24,
+        Fault::TurnBeforeSizeOfEst,
+        Fault::OwnRowStoreLostAtGo24,
+        Fault::AheadKeptAtGo24,
+        Fault::AheadWithSelfAtGo20,
+        Fault::CompetingFrom20,
+        Fault::CompetingTo40,
+        Fault::LookKeepsIdle,
+        Fault::FallsTwoLevels,
+        Fault::LisFromEveryone,
+        Fault::ActKeptAtGo40,
+    ];
+    for fault in moves.into_iter().chain(Fault::of_rounds()) {
+        assert!(seen_by(Kind::Rounds, fault, 4_000).is_some(), "{fault:?} is not seen");
+    }
+    for kind in Kind::ALL.into_iter().filter(|&kind| kind != Kind::Rounds) {
+        assert!(Fault::of_rounds().all(|fault| seen_by(kind, fault, 20).is_none()), "{kind:?}");
     }
 }
 
@@ -197,6 +247,8 @@ fn a_difference_in_what_c_lends_and_gets_is_made_small() {
     let small = made_small(Kind::Print, Fault::PrintZeroAfterText);
     let text = matches!(&small, Case::Print { input, .. } if input.bytes.len() == 40 && input.lent == 16);
     assert!(text, "not two processes, no words and one byte more: {small}");
+    let small = made_small(Kind::Rounds, Fault::PendingFrom21);
+    assert_eq!(small, Case::Rounds { rows: vec![Row { loc: 20, ..Row::IDLE }, Row::IDLE] });
     let small = made_small(Kind::PutTogether, Fault::TogetherKeepsWordOnRefusal);
     assert_eq!(small, Case::PutTogether { kind: 0, process: 0, argument: 1 });
 }

@@ -2,12 +2,12 @@
 
 use reference::compare::{Answer, Case, Naive, Reference};
 use reference::naive::{self, Fault};
-use reference::walk::{control, walk, Beside, Exchange, Figures, Finding, Found};
-use reference::walk::{EVERY_OF_2, SHORTEST, UNTOLD, ZEROS_OF_2, ZEROS_OF_3};
-use reference::{Ran, Row, Tally};
+use reference::walk::{control, most_needed, walk, Beside, Exchange, Figures, Finding, Found, Silence};
+use reference::walk::{EVERY_OF_2, SHORTEST, TOO_LONG, UNTOLD, ZEROS_OF_2, ZEROS_OF_3};
+use reference::{Ran, Rounded, Row, Tally};
 
 /// Seen by a walk of two processes from every fresh table, and so are those of a step's cell.
-const SEEN: [Fault; 30] = [
+const SEEN: [Fault; 45] = [
     Fault::Counts40With30,
     Fault::AheadClearedAtGo40,
     Fault::OwnRowStoreLostAtGo24,
@@ -39,6 +39,21 @@ const SEEN: [Fault; 30] = [
     // at level 1, an empty est and the turn of another both lead to level 0, bb 0 and 21: the cell tells them apart
     Fault::TurnBeforeSizeOfEst,
     Fault::RefusedWordUsesCell,
+    Fault::RoundComesAt10,
+    Fault::RoundFromTheLast,
+    Fault::RoundAllAtOnce,
+    Fault::RoundEndsAt30,
+    Fault::RoundEndsAt30Uncounted,
+    Fault::OneRoundFewer,
+    Fault::OneRoundMore,
+    Fault::PendingFrom21,
+    Fault::PendingAlsoAt40,
+    Fault::NobodyPendingUnseen,
+    Fault::At30BeforehandUnseen,
+    Fault::RoundsTake40For30,
+    Fault::OccupiedBeforeTheLastRound,
+    Fault::OccupiedBeforehandUntold,
+    Fault::RoundsOnACopy,
 ];
 
 /// Seen by a walk of three processes only. Of two, the level is at most 1 and est has at most the other one in it.
@@ -52,7 +67,7 @@ const SEEN_OF_3: [Fault; 4] = [
 ];
 
 /// Not seen by a walk of two, as is tried, nor by one of three, for the reasons given.
-const UNSEEN: [Fault; 57] = [
+const UNSEEN: [Fault; 63] = [
     // no table that is reached has a process in its own ahead
     Fault::OwnAheadKeptAtGo30,
     // nor a process at 20 in an ahead set
@@ -74,6 +89,14 @@ const UNSEEN: [Fault; 57] = [
     // every table is sound and has two or three rows
     Fault::FirstTurnUnchecked,
     Fault::RowCountAfterRows,
+    Fault::RoundsClearRefusedRows,
+    // of two, lis has one member at most at 22; rounds of three are compared with the reference
+    Fault::LooksAtHighest,
+    // rounds lead to 30 long before the bound, and one process alone
+    Fault::BoundWithNAnd2,
+    Fault::BoundOneLess,
+    Fault::BoundOneMore,
+    Fault::OccupiedIsANumber,
     // the call on bytes is not made
     Fault::NoImageOnStop,
     Fault::LentBeforeWordCount,
@@ -141,7 +164,9 @@ fn every_fault_is_in_one_list() {
 fn differs(found: Found<Finding>, fault: Fault) {
     let Finding::Difference(case) = found.finding else { panic!("{fault:?}: {found:?}") };
     assert_ne!(case.answer(&Reference), case.answer(&Naive(fault)), "{fault:?}");
-    let (Case::Step { rows, .. } | Case::Census { rows }) = case else { panic!("{fault:?}: {case}") };
+    let (Case::Step { rows, .. } | Case::Census { rows } | Case::Rounds { rows }) = case else {
+        panic!("{fault:?}: {case}")
+    };
     let mut led_to = found.start;
     let ran = reference::run(&mut led_to, &found.words, &mut Tally::default());
     assert_eq!((ran.refusal, led_to), (0, rows), "{fault:?}");
@@ -175,7 +200,9 @@ fn faults_that_two_processes_do_not_show() {
 #[test]
 fn a_fault_on_both_sides_breaks_demand_3() {
     let faults = [
-        Fault::LookDropsBusy,
+        Fault::OwnRowStoreLostAtGo24,
+        Fault::MoveKeepsBb,
+        Fault::FallKeepsBb,
         Fault::Counts40With30,
         Fault::HeldAlsoAt24,
         // who cancels at 21 keeps bb, and enters with it again
@@ -248,10 +275,44 @@ fn pairs_of_every_sort_are_met() {
     }
 }
 
+/// The same fault on both sides: they agree, and what is left is that rounds lead nobody to 30, or too late, or are
+/// done where none is asked for.
+#[test]
+fn a_fault_on_both_sides_breaks_the_bound() {
+    let faults = [
+        // somebody waits for good
+        (Fault::LookKeepsIdle, 80, 0),
+        (Fault::LookDropsBusy, 80, 0),
+        (Fault::MoveAtEqualSize, 80, 0),
+        (Fault::ActKeptAtGo40, 80, 0),
+        (Fault::CancelTo10, 80, 0),
+        (Fault::OneRoundMore, 12, 1),
+        (Fault::PendingFrom21, 0, 0),
+        (Fault::PendingAlsoAt40, 80, 0),
+        (Fault::NobodyPendingUnseen, 80, 0),
+        (Fault::RoundsTake40For30, 0, 1),
+    ];
+    assert!(TOO_LONG.iter().all(|control| faults.iter().any(|(fault, ..)| fault == control)));
+    for (fault, rounds, occupied) in faults {
+        let found = (ZEROS_OF_2.over)(&Beside { engine: &Naive(fault), fault }).expect_err("rounds that are wrong");
+        let Finding::Silence(case) = &found.finding else { panic!("{fault:?}: {found:?}") };
+        let Answer::Rounds { rounded, .. } = case.answer(&Naive(fault)) else { panic!("{case}") };
+        assert_eq!(rounded, Rounded { refusal: 0, rounds, occupied }, "{fault:?}");
+    }
+}
+
+/// The most rounds that a walk meets are as many as its processes can need.
+#[test]
+fn the_bound_is_met() {
+    for (walk, n) in [(ZEROS_OF_2, 2), (EVERY_OF_2, 2), (ZEROS_OF_3, 3)] {
+        assert_eq!(usize::from(walk.expected.silence.most), most_needed(n), "{}", walk.name);
+    }
+}
+
 #[test]
 fn est_kept_at_go_24_lets_two_of_three_be_at_30() {
-    let without_pairs = Figures { exchange: Exchange::default(), ..ZEROS_OF_2.expected };
-    assert_eq!(control::<2>().expect("never two at 30"), without_pairs);
+    let words_alone = Figures { exchange: Exchange::default(), silence: Silence::default(), ..ZEROS_OF_2.expected };
+    assert_eq!(control::<2>().expect("never two at 30"), words_alone);
 
     let Found { start, words, .. } = control::<3>().expect_err("two at 30");
     assert_eq!((&start, words.len()), (&vec![Row::IDLE; 3], SHORTEST));

@@ -1,0 +1,61 @@
+//! Tables to do rounds from: those that lists make, sound ones that no list makes, and those that ask for no round.
+
+use super::schedule::schedule;
+use super::tables::{fresh_table, sound_table};
+use super::Random;
+use crate::row::Row;
+use crate::Tally;
+
+/// A sound table of n processes.
+pub fn table_for_rounds(rng: &mut Random, n: usize) -> Vec<Row> {
+    match rng.below(16) {
+        0..=5 => quiet(rng, n),
+        6..=9 => made_by_a_list(rng, n),
+        10 | 11 => after_every_come(rng, n),
+        12 => placed(rng, n, &[10, 20, 40], Some(20)),
+        13 => placed(rng, n, &[10, 40], Some(40)),
+        14 => placed(rng, n, &[40], None),
+        _ => sound_table(rng, n),
+    }
+}
+
+/// A fresh table after COME of each process, from where the rounds are as many as a list can leave to be done.
+pub fn after_every_come(rng: &mut Random, n: usize) -> Vec<Row> {
+    fresh_table(rng, n).into_iter().map(|row| Row { loc: 20, ..row }).collect()
+}
+
+/// A table that some words made from a fresh one.
+fn made_by_a_list(rng: &mut Random, n: usize) -> Vec<Row> {
+    let mut rows = fresh_table(rng, n);
+    let count = rng.pick(&[20, 100, 600]);
+    let count = rng.below(count);
+    let words = schedule(rng, &rows, count, 0);
+    crate::run(&mut rows, &words, &mut Tally::default());
+    rows
+}
+
+/// Any sound table with nobody at 30. A process at 10 whose act is 1 stays in est for good, so that the bound is used
+/// up: among many processes, where that is long, such are rare.
+fn quiet(rng: &mut Random, n: usize) -> Vec<Row> {
+    let stuck = rng.chance(1, if n <= 4 { 2 } else { 4 * n });
+    let mut rows = sound_table(rng, n);
+    for row in &mut rows {
+        if row.loc == 30 {
+            row.loc = rng.pick(&[10, 20, 40]);
+        }
+        if row.loc == 10 && !stuck {
+            row.act = 0;
+        }
+    }
+    rows
+}
+
+/// Any sound table with every process at one of some locations, which ask for no level, and one at another.
+fn placed(rng: &mut Random, n: usize, locations: &[u16], one: Option<u16>) -> Vec<Row> {
+    let mut rows = sound_table(rng, n);
+    rows.iter_mut().for_each(|row| row.loc = rng.pick(locations));
+    if let Some(loc) = one {
+        rows[rng.below(n)].loc = loc;
+    }
+    rows
+}
