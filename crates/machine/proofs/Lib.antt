@@ -34,4 +34,5 @@ pub mod ExportExamples
 pub mod CensusExamples
 pub mod CarriedExamples
 pub mod CellExamples
+pub mod RoundExamples
 pub mod WholeText

@@ -105,3 +105,12 @@ pub fn rounds(cells: &mut [[u16; 8]]) -> RoundsAnswer
     }
     run_rounds(cells)
 }
+
+// Rounds for C (include/zaguypo.h), in the lent rows.
+#[no_mangle]
+pub extern "C" fn zaguypo_rounds(rows: &mut [[u16; 8]]) -> RoundsAnswer
+    ensures { λ a. ⌜ (a ≡ roundsOf (rowsOf (now (rows .entry))) .answer)
+        × (rowsOf (now (rows .exit)) ≡ roundsOf (rowsOf (now (rows .entry))) .table) ⌝ }
+{
+    rounds(rows)
+}

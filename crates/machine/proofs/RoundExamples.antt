@@ -1,0 +1,117 @@
+-- Rounds, evaluated: the word of each location, the order within a round, what rounds answer, and a sound table that no
+-- list of words makes, from which nobody ever enters. Assumes nothing.
+use Prim.Native.Nat.{ℕ}
+use mathlib.Core.Path.{_≡_, refl}
+use mathlib.Core.Bool.{true}
+use mathlib.Core.List.{List, [], _∷_, map}
+use Rattle.counting.specs.Sets.{lowest, lowestFrom}
+use Rattle.machine.specs.Rows.{idle, withLocation, withAct, withBb, withLevel, withEst, withLis, withTurn}
+use Rattle.machine.specs.Tables.{Table, sound, freshTable}
+use Rattle.machine.specs.Steps.{afterWords}
+use Rattle.machine.specs.Census.{critical, upTo}
+use Rattle.machine.specs.Rounds.{roundWord, roundTo, round, pending, roundLimit, silenceBound, allCome}
+use Rattle.machine.specs.Rounds.{Rounded, roundsFrom, roundsOf}
+use Rattle.machine.specs.declared.RoundsAnswer.{RoundsAnswer}
+use Rattle.machine.proofs.Benchmarks.{evaluated}
+
+-- rounds from a table; `unfolding completed` is enough to compute them
+unfoldable completed : Table → Rounded
+unfolding evaluated roundsOf roundsFrom round roundTo roundWord lowest lowestFrom
+completed t = roundsOf t
+
+pub locationsOf : Table → List ℕ
+locationsOf t = map (λ r. r .location) t
+
+abbrev answers : ℕ → ℕ → ℕ → RoundsAnswer
+answers refusal r o = record { refusal = refusal; rounds = r; occupied = o }
+
+-- ---- the word of a round
+
+pub lowest-members : map lowest (0 ∷ 1 ∷ 6 ∷ 40 ∷ 32768 ∷ 65535 ∷ []) ≡ 0 ∷ 0 ∷ 1 ∷ 3 ∷ 15 ∷ 0 ∷ []
+unfolding completed
+lowest-members = refl
+
+-- process 1 of three at location l, with lis s
+abbrev placedAt : ℕ → ℕ → Table
+placedAt l s = idle ∷ withLocation l (withLis s idle) ∷ idle ∷ []
+
+-- STAY at 10, whatever lis is; LOOK at 22 alone, at the lower of two members; GO elsewhere
+pub word-at-each :
+    (map (λ l. roundWord (placedAt l 5) 1) (10 ∷ 20 ∷ 21 ∷ 22 ∷ 23 ∷ 24 ∷ 30 ∷ 40 ∷ [])
+    ≡ 0x10010000 ∷ 0x40010000 ∷ 0x40010000 ∷ 0x50010000 ∷ 0x40010000 ∷ 0x40010000 ∷ 0x40010000 ∷ 0x40010000 ∷ [])
+    × (map (λ s. roundWord (placedAt 22 s) 1) (0 ∷ 4 ∷ 6 ∷ []) ≡ 0x40010000 ∷ 0x50010002 ∷ 0x50010001 ∷ [])
+unfolding completed
+word-at-each = (refl, refl)
+
+-- process 0 at 20 shows act before process 1 looks at it, and process 2 looks after both: est keeps 0 in either
+pub in-number-order :
+    map (λ r. r .est)
+    (round
+    (withLocation 20 idle
+    ∷ withLocation 22 (withAct 1 (withLevel 2 (withEst 5 (withLis 1 idle))))
+    ∷ withLocation 22 (withAct 1 (withLevel 2 (withEst 3 (withLis 1 idle))))
+    ∷ []))
+    ≡ 6 ∷ 5 ∷ 3 ∷ []
+unfolding completed
+in-number-order = refl
+
+-- ---- what rounds answer
+
+-- process 0 goes to 30, and process 1 is given its word all the same: a round is not cut short
+pub to-the-end-of-a-round :
+    (roundsOf (withLocation 21 (withAct 1 idle) ∷ withLocation 20 idle ∷ []) .answer ≡ answers 0 1 1)
+    × (locationsOf (roundsOf (withLocation 21 (withAct 1 idle) ∷ withLocation 20 idle ∷ []) .table) ≡ 30 ∷ 21 ∷ [])
+unfolding locationsOf completed
+to-the-end-of-a-round = (refl, refl)
+
+-- somebody at 30 beforehand, though somebody is at 20 as well; nobody at 20 to 24 nor at 30, and who is at 40 stays there
+pub no-round :
+    (roundsOf (withLocation 20 idle ∷ withLocation 30 (withAct 1 idle) ∷ []) .answer ≡ answers 0 0 1)
+    × (roundsOf (withLocation 40 idle ∷ withLocation 30 (withAct 1 idle) ∷ []) .answer ≡ answers 0 0 1)
+    × (roundsOf (withLocation 40 (withAct 1 idle) ∷ idle ∷ []) .answer ≡ answers 0 0 0)
+    × (locationsOf (roundsOf (withLocation 40 (withAct 1 idle) ∷ idle ∷ []) .table) ≡ 40 ∷ 10 ∷ [])
+    × (roundsOf (freshTable 2) .answer ≡ answers 0 0 0)
+unfolding locationsOf completed
+no-round = (refl, refl, refl, refl, refl)
+
+-- who is at 20 counts, though the census does not yet count it as waiting
+pub alone-from-20 : roundsOf (withLocation 20 idle ∷ idle ∷ []) .answer ≡ answers 0 6 1
+unfolding completed
+alone-from-20 = refl
+
+-- one row, and act 2
+pub rounds-refused :
+    (roundsOf (withLocation 20 idle ∷ []) .answer ≡ answers 6 0 0)
+    × (roundsOf (withLocation 20 (withAct 2 idle) ∷ idle ∷ []) .answer ≡ answers 7 0 0)
+unfolding completed
+rounds-refused = (refl, refl)
+
+-- ---- the longest silence
+
+pub bounds : (map silenceBound (2 ∷ 3 ∷ 16 ∷ []) ≡ 11 ∷ 24 ∷ 557 ∷ []) × (map roundLimit (2 ∷ 3 ∷ 16 ∷ []) ≡ 80 ∷ 216 ∷ 19456 ∷ [])
+bounds = (refl, refl)
+
+-- all of two, and of three, come
+pub rounds-of-two :
+    (roundsOf (afterWords (freshTable 2) (allCome 2)) .answer ≡ answers 0 11 1)
+    × (locationsOf (roundsOf (afterWords (freshTable 2) (allCome 2)) .table) ≡ 30 ∷ 22 ∷ [])
+    × (roundsOf (afterWords (freshTable 3) (allCome 3)) .answer ≡ answers 0 24 1)
+unfolding locationsOf completed afterWords upTo
+rounds-of-two = (refl, refl, refl)
+
+-- ---- a table that no list of words makes
+
+-- process 0 waits for process 1, which rests and shows act all the same
+abbrev stuck : Table
+stuck =
+    withLocation 21 (withAct 1 (withBb 1 (withLevel 1 (withEst 2 idle)))) ∷ withAct 1 idle ∷ []
+
+-- it is sound, nobody is at 30 and somebody is pending, and the limit is used up: that a list of words made the table
+-- is needed
+pub rounds-used-up :
+    (sound stuck ≡ true)
+    × (critical stuck ≡ 0)
+    × (pending stuck ≡ 1)
+    × (roundsOf stuck .answer ≡ answers 0 80 0)
+unfolding completed sound
+rounds-used-up = (refl, refl, refl, refl)
