@@ -18,7 +18,8 @@ use borrow.Author.Tests.{eq-eqb, ne-eqb}
 use Rattle.counting.specs.Sums.{bit, count}
 use Rattle.counting.specs.Sets.{has, setOf, size, without, others}
 use Rattle.counting.proofs.CountLaws.{Implies, count-cong, count-mono, count-le, count-all, count-none}
-use Rattle.counting.proofs.CountLaws.{count-over, count-one, count-same-but, count-strict, count-pos, count-witness}
+use Rattle.counting.proofs.CountLaws.{count-over, count-one, count-same-but, count-strict, count-pos}
+use Rattle.counting.proofs.CountLaws.{count-witness}
 use Rattle.counting.proofs.SetLaws.{setOf-lt, has-setOf, has-over, has-zero}
 use Rattle.counting.proofs.SetLaws.{without-same, without-other, without-sub}
 

@@ -11,6 +11,7 @@ pub mod Soundness
 pub mod Frames
 pub mod Assignments
 pub mod StepRows
+pub mod BbInside
 pub mod Arcs
 pub mod WordLaws
 pub mod Choices
