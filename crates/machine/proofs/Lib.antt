@@ -12,6 +12,7 @@ pub mod Frames
 pub mod Assignments
 pub mod StepRows
 pub mod BbInside
+pub mod FreshRows
 pub mod Arcs
 pub mod WordLaws
 pub mod Choices

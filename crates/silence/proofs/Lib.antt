@@ -1,3 +1,4 @@
 -- Theorems.antt says what is proved; the others prove it, each from those above it.
 pub mod Steady
+pub mod Kept
 pub mod Due
