@@ -1,4 +1,5 @@
 -- Theorems.antt says what is proved; the others prove it, each from those above it.
 pub mod Steady
 pub mod Kept
+pub mod FirstRound
 pub mod Due
