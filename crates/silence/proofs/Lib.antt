@@ -3,3 +3,4 @@ pub mod Steady
 pub mod Kept
 pub mod FirstRound
 pub mod Due
+pub mod Silence
