@@ -5,16 +5,16 @@
 --
 -- Assumes nothing.
 use Prim.Native.Nat.{ℕ, zero, suc, _+_, _*_, _≤_}
-use mathlib.Core.Path.{_≡_, refl, sym, _∙_, subst}
+use mathlib.Core.Path.{_≡_, refl, subst}
 use mathlib.Core.Logic.{_⊎_, inl, inr}
 use native.Mathlib.Omega.{arith}
 use lib.ListN.{length}
 use Rattle.machine.specs.Tables.{Table}
 use Rattle.machine.specs.Census.{critical}
-use Rattle.machine.specs.Rounds.{round, rounds, pending, roundLimit, silenceBound}
-use Rattle.machine.proofs.RoundLaws.{rounds-zero, rounds-suc}
+use Rattle.machine.specs.Rounds.{round, pending, roundLimit, silenceBound}
 use Rattle.machine.proofs.SoundRows.{sound-rows}
 use Rattle.silence.proofs.Steady.{Steady, Quiet, Enters}
+use Rattle.silence.proofs.Entering.{enters-now, enters-next}
 use Rattle.silence.proofs.FirstRound.{first-round}
 
 bound-is : (k : ℕ) → suc ((2 * k + 7) * k + 1) ≡ silenceBound (suc k)
@@ -23,13 +23,6 @@ bound-is k = omega arith
 pub bound-fits : (n : ℕ) → silenceBound n ≤ roundLimit n
 bound-fits zero = omega arith
 bound-fits (suc k) = omega arith
-
--- one round more
-enters-next : (t : Table) (b : ℕ) → Enters (round t) b → Enters t (suc b)
-enters-next t b (r, l, c) = (suc r, omega arith, subst (λ (u : Table). 1 ≤ critical u) (sym (rounds-suc r t)) c)
-
-enters-now : (t : Table) (b : ℕ) → 1 ≤ critical t → Enters t b
-enters-now t b c = (0, omega arith, subst (λ (u : Table). 1 ≤ critical u) (sym (rounds-zero t)) c)
 
 module _ (quiet-ends : (k : ℕ) (t : Table) → Quiet (suc k) t → Enters t ((2 * k + 7) * k + 1)) where
   pub steady-enters : (t : Table)
