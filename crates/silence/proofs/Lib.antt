@@ -2,3 +2,4 @@
 pub mod Steady
 pub mod Kept
 pub mod Due
+pub mod DueLaws
