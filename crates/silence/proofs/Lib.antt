@@ -3,3 +3,4 @@ pub mod Steady
 pub mod Kept
 pub mod Due
 pub mod DueLaws
+pub mod QuietLaws

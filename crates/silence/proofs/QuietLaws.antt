@@ -10,24 +10,33 @@
 -- Assumes nothing.
 use Prim.Native.Nat.{ℕ, _+_, _*_, _≤_, _<_}
 use mathlib.Core.Path.{_≡_, refl, sym, ap, _∙_, subst}
-use mathlib.Core.Bool.{Bool, true, false, false≢true}
+use mathlib.Core.Bool.{true, false, false≢true}
+use mathlib.Core.Logic.{⊎-elim}
 use mathlib.Core.List.{List, [], _∷_}
 use native.Mathlib.Decide.{ℕ-discrete}
 use native.Mathlib.Omega.{arith}
-use Rattle.counting.specs.Sets.{has, size}
-use Rattle.counting.proofs.SizeLaws.{size-le}
+use lib.Dec.{eqb}
+use lib.ListN.{length}
+use borrow.Author.Tests.{eqb-true}
+use Rattle.counting.specs.Sets.{size}
+use Rattle.counting.proofs.TestLaws.{or-cases}
+use Rattle.counting.proofs.CountLaws.{count-all}
+use Rattle.counting.proofs.SizeLaws.{size-le, size-under}
 use Rattle.machine.specs.Tables.{Table, row, oneOf, competes}
-use Rattle.machine.specs.declared.Row.{Row}
-use Rattle.machine.proofs.OneOfLaws.{by-one, oneOf-at}
+use Rattle.machine.proofs.OneOfLaws.{by-one}
 use Rattle.machine.proofs.SoundRows.{SoundRow, sound-row, sound-few}
 use Rattle.machine.proofs.Assignments.{competes-at, competes-within}
 use Rattle.silence.proofs.Steady.{Quiet}
 use Rattle.silence.proofs.Due.{left, due}
 use Rattle.silence.proofs.DueLaws.{left-21, left-22, left-23, left-24, left-pos, due-set, due-unset}
 
--- where a process of a quiet table is
+-- where one who competes is in a quiet table
+abbrev pub waitingPlaces : List ℕ
+waitingPlaces = 21 ∷ 22 ∷ 23 ∷ 24 ∷ []
+
+-- where a process is
 abbrev pub quietPlaces : List ℕ
-quietPlaces = 10 ∷ 21 ∷ 22 ∷ 23 ∷ 24 ∷ []
+quietPlaces = 10 ∷ waitingPlaces
 
 module _ (n : ℕ) (t : Table) (h : Quiet n t) where
   pub quiet-few : n ≤ 16
@@ -46,3 +55,63 @@ module _ (n : ℕ) (t : Table) (h : Quiet n t) where
   -- a process is at none of the other locations
   pub quiet-never : (q v : ℕ) → q < n → row t q .location ≡ v → oneOf v quietPlaces ≡ false → ⊥
   quiet-never q v l e z = false≢true (sym z ∙ sym (ap (λ (x : ℕ). oneOf x quietPlaces) e) ∙ h .places q l)
+
+  -- who competes waits at one of four locations
+  pub quiet-waits : (q : ℕ) → competes (row t q) ≡ true → oneOf (row t q .location) waitingPlaces ≡ true
+  quiet-waits q c =
+      ⊎-elim
+      (λ e. absurd (false≢true (sym (competes-at (row t q) 10 (eqb-true _ _ e)) ∙ c)))
+      (λ e. e)
+      (or-cases (eqb (row t q .location) 10) (oneOf (row t q .location) waitingPlaces) (h .places q (quiet-within q c)))
+
+  -- who shows act competes
+  pub quiet-seen : (q : ℕ) → q < n → (row t q .act ≡ 0 → ⊥) → competes (row t q) ≡ true
+  quiet-seen q l ne =
+      by-one (row t q .location) quietPlaces (
+        (λ e. absurd (ne (h .steady .rows q .rest-unseen e))),
+        (competes-at (row t q) 21, (competes-at (row t q) 22, (competes-at (row t q) 23, (competes-at (row t q) 24, tt)))),
+      )
+      (h .places q l)
+
+  -- ---- how much is left
+
+  module _ (q : ℕ) (c : competes (row t q) ≡ true) where
+    -- q is not in its own est
+    pub est-fits : size (row t q .est) + 1 ≤ n
+    est-fits =
+        let l = quiet-within q c in
+        let fewer = size-under (row t q .est) n q (λ x. true) (quiet-sound q l .est-low) quiet-few l
+        (h .steady .rows q .est-others c) (λ x i m. refl) refl in
+        let all = count-all (λ x. true) n (λ x i. refl) in
+        omega arith
+
+    pub left-most : left (row t q) ≤ n + 2
+    left-most =
+        by-one (row t q .location) waitingPlaces (
+          (λ e. omega (arith, left-21 (row t q) e, est-fits)),
+          (
+            (λ e. omega (arith, left-22 (row t q) e, lis-fits)),
+            ((λ e. omega (arith, left-23 (row t q) e)), ((λ e. omega (arith, left-24 (row t q) e)), tt)),
+          ),
+        )
+        (quiet-waits q c)
+      where
+        lis-fits : size (row t q .lis) ≤ n
+        lis-fits = size-le (row t q .lis) n (quiet-sound q (quiet-within q c) .lis-low) quiet-few
+
+    pub due-most : due n (row t q) ≤ 2 * n + 5
+    due-most = go (ℕ-discrete (row t q .bb) 0)
+      where
+        go : Dec (row t q .bb ≡ 0) → due n (row t q) ≤ 2 * n + 5
+        go (yes z) = omega (arith, due-unset (row t q) n z, left-most)
+        go (no nz) = omega (arith, due-set (row t q) n nz, left-most)
+
+    -- at 24 bb is 0
+    pub due-some : 1 ≤ due n (row t q)
+    due-some = go (ℕ-discrete (row t q .bb) 0)
+      where
+        go : Dec (row t q .bb ≡ 0) → 1 ≤ due n (row t q)
+        go (yes z) = omega (arith, due-unset (row t q) n z)
+        go (no nz) =
+            let inside = h .steady .rows q .bb-inside nz .1 in
+            omega (arith, due-set (row t q) n nz, left-pos (row t q) (λ e. omega arith))
