@@ -4,3 +4,5 @@ pub mod Kept
 pub mod Due
 pub mod DueLaws
 pub mod QuietLaws
+pub mod OnTime
+pub mod Moving
