@@ -6,3 +6,4 @@ pub mod DueLaws
 pub mod QuietLaws
 pub mod OnTime
 pub mod Moving
+pub mod Schedule
