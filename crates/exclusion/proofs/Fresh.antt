@@ -12,6 +12,7 @@ use native.Mathlib.Omega.{arith}
 use lib.Pow.{pow-pos}
 use lib.ListN.{length, length-replicate, getD-replicate}
 use Rattle.counting.specs.Sets.{has}
+use Rattle.counting.proofs.TestLaws.{fails}
 use Rattle.counting.proofs.SetLaws.{has-zero}
 use Rattle.counting.proofs.CountLaws.{count-none}
 use Rattle.machine.specs.Rows.{idle, blank}
@@ -19,7 +20,7 @@ use Rattle.machine.specs.Tables.{Table, row, sound, allResting, fresh, freshTab
 use Rattle.machine.proofs.SoundRows.{SoundRow, sound-accepted, accepted-sound, rows-sound}
 use Rattle.machine.proofs.FreshRows.{fresh-sound, fresh-rests}
 use Rattle.exclusion.proofs.Reaching.{isReaching, reaches-of-isReaching, reaches-competes}
-use Rattle.exclusion.proofs.Bounded.{Bounded, fails}
+use Rattle.exclusion.proofs.Bounded.{Bounded}
 use Rattle.exclusion.proofs.Invariant.{Invariant}
 
 module _ (t : Table) (h : fresh t ≡ true) where

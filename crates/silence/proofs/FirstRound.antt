@@ -9,7 +9,7 @@ use Prim.Native.Nat.{ℕ, _≤_, _<_}
 use mathlib.Core.Path.{_≡_, refl, sym, ap, _∙_, subst}
 use mathlib.Core.Bool.{Bool, true, false, _||_, false≢true, and-eq-true-iff}
 use mathlib.Core.Logic.{_⊎_, inl, inr}
-use mathlib.Core.List.{List, [], _∷_}
+use mathlib.Core.List.{_∷_}
 use native.Mathlib.Omega.{arith}
 use lib.Dec.{eqb, leb}
 use lib.ListN.{length}
@@ -28,25 +28,22 @@ use Rattle.machine.proofs.RoundLaws.Move.{rests, enters, starts-pass, wins, dis
 use Rattle.machine.proofs.RoundLaws.Move.{to-push, waits, skips, pushes, exits, leaves}
 use Rattle.machine.proofs.OwnMoves.{OwnMove, own-move}
 use Rattle.silence.proofs.Steady.{Steady, Quiet}
+use Rattle.silence.proofs.QuietLaws.{quietPlaces}
 use Rattle.silence.proofs.Kept.{step-keeps-steady}
-
--- where a quiet table has its processes
-abbrev places : List ℕ
-places = 10 ∷ 21 ∷ 22 ∷ 23 ∷ 24 ∷ []
 
 -- ---- one move
 
 module _ (t : Table) (p : ℕ) where
   lands : {u : Table} (m : Move t p u)
       → (row t p .location ≡ 30 → ⊥)
-      → oneOf (stepRow t p (move-step m) .location) (30 ∷ places) ≡ true
+      → oneOf (stepRow t p (move-step m) .location) (30 ∷ quietPlaces) ≡ true
   unfolding move-step
-  lands (rests e) n = oneOf-at (row t p .location) 10 (30 ∷ places) e refl
+  lands (rests e) n = oneOf-at (row t p .location) 10 (30 ∷ quietPlaces) e refl
   lands (enters e) n = refl
   lands (starts-pass e h) n = refl
   lands (wins e h) n = refl
-  lands (discards e h a) n = oneOf-at (row t p .location) 22 (30 ∷ places) e refl
-  lands (keeps e h a) n = oneOf-at (row t p .location) 22 (30 ∷ places) e refl
+  lands (discards e h a) n = oneOf-at (row t p .location) 22 (30 ∷ quietPlaces) e refl
+  lands (keeps e h a) n = oneOf-at (row t p .location) 22 (30 ∷ quietPlaces) e refl
   lands (ends-pass e h) n = refl
   lands (lowers e h) n = refl
   lands (to-push e h b) n = refl
@@ -100,9 +97,9 @@ module _ (t : Table) (s : Steady t) (none : critical t ≡ 0) where
         own .as-after .location-same
         ∙ ap (λ (r : Row). r .location) (step-becomes (own .before) q in-v low (move-step (own .moves)) .own)
 
-    round-lands : oneOf (row (round t) q .location) (30 ∷ places) ≡ true
+    round-lands : oneOf (row (round t) q .location) (30 ∷ quietPlaces) ≡ true
     round-lands =
-        ap (λ (x : ℕ). oneOf x (30 ∷ places)) led
+        ap (λ (x : ℕ). oneOf x (30 ∷ quietPlaces)) led
         ∙ lands (own .before) q (own .moves) (λ e. nobody-at-30 q l (sym (own .as-before .location-same) ∙ e))
 
     round-comes-in : isPending (row t q) ≡ true → competes (row (round t) q) ≡ true
@@ -132,7 +129,7 @@ module _ (t : Table) (s : Steady t) (none : critical t ≡ 0) where
             steady = round-steady;
             size-is = round-length t;
             places = λ q l.
-                sym (ap (λ (b : Bool). b || oneOf (row (round t) q .location) places)
+                sym (ap (λ (b : Bool). b || oneOf (row (round t) q .location) quietPlaces)
                 (h q (subst (λ (k : ℕ). q < k) (sym (round-length t)) l)))
                 ∙ round-lands q l;
             somebody = (w .0, round-comes-in (w .0) (w .1) (w .2));

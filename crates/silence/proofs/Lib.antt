@@ -2,6 +2,11 @@
 pub mod Steady
 pub mod Entering
 pub mod Kept
-pub mod FirstRound
 pub mod Due
+pub mod DueLaws
+pub mod QuietLaws
+pub mod OnTime
+pub mod Moving
+pub mod Schedule
+pub mod FirstRound
 pub mod Silence
