@@ -10,3 +10,4 @@ pub mod Moving
 pub mod Schedule
 pub mod FirstRound
 pub mod Silence
+pub mod Theorems

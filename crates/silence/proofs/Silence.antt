@@ -1,6 +1,6 @@
 -- From a steady table with nobody at 30 and somebody pending, the rounds of the bound bring some process to 30.
 --
---   steady-enters    the first round and those of the quiet table that it leaves come to the bound
+--   within-bound    the first round and those of the quiet table that it leaves come to the bound
 --   bound-fits       the bound is below the limit of the request
 --
 -- Assumes nothing.
@@ -25,12 +25,12 @@ bound-fits zero = omega arith
 bound-fits (suc k) = omega arith
 
 module _ (quiet-ends : (k : ℕ) (t : Table) → Quiet (suc k) t → Enters t ((2 * k + 7) * k + 1)) where
-  pub steady-enters : (t : Table)
+  pub within-bound : (t : Table)
       → Steady t
       → critical t ≡ 0
       → 1 ≤ pending t
       → Enters t (silenceBound (length t))
-  steady-enters t s none some = sized (length t) refl (first-round t s none some)
+  within-bound t s none some = sized (length t) refl (first-round t s none some)
     where
       -- after the first round
       rest : (k : ℕ) → (1 ≤ critical (round t)) ⊎ Quiet (suc k) (round t) → Enters (round t) ((2 * k + 7) * k + 1)
