@@ -5,5 +5,7 @@ pub mod Due
 pub mod DueLaws
 pub mod QuietLaws
 pub mod OnTime
+pub mod Pace
 pub mod Moving
 pub mod Schedule
+pub mod Stale
