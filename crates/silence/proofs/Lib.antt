@@ -9,3 +9,4 @@ pub mod Pace
 pub mod Moving
 pub mod Schedule
 pub mod Stale
+pub mod LastRound

@@ -54,7 +54,7 @@ module _ (n v k j p : ℕ) (r s : Row) where
 
 -- ---- one move of process p
 
-module _ (n : ℕ) (t : Table) (p : ℕ) (l : p < n) (h : Quiet n t) (k j : ℕ) (f g : ℕ → ℕ) (w : Spends p j f g)
+module _ (n : ℕ) (t : Table) (p : ℕ) (l : p < n) (h : Quiet n t) (k j : ℕ) (f g : ℕ → ℕ) (spends : Spends p j f g)
   where
     abbrev v : ℕ
     v = row t k .turn
@@ -74,11 +74,11 @@ module _ (n : ℕ) (t : Table) (p : ℕ) (l : p < n) (h : Quiet n t) (k j : ℕ)
         other-rows-keep (λ q r. OnTime n v k (f q) q (row t q) → OnTime n (row u k .turn) k (g q) q r) b
         (λ o.
         subst (λ (x : ℕ). OnTime n x k (g p) p s) (sym e)
-        (subst (λ (x : ℕ). OnTime n v k x p s) (sym (w .after))
-        (own (subst (λ (x : ℕ). OnTime n v k x p (row t p)) (w .before) o))))
+        (subst (λ (x : ℕ). OnTime n v k x p s) (sym (spends .after))
+        (own (subst (λ (x : ℕ). OnTime n v k x p (row t p)) (spends .before) o))))
         (λ q ne o.
         subst (λ (x : ℕ). OnTime n x k (g q) q (row t q)) (sym e)
-        (subst (λ (x : ℕ). OnTime n v k x q (row t q)) (sym (w .same q ne)) o))
+        (subst (λ (x : ℕ). OnTime n v k x q (row t q)) (sym (spends .same q ne)) o))
         q)
 
     set-on-time : (s : Row)
@@ -129,17 +129,17 @@ module _ (n : ℕ) (t : Table) (p : ℕ) (l : p < n) (h : Quiet n t) (k j : ℕ)
             onTime-mono n t u k f g
             (λ q in-n.
             other-rows-keep (λ q r. OnTime n v k (f q) q (row t q) → OnTime n (row u k .turn) k (g q) q r) b
-            (λ o. (refl, inr (sym i, inl (omega (arith, pass-due, w .after))))) other q)
+            (λ o. (refl, inr (sym i, inl (omega (arith, pass-due, spends .after))))) other q)
           where
             other : (q : ℕ)
                 → (q ≡ p → ⊥)
                 → OnTime n v k (f q) q (row t q)
                 → OnTime n (row u k .turn) k (g q) q (row t q)
             other q ne (c, inl m) = (c, inl m)
-            other q ne (c, inr (m, inl d)) = (c, inr (m, inl (omega (arith, w .same q ne))))
+            other q ne (c, inr (m, inl d)) = (c, inr (m, inl (omega (arith, spends .same q ne))))
             other q ne (c, inr (m, inr (bb, z))) =
                 let last = left-most n t h q c in
-                (c, inr (m, inl (omega (arith, due-set (row t q) n bb, w .same q ne, w .least q))))
+                (c, inr (m, inl (omega (arith, due-set (row t q) n bb, spends .same q ne, spends .least q))))
 
         -- p is counted for turn[k] from now on, and in its place one other no longer is
         pushed-late : suc j < n + 3 → k ≡ row t p .level → onTime n t k f ≤ onTime n u k g
@@ -165,7 +165,7 @@ module _ (n : ℕ) (t : Table) (p : ℕ) (l : p < n) (h : Quiet n t) (k j : ℕ)
             out (c, inr (m, inl d)) = go (ℕ-discrete (row t p .bb) 0)
               where
                 go : Dec (row t p .bb ≡ 0) → ⊥
-                go (yes z) = omega (arith, due-unset (row t p) n z, w .before)
+                go (yes z) = omega (arith, due-unset (row t p) n z, spends .before)
                 go (no bb) = omega (arith, h .steady .rows p .bb-inside bb .1)
 
             other : (q : ℕ)
@@ -174,7 +174,7 @@ module _ (n : ℕ) (t : Table) (p : ℕ) (l : p < n) (h : Quiet n t) (k j : ℕ)
                 → OnTime n v k (f q) q (row t q)
                 → OnTime n (row u k .turn) k (g q) q (row t q)
             other q ne nv (c, inl m) = (c, inl m)
-            other q ne nv (c, inr (m, inl d)) = (c, inr (m, inl (omega (arith, w .same q ne))))
+            other q ne nv (c, inr (m, inl d)) = (c, inr (m, inl (omega (arith, spends .same q ne))))
             other q ne nv (c, inr (m, inr (bb, z))) = absurd (nv (sym z))
 
         pushed-on-time : onTime n t k f ≤ onTime n u k g

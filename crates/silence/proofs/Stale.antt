@@ -27,7 +27,7 @@ use Rattle.machine.specs.Tables.{Table, row, competes}
 use Rattle.machine.specs.declared.Row.{Row}
 use Rattle.machine.proofs.SoundRows.{SoundRow}
 use Rattle.machine.proofs.Assignments.{competes-at}
-use Rattle.machine.proofs.StepRows.{stepRow, step-keeps-rows}
+use Rattle.machine.proofs.StepRows.{stepRow, step-becomes, step-keeps-rows}
 use Rattle.machine.proofs.RoundLaws.{Move, move-step}
 use Rattle.machine.proofs.RoundLaws.Move.{rests, enters, starts-pass, wins, discards, keeps, ends-pass, lowers, to-push}
 use Rattle.machine.proofs.RoundLaws.Move.{waits, skips, pushes, exits, leaves}
@@ -35,6 +35,7 @@ use Rattle.silence.proofs.Due.{left}
 use Rattle.silence.proofs.DueLaws.{left-21, left-22, left-23, left-pos}
 use Rattle.silence.proofs.QuietLaws.{quiet-few, quiet-in, quiet-sound, quiet-within, quiet-never, quiet-seen}
 use Rattle.silence.proofs.QuietLaws.{est-fits, left-most, look-left}
+use Rattle.silence.proofs.Pace.{Spends}
 use Rattle.silence.proofs.Moving.{Among}
 
 -- at 22 of those looked at, at 23 of all; at 21 and at 24 no pass is on
@@ -47,6 +48,10 @@ abbrev pub Down : (ℕ → Bool) → ℕ → ℕ → Row → Type 0
 Down C n j r =
     (r .level < count C n)
     ⊎ (((r .location ≡ 24 → ⊥) × Clean C r × (left r ≤ j)) ⊎ (left r + (n + 3) ≤ j))
+
+-- all that have C get there, q within f q moves
+abbrev pub AllDown : (ℕ → Bool) → ℕ → (ℕ → ℕ) → Table → Type 0
+AllDown C n f t = (q : ℕ) → C q ≡ true → Down C n (f q) (row t q)
 
 -- ---- two rows
 
@@ -198,3 +203,24 @@ module _ (C : ℕ → Bool) (n : ℕ) (t : Table) (a : Among C n t) (p : ℕ) (c
       (λ ne d. absurd (ne e))
   row-down j (exits e) on = absurd (quiet-never n t (a .quiet) p 30 l e refl)
   row-down j (leaves e) on = absurd (quiet-never n t (a .quiet) p 40 l e refl)
+
+-- ---- every row
+
+pub moved-down : (C : ℕ → Bool) (n : ℕ) (t u : Table) (p j : ℕ) (f g : ℕ → ℕ)
+    → Spends p j f g
+    → p < n
+    → Among C n t
+    → (row u p .location ≡ 30 → ⊥)
+    → Move t p u
+    → AllDown C n f t
+    → AllDown C n g u
+moved-down C n t u p j f g spends l a on m d =
+    let in-t = quiet-in n t (a .quiet) p l in
+    let i = quiet-in n t (a .quiet) (row t p .level) (quiet-sound n t (a .quiet) p l .level-low) in
+    let b = step-becomes t p in-t i (move-step m) in
+    step-keeps-rows t p in-t i (λ q r. C q ≡ true → Down C n (g q) r) (move-step m)
+    (λ c.
+    subst (λ (x : ℕ). Down C n x (stepRow t p (move-step m))) (sym (spends .after))
+    (row-down C n t a p c j m (λ e. on (ap (λ (r : Row). r .location) (b .own) ∙ e))
+    (subst (λ (x : ℕ). Down C n x (row t p)) (spends .before) (d p c))))
+    (λ q ne c. subst (λ (x : ℕ). Down C n x (row t q)) (sym (spends .same q ne)) (d q c))
