@@ -10,3 +10,4 @@ pub mod Moving
 pub mod Schedule
 pub mod Stale
 pub mod LastRound
+pub mod OneRound
