@@ -11,3 +11,4 @@ pub mod Schedule
 pub mod Stale
 pub mod LastRound
 pub mod OneRound
+pub mod Bound
