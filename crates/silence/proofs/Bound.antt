@@ -17,7 +17,7 @@ use Rattle.counting.specs.Sums.{count}
 use Rattle.counting.proofs.CountLaws.{count-mono, count-le, count-pos, count-witness}
 use Rattle.machine.specs.Tables.{Table, row, competes}
 use Rattle.machine.specs.Census.{isBelow, critical}
-use Rattle.machine.specs.Rounds.{round, rounds}
+use Rattle.machine.specs.Rounds.{round}
 use Rattle.machine.proofs.OneOfLaws.{by-one}
 use Rattle.machine.proofs.RoundLaws.{round-length, rounds-zero, rounds-suc}
 use Rattle.silence.proofs.Steady.{Quiet, Enters}
@@ -130,8 +130,8 @@ module _ (C : ℕ → Bool) (n : ℕ) where
 
 -- ---- every quiet table
 
--- the rounds of i phases and one more
-phases-fit : (k i : ℕ) → suc i ≤ k → (2 * suc k + 5) * i + 1 + (2 * suc k + 5) ≤ (2 * k + 7) * k + 1
+-- i phases take no longer than k
+phases-fit : (k i : ℕ) → i ≤ k → (2 * suc k + 5) * i ≤ (2 * k + 7) * k
 phases-fit k i l =
     let same : (2 * suc k + 5) * i ≡ (2 * k + 7) * i = ap (λ (x : ℕ). x * i) (omega arith) in
     omega (arith, mul-le-mul-left (2 * k + 7) l)
@@ -155,11 +155,9 @@ quiet-ends k t h = go (count C n) refl (decLt (count C n) n)
     go : (m : ℕ) → count C n ≡ m → Dec (count C n < n) → Enters t ((2 * k + 7) * k + 1)
     go zero e d = absurd (omega (arith, some))
     go (suc i) e (no all) =
-        let i-is : k ≡ i = omega (arith, all, count-le C n) in
-        let same : (2 * suc k + 5) * i ≡ (2 * k + 7) * k = ap (λ (x : ℕ). (2 * suc k + 5) * x) (sym i-is) ∙ ap (λ (x : ℕ). x * k) (omega arith) in
-        enters-mono t _ _ (omega arith)
+        enters-mono t _ _ (omega (arith, phases-fit k i (omega (arith, count-le C n))))
         (low-ends C n i e t a
         (λ q c. omega (arith, all, quiet-sound n t h q (quiet-within n t h q c) .level-low)))
     go (suc i) e (yes few) =
-        enters-mono t _ _ (phases-fit k i (omega (arith, few)))
+        enters-mono t _ _ (omega (arith, phases-fit k (suc i) (omega (arith, few))))
         (stale-ends C n i e (2 * n + 5) t a (λ q c. down-at-start C n t a q c))

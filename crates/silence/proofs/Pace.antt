@@ -6,7 +6,7 @@
 --
 -- Assumes nothing.
 use Prim.Native.Nat.{ℕ, suc, _≤_, _<_}
-use mathlib.Core.Path.{_≡_, refl, ap}
+use mathlib.Core.Path.{_≡_, ap}
 use mathlib.Core.Bool.{Bool, cond}
 use native.Mathlib.Decide.{decLt}
 use native.Mathlib.Omega.{arith}

@@ -5,9 +5,9 @@
 --   moved-on-time        every move
 --
 -- Assumes nothing.
-use Prim.Native.Nat.{ℕ, suc, _+_, _-_, _≤_, _<_}
+use Prim.Native.Nat.{ℕ, suc, _+_, _≤_, _<_}
 use mathlib.Core.Path.{_≡_, refl, sym, ap, _∙_, subst}
-use mathlib.Core.Bool.{true, false, false≢true}
+use mathlib.Core.Bool.{true, false≢true}
 use mathlib.Core.Logic.{inl, inr}
 use native.Mathlib.Decide.{ℕ-discrete, decLt}
 use native.Mathlib.Omega.{arith}
@@ -27,7 +27,7 @@ use Rattle.machine.proofs.RoundLaws.Move.{rests, enters, starts-pass, wins, dis
 use Rattle.machine.proofs.RoundLaws.Move.{waits, skips, pushes, exits, leaves}
 use Rattle.silence.proofs.Steady.{Quiet}
 use Rattle.silence.proofs.Due.{left, due}
-use Rattle.silence.proofs.DueLaws.{left-21, left-22, left-23, left-24, due-set, due-unset, due-falls}
+use Rattle.silence.proofs.DueLaws.{left-21, left-22, left-23, due-set, due-unset, due-falls}
 use Rattle.silence.proofs.QuietLaws.{quiet-few, quiet-in, quiet-sound, quiet-never, left-most, look-left}
 use Rattle.silence.proofs.Pace.{Spends}
 use Rattle.silence.proofs.OnTime.{OnTime, isOnTime, onTime, on-time-of-test, test-of-on-time, onTime-mono}

@@ -10,7 +10,7 @@
 --   moved-down          a move takes one of them
 --
 -- Assumes nothing.
-use Prim.Native.Nat.{ℕ, suc, _+_, _-_, _*_, _≤_, _<_}
+use Prim.Native.Nat.{ℕ, suc, _+_, _*_, _≤_, _<_}
 use mathlib.Core.Path.{_≡_, refl, sym, ap, _∙_, subst}
 use mathlib.Core.Bool.{Bool, true, false, false≢true}
 use mathlib.Core.Logic.{_⊎_, inl, inr}
@@ -20,7 +20,7 @@ use native.Mathlib.Omega.{arith}
 use lib.ListN.{length}
 use Rattle.counting.specs.Sums.{count}
 use Rattle.counting.specs.Sets.{has, size, without, lowest}
-use Rattle.counting.proofs.SetLaws.{has-zero, has-over, member-below, without-same, without-other, without-lt}
+use Rattle.counting.proofs.SetLaws.{has-zero, member-below, without-same, without-other, without-lt}
 use Rattle.counting.proofs.SizeLaws.{size-under, size-others}
 use Rattle.machine.specs.Rows.{withLocation}
 use Rattle.machine.specs.Tables.{Table, row, competes}
