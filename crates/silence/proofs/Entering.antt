@@ -1,8 +1,8 @@
 -- Laws of `Enters`: some process is at 30 after at most so many rounds.
 --
---   enters-now     it is there already
---   enters-next    it is there after one round more
---   enters-more    and within a larger bound
+--   enters-mono    within a larger bound too
+--   enters-next    after one round more, if it is so after a round
+--   enters-now     after one round
 --
 -- Assumes nothing.
 use Prim.Native.Nat.{ℕ, suc, _≤_}
@@ -16,11 +16,12 @@ use Rattle.machine.proofs.RoundLaws.{rounds-zero, rounds-suc}
 use Rattle.silence.proofs.Steady.{Enters}
 
 module _ (t : Table) (b : ℕ) where
-  pub enters-now : 1 ≤ critical t → Enters t b
-  enters-now c = (0, omega arith, subst (λ (u : Table). 1 ≤ critical u) (sym (rounds-zero t)) c)
+  pub enters-mono : (c : ℕ) → b ≤ c → Enters t b → Enters t c
+  enters-mono c l (r, h, k) = (r, le-trans h l, k)
 
   pub enters-next : Enters (round t) b → Enters t (suc b)
-  enters-next (r, l, c) = (suc r, omega arith, subst (λ (u : Table). 1 ≤ critical u) (sym (rounds-suc r t)) c)
+  enters-next (r, h, k) = (suc r, omega arith, subst (λ (u : Table). 1 ≤ critical u) (sym (rounds-suc r t)) k)
 
-  pub enters-more : (d : ℕ) → b ≤ d → Enters t b → Enters t d
-  enters-more d k (r, l, c) = (r, le-trans l k, c)
+  pub enters-now : 1 ≤ critical (round t) → Enters t (suc b)
+  enters-now h =
+      enters-next (0, omega arith, subst (λ (u : Table). 1 ≤ critical u) (sym (rounds-zero (round t))) h)

@@ -5,9 +5,14 @@ pub mod Kept
 pub mod Due
 pub mod DueLaws
 pub mod QuietLaws
+pub mod FirstRound
 pub mod OnTime
+pub mod Pace
 pub mod Moving
 pub mod Schedule
-pub mod FirstRound
+pub mod Stale
+pub mod LastRound
+pub mod OneRound
+pub mod Bound
 pub mod Silence
 pub mod Theorems

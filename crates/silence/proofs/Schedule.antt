@@ -5,9 +5,9 @@
 --   moved-on-time        every move
 --
 -- Assumes nothing.
-use Prim.Native.Nat.{ℕ, suc, _+_, _-_, _≤_, _<_}
+use Prim.Native.Nat.{ℕ, suc, _+_, _≤_, _<_}
 use mathlib.Core.Path.{_≡_, refl, sym, ap, _∙_, subst}
-use mathlib.Core.Bool.{true, false, false≢true}
+use mathlib.Core.Bool.{true, false≢true}
 use mathlib.Core.Logic.{inl, inr}
 use native.Mathlib.Decide.{ℕ-discrete, decLt}
 use native.Mathlib.Omega.{arith}
@@ -27,8 +27,9 @@ use Rattle.machine.proofs.RoundLaws.Move.{rests, enters, starts-pass, wins, dis
 use Rattle.machine.proofs.RoundLaws.Move.{waits, skips, pushes, exits, leaves}
 use Rattle.silence.proofs.Steady.{Quiet}
 use Rattle.silence.proofs.Due.{left, due}
-use Rattle.silence.proofs.DueLaws.{left-21, left-22, left-23, left-24, due-set, due-unset, due-falls}
+use Rattle.silence.proofs.DueLaws.{left-21, left-22, left-23, due-set, due-unset, due-falls}
 use Rattle.silence.proofs.QuietLaws.{quiet-few, quiet-in, quiet-sound, quiet-never, left-most, look-left}
+use Rattle.silence.proofs.Pace.{Spends}
 use Rattle.silence.proofs.OnTime.{OnTime, isOnTime, onTime, on-time-of-test, test-of-on-time, onTime-mono}
 
 -- ---- two rows
@@ -51,10 +52,9 @@ module _ (n v k j p : ℕ) (r s : Row) where
   dropped c h (_, inl i) = (c, inl (omega arith))
   dropped c h (_, inr (i, _)) = (c, inl (omega arith))
 
--- ---- one move: process p has suc j rounds before and j after it, and no other has fewer than j
+-- ---- one move of process p
 
-module _ (n : ℕ) (t : Table) (p : ℕ) (l : p < n) (h : Quiet n t) (k j : ℕ) (f g : ℕ → ℕ)
-    (before : f p ≡ suc j) (after : g p ≡ j) (same : (q : ℕ) → (q ≡ p → ⊥) → g q ≡ f q) (least : (q : ℕ) → j ≤ f q)
+module _ (n : ℕ) (t : Table) (p : ℕ) (l : p < n) (h : Quiet n t) (k j : ℕ) (f g : ℕ → ℕ) (spends : Spends p j f g)
   where
     abbrev v : ℕ
     v = row t k .turn
@@ -74,11 +74,11 @@ module _ (n : ℕ) (t : Table) (p : ℕ) (l : p < n) (h : Quiet n t) (k j : ℕ)
         other-rows-keep (λ q r. OnTime n v k (f q) q (row t q) → OnTime n (row u k .turn) k (g q) q r) b
         (λ o.
         subst (λ (x : ℕ). OnTime n x k (g p) p s) (sym e)
-        (subst (λ (x : ℕ). OnTime n v k x p s) (sym after)
-        (own (subst (λ (x : ℕ). OnTime n v k x p (row t p)) before o))))
+        (subst (λ (x : ℕ). OnTime n v k x p s) (sym (spends .after))
+        (own (subst (λ (x : ℕ). OnTime n v k x p (row t p)) (spends .before) o))))
         (λ q ne o.
         subst (λ (x : ℕ). OnTime n x k (g q) q (row t q)) (sym e)
-        (subst (λ (x : ℕ). OnTime n v k x q (row t q)) (sym (same q ne)) o))
+        (subst (λ (x : ℕ). OnTime n v k x q (row t q)) (sym (spends .same q ne)) o))
         q)
 
     set-on-time : (s : Row)
@@ -129,17 +129,17 @@ module _ (n : ℕ) (t : Table) (p : ℕ) (l : p < n) (h : Quiet n t) (k j : ℕ)
             onTime-mono n t u k f g
             (λ q in-n.
             other-rows-keep (λ q r. OnTime n v k (f q) q (row t q) → OnTime n (row u k .turn) k (g q) q r) b
-            (λ o. (refl, inr (sym i, inl (omega (arith, pass-due, after))))) other q)
+            (λ o. (refl, inr (sym i, inl (omega (arith, pass-due, spends .after))))) other q)
           where
             other : (q : ℕ)
                 → (q ≡ p → ⊥)
                 → OnTime n v k (f q) q (row t q)
                 → OnTime n (row u k .turn) k (g q) q (row t q)
             other q ne (c, inl m) = (c, inl m)
-            other q ne (c, inr (m, inl d)) = (c, inr (m, inl (omega (arith, same q ne))))
+            other q ne (c, inr (m, inl d)) = (c, inr (m, inl (omega (arith, spends .same q ne))))
             other q ne (c, inr (m, inr (bb, z))) =
                 let last = left-most n t h q c in
-                (c, inr (m, inl (omega (arith, due-set (row t q) n bb, same q ne, least q))))
+                (c, inr (m, inl (omega (arith, due-set (row t q) n bb, spends .same q ne, spends .least q))))
 
         -- p is counted for turn[k] from now on, and in its place one other no longer is
         pushed-late : suc j < n + 3 → k ≡ row t p .level → onTime n t k f ≤ onTime n u k g
@@ -165,7 +165,7 @@ module _ (n : ℕ) (t : Table) (p : ℕ) (l : p < n) (h : Quiet n t) (k j : ℕ)
             out (c, inr (m, inl d)) = go (ℕ-discrete (row t p .bb) 0)
               where
                 go : Dec (row t p .bb ≡ 0) → ⊥
-                go (yes z) = omega (arith, due-unset (row t p) n z, before)
+                go (yes z) = omega (arith, due-unset (row t p) n z, spends .before)
                 go (no bb) = omega (arith, h .steady .rows p .bb-inside bb .1)
 
             other : (q : ℕ)
@@ -174,7 +174,7 @@ module _ (n : ℕ) (t : Table) (p : ℕ) (l : p < n) (h : Quiet n t) (k j : ℕ)
                 → OnTime n v k (f q) q (row t q)
                 → OnTime n (row u k .turn) k (g q) q (row t q)
             other q ne nv (c, inl m) = (c, inl m)
-            other q ne nv (c, inr (m, inl d)) = (c, inr (m, inl (omega (arith, same q ne))))
+            other q ne nv (c, inr (m, inl d)) = (c, inr (m, inl (omega (arith, spends .same q ne))))
             other q ne nv (c, inr (m, inr (bb, z))) = absurd (nv (sym z))
 
         pushed-on-time : onTime n t k f ≤ onTime n u k g

@@ -16,6 +16,7 @@ use Rattle.machine.proofs.SoundRows.{sound-rows}
 use Rattle.silence.proofs.Steady.{Steady, Quiet, Enters}
 use Rattle.silence.proofs.Entering.{enters-now, enters-next}
 use Rattle.silence.proofs.FirstRound.{first-round}
+use Rattle.silence.proofs.Bound.{quiet-ends}
 
 bound-is : (k : ℕ) → suc ((2 * k + 7) * k + 1) ≡ silenceBound (suc k)
 bound-is k = omega arith
@@ -24,22 +25,21 @@ pub bound-fits : (n : ℕ) → silenceBound n ≤ roundLimit n
 bound-fits zero = omega arith
 bound-fits (suc k) = omega arith
 
-module _ (quiet-ends : (k : ℕ) (t : Table) → Quiet (suc k) t → Enters t ((2 * k + 7) * k + 1)) where
-  pub within-bound : (t : Table)
-      → Steady t
-      → critical t ≡ 0
-      → 1 ≤ pending t
-      → Enters t (silenceBound (length t))
-  within-bound t s none some = sized (length t) refl (first-round t s none some)
-    where
-      -- after the first round
-      rest : (k : ℕ) → (1 ≤ critical (round t)) ⊎ Quiet (suc k) (round t) → Enters (round t) ((2 * k + 7) * k + 1)
-      rest k (inl c) = enters-now (round t) ((2 * k + 7) * k + 1) c
-      rest k (inr q) = quiet-ends k (round t) q
+pub within-bound : (t : Table)
+    → Steady t
+    → critical t ≡ 0
+    → 1 ≤ pending t
+    → Enters t (silenceBound (length t))
+within-bound t s none some = sized (length t) refl (first-round t s none some)
+  where
+    -- the first round leads to 30 or to a quiet table
+    rest : (k : ℕ) → (1 ≤ critical (round t)) ⊎ Quiet (suc k) (round t) → Enters t (suc ((2 * k + 7) * k + 1))
+    rest k (inl c) = enters-now t ((2 * k + 7) * k + 1) c
+    rest k (inr q) = enters-next t ((2 * k + 7) * k + 1) (quiet-ends k (round t) q)
 
-      sized : (n : ℕ)
-          → length t ≡ n
-          → (1 ≤ critical (round t)) ⊎ Quiet n (round t)
-          → Enters t (silenceBound n)
-      sized zero e h = absurd (omega (arith, sound-rows t (s .sound) .0))
-      sized (suc k) e h = subst (Enters t) (bound-is k) (enters-next t ((2 * k + 7) * k + 1) (rest k h))
+    sized : (n : ℕ)
+        → length t ≡ n
+        → (1 ≤ critical (round t)) ⊎ Quiet n (round t)
+        → Enters t (silenceBound n)
+    sized zero e h = absurd (omega (arith, sound-rows t (s .sound) .0))
+    sized (suc k) e h = subst (Enters t) (bound-is k) (rest k h)

@@ -15,7 +15,7 @@ use Rattle.machine.specs.Census.{critical}
 use Rattle.machine.specs.Rounds.{rounds, pending, roundLimit, silenceBound}
 use Rattle.machine.proofs.Soundness.{words-keep-length}
 use Rattle.silence.proofs.Steady.{Steady, Enters}
-use Rattle.silence.proofs.Entering.{enters-more}
+use Rattle.silence.proofs.Entering.{enters-mono}
 use Rattle.silence.proofs.Kept.{steady-after}
 use Rattle.silence.proofs.Silence.{within-bound, bound-fits}
 
@@ -49,5 +49,5 @@ pub silence-ends-as-asked : (t : Table) (ws : List ℕ)
     → 1 ≤ pending (afterWords t ws)
     → (r : ℕ) × (r ≤ roundLimit (length t)) × (1 ≤ critical (rounds r (afterWords t ws)))
 silence-ends-as-asked t ws h none some =
-    enters-more (afterWords t ws) (silenceBound (length t)) (roundLimit (length t)) (bound-fits (length t))
+    enters-mono (afterWords t ws) (silenceBound (length t)) (roundLimit (length t)) (bound-fits (length t))
     (silence-ends t ws h none some)
