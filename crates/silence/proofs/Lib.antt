@@ -1,3 +1,8 @@
 -- Theorems.antt says what is proved; the others prove it, each from those above it.
 pub mod Steady
 pub mod Due
+pub mod DueLaws
+pub mod Sweeps
+pub mod Front
+pub mod Strides
+pub mod FrontMoves
