@@ -6,3 +6,4 @@ pub mod Sweeps
 pub mod Front
 pub mod Strides
 pub mod FrontMoves
+pub mod FrontRounds
