@@ -10,6 +10,9 @@ pub mod SoundCells
 pub mod Soundness
 pub mod Frames
 pub mod Assignments
+pub mod StepRows
+pub mod BbInside
+pub mod FreshRows
 pub mod Arcs
 pub mod WordLaws
 pub mod Choices

@@ -84,7 +84,7 @@ pub data Move (t : Table) (p : ℕ) : Table → Type 0 where
 
 -- ---- a move is a step, and its word is that of the round
 
-pub move-step : {t u : Table} {p : ℕ} → Move t p u → Step t p u
+unfoldable pub move-step : {t u : Table} {p : ℕ} → Move t p u → Step t p u
 move-step (rests e) = Step.rests e
 move-step (enters e) = Step.enters e
 move-step (starts-pass e h) = Step.starts-pass e h

@@ -20,7 +20,7 @@ use Rattle.machine.specs.Rows.{withLocation, withLis}
 use Rattle.machine.specs.Tables.{Table}
 use Rattle.machine.specs.declared.Row.{Row}
 use Rattle.silence.proofs.Due.{left, due}
-use Rattle.silence.proofs.DueLaws.{left-21, left-22, left-23, left-24, due-clear, due-set}
+use Rattle.silence.proofs.DueLaws.{left-21, left-22, left-23, left-24, due-unset, due-set}
 use Rattle.silence.proofs.Front.{Low, FrontRow}
 use Rattle.silence.proofs.Strides.{Stride, pushedRow}
 use Rattle.silence.proofs.Strides.Stride.{begins, looks, ends, turns-up, falls, holds}
@@ -84,7 +84,7 @@ module _ (n l c p : ℕ) (r : Row) (f : FrontRow n l c p r) (in-front : p ≤ l)
   last-stride j v i k e (begins h) = absurd (omega (arith, own .due-is, left-21 r h))
   last-stride j v i k e (looks x m h g) = absurd (omega (arith, own .due-is, left-22 r h))
   last-stride j v i k e (ends h z) = absurd (omega (arith, own .due-is, left-22 r h))
-  last-stride j v i k e (turns-up h b) = absurd (omega (arith, own .due-is, left-23 r h, due-clear r n b))
+  last-stride j v i k e (turns-up h b) = absurd (omega (arith, own .due-is, left-23 r h, due-unset r n b))
   last-stride j v i k e (falls h b ne) =
       record {
         act-shown = f .act-shown;
@@ -115,7 +115,7 @@ module _ (n l c p : ℕ) (r : Row) (f : FrontRow n l c p r) (in-front : p ≤ l)
   low-push i e = go (ℕ-discrete (r .bb) 0)
     where
       go : Dec (r .bb ≡ 0) → c ≡ n + 3
-      go (yes z) = omega (arith, own .due-is, left-24 r e, due-clear r n z)
+      go (yes z) = omega (arith, own .due-is, left-24 r e, due-unset r n z)
       go (no s) = absurd (omega (arith, own .due-is, left-24 r e, due-set r n s))
 
   pub pushed-low : (t : Table) → length t ≡ n → n ≤ 16 → p < n → FrontRow n l (n + 2) p (pushedRow t p r)
@@ -142,5 +142,5 @@ module _ (n l c p : ℕ) (r : Row) (f : FrontRow n l c p r) (in-front : p ≤ l)
   stride-due v i x e = go (ℕ-discrete (r .bb) 0)
     where
       go : Dec (r .bb ≡ 0) → ⊥
-      go (yes z) = omega (arith, own .due-is, due-clear r n z, stride-left v i x .0, e)
+      go (yes z) = omega (arith, own .due-is, due-unset r n z, stride-left v i x .0, e)
       go (no s) = omega (arith, own .due-is, due-set r n s, stride-left v i x .1, e)

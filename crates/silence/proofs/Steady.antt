@@ -17,10 +17,7 @@ use Rattle.machine.specs.Tables.{Table, row, oneOf, tableRefusal, competes}
 use Rattle.machine.specs.Census.{critical}
 use Rattle.machine.specs.Rounds.{rounds}
 use Rattle.machine.specs.declared.Row.{Row}
-
--- L0 and L1 of section 3.5 of the paper
-abbrev pub BbInside : Row → Type 0
-BbInside r = (r .bb ≡ 0 → ⊥) → (competes r ≡ true) × (r .location ≤ 23) × (0 < r .level)
+use Rattle.machine.proofs.BbInside.{BbInside}
 
 pub record SteadyRow (q : ℕ) (r : Row) : Type 0 where
   pub bb-inside : BbInside r
