@@ -11,3 +11,4 @@ pub mod Front
 pub mod Strides
 pub mod FrontMoves
 pub mod FrontRounds
+pub mod Arrivals
