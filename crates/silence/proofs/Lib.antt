@@ -13,3 +13,4 @@ pub mod Strides
 pub mod FrontMoves
 pub mod FrontRounds
 pub mod Arrivals
+pub mod FrontEnds
