@@ -2,6 +2,7 @@
 --
 --   First m t       <=>  after m rounds some process is at 30, and after fewer nobody is.
 --   first-later          one round more, where nobody is at 30
+--   first-least          no smaller number of rounds is enough
 --   level-0-enters       a process at 21 on level 0 is at 30 after one round
 --   front-enters         a front with everything due takes 2 n + 5 rounds for each level, and one more
 --
@@ -9,7 +10,7 @@
 use Prim.Native.Nat.{ℕ, zero, suc, _+_, _*_, _≤_, _<_}
 use mathlib.Core.Path.{_≡_, refl, sym, ap, _∙_, subst}
 use native.Mathlib.Nat.{mul-suc}
-use native.Mathlib.Decide.{decLe}
+use native.Mathlib.Decide.{decLe, decLt}
 use native.Mathlib.Omega.{arith}
 use lib.ListN.{length}
 use borrow.Author.Tests.{eq-eqb}
@@ -22,6 +23,7 @@ use Rattle.machine.proofs.TableLaws.{row-same}
 use Rattle.machine.proofs.SoundRows.{sound-row}
 use Rattle.machine.proofs.RoundLaws.{Move, one-move, round-length, rounds-zero, rounds-suc}
 use Rattle.machine.proofs.OwnMoves.{own-move}
+use Rattle.silence.proofs.Steady.{Enters}
 use Rattle.silence.proofs.Front.{Low, Front, front-silent}
 use Rattle.silence.proofs.FrontRounds.{Next, front-round}
 
@@ -35,6 +37,13 @@ first-later m t z h =
     before : (r : ℕ) → r < suc m → critical (rounds r t) ≡ 0
     before zero l = ap (λ (u : Table). critical u) (rounds-zero t) ∙ z
     before (suc r) l = ap (λ (u : Table). critical u) (rounds-suc r t) ∙ h .0 r (omega arith)
+
+pub first-least : (m b : ℕ) (t : Table) → First m t → Enters t b → m ≤ b
+first-least m b t h (r, l, some) = go (decLt r m)
+  where
+    go : Dec (r < m) → m ≤ b
+    go (yes i) = absurd (omega (arith, h .0 r i))
+    go (no ni) = omega (arith, ni)
 
 -- ---- the last round
 

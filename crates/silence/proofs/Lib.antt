@@ -14,3 +14,5 @@ pub mod FrontMoves
 pub mod FrontRounds
 pub mod Arrivals
 pub mod FrontEnds
+pub mod LongestSilence
+pub mod ExactTheorems
