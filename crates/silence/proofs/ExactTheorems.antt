@@ -17,8 +17,8 @@ use Rattle.silence.proofs.LongestSilence.{come-silent, come-pending, co
 
 -- The longest silence. From every fresh table, once each process has come, nobody is at 30 after any number of rounds
 -- below `silenceBound`, and somebody is after just so many.
--- Excludes: a bound that is too large, even by one round, at some number of processes or from some fresh table; an engine
--- that brings a process to 30 sooner there, or later.
+-- Excludes: a bound that is too large, even by one round, at some number of processes or from some fresh table; an
+-- engine that brings a process to 30 sooner there, or later.
 -- Not empty: `fresh-exists` in exclusion/proofs/Theorems.antt, at each number of processes from 2 to 16.
 pub silence-attained : (t : Table)
     → fresh t ≡ true
@@ -36,8 +36,8 @@ pub silence-there : (t : Table)
     → (critical (afterWords t (allCome (length t))) ≡ 0) × (1 ≤ pending (afterWords t (allCome (length t))))
 silence-there t h = (come-silent t h, come-pending t h)
 
--- So no smaller bound would do: a number of rounds that is enough after every list of words, from one fresh table, is at
--- least `silenceBound`.
+-- So no smaller bound would do: a number of rounds that is enough after every list of words, from one fresh table, is
+-- at least `silenceBound`.
 -- Excludes: a sharper bound, at whatever number of processes, from whatever fresh table.
 -- Not empty: as above; `silenceBound` itself is such a number, by `silence-ends` in Theorems.antt.
 pub silence-least : (t : Table) (b : ℕ)

@@ -1,20 +1,19 @@
 -- One move of a process of a front, by its row: it has one move less due, or leaves the level, or stays behind.
 --
---   high-stride       above the front everything stays as it is
---   low-stride        in the front each stride makes one move less due, until the decision with bb set
---   last-stride       which all take together: l + 1 stays behind on its level, the others go down to level l
---   low-push          at 24 just n + 3 moves are due; the push leaves n + 2
---   stride-due        so before a stride it is some other number
+--   high-stride             above the front a process stays on its level, for turn[level] is its own number
+--   low-stride              in the front a stride leaves one move less due, until the decision at 23 with bb set
+--   last-stride             by that one process l stays behind on level l, and the others go down
+--   low-push, pushed-low    at 24 just n + 3 moves are due, and the push leaves n + 2
+--   stride-due              away from 24 it is some other number than n + 3
 --
 -- Assumes nothing.
-use Prim.Native.Nat.{ℕ, suc, _+_, _*_, _-_, _≤_, _<_}
-use mathlib.Core.Path.{_≡_, refl, sym, ap, _∙_}
-use mathlib.Core.Bool.{Bool, cond}
+use Prim.Native.Nat.{ℕ, suc, _+_, _*_, _≤_, _<_}
+use mathlib.Core.Path.{_≡_, ap, _∙_}
 use mathlib.Core.Logic.{_≢_}
 use native.Mathlib.Decide.{ℕ-discrete}
 use native.Mathlib.Omega.{arith}
 use lib.ListN.{length}
-use Rattle.counting.specs.Sets.{size, without, others}
+use Rattle.counting.specs.Sets.{size, without}
 use Rattle.counting.proofs.SizeLaws.{size-zero, size-without-in, size-others}
 use Rattle.machine.specs.Rows.{withLocation, withLis}
 use Rattle.machine.specs.Tables.{Table}
@@ -70,7 +69,8 @@ module _ (n l c p : ℕ) (r : Row) (f : FrontRow n l c p r) (in-front : p ≤ l)
       low-at d 22 (r .est) (omega arith) (omega arith) (omega (arith, own .due-is, left-21 r h))
   low-stride d v i k (looks x m h g) =
       low-at d (r .location) (without (r .lis) x) (omega arith) (omega arith)
-      (omega (arith, own .due-is, left-22 r h, left-22 (withLis (without (r .lis) x) r) h, size-without-in (r .lis) x m g))
+      (let fewer = size-without-in (r .lis) x m g in
+      omega (arith, own .due-is, left-22 r h, left-22 (withLis (without (r .lis) x) r) h))
   low-stride d v i k (ends h z) =
       low-at d 23 (r .lis) (omega arith) (omega arith)
       (omega (arith, own .due-is, left-22 r h, ap size z ∙ size-zero))

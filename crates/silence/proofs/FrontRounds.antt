@@ -1,8 +1,9 @@
 -- A round of a front: one move less is due to everybody in it, or the front goes down to the level below.
 --
---   Next n l c j d      <=>  d is one less than c, on the same level; or c is 1, and j the level below, with all due again.
+--   Next n l c j d        <=>  after c moves due on level l come d on level j: one less on the same level; or, after
+--                              one, all of them on the level below.
 --   During n l c j d p t  <=>  the processes below p have made their move of such a round, the others have not.
---   front-round         a round makes the next front of a front
+--   front-round                a round makes the next front of a front
 --
 -- In the round that begins with n + 3 moves due everybody in the front pushes, l last, and nobody reads turn[l].
 -- Assumes nothing.
@@ -31,6 +32,7 @@ pub data Next (n l c : ℕ) : ℕ → ℕ → Type 0 where
   counts : (d : ℕ) → c ≡ suc d → 1 ≤ d → Next n l c l d
   descends : (j : ℕ) → c ≡ 1 → l ≡ suc j → Next n l c j (2 * n + 5)
 
+-- turn[l] is l all the time once everybody has pushed; in the round of the pushes it is so after that of l
 record During (n l c j d p : ℕ) (t : Table) : Type 0 where
   rows : Swept (FrontRow n l c) (FrontRow n j d) n p t
   turns : (q : ℕ) → l < q → q < n → row t q .turn ≡ q
@@ -38,7 +40,7 @@ record During (n l c j d p : ℕ) (t : Table) : Type 0 where
 
 -- ---- one move
 
-module _ (n l c : ℕ) (some : 1 ≤ l) where
+module _ (n l c : ℕ) where
   next-due : {j d : ℕ} → Next n l c j d → 1 ≤ c
   next-due (counts d e i) = omega arith
   next-due (descends j e i) = omega arith
@@ -102,15 +104,17 @@ module _ (n l c j d : ℕ) (some : 1 ≤ l) (next : Next n l c j d) (p : ℕ) (t
         record {
           rows =
               swept-set (FrontRow n l c) (FrontRow n j d) n t p s in-t (h .rows)
-              (next-stride n l c some next own
+              (next-stride n l c next own
               (λ k. ap (λ (y : ℕ). row t y .turn) (own .high k .level-is) ∙ h .turns p k in-n)
               (λ k e.
-              ap (λ (y : ℕ). row t y .turn) (own .low k .level-is) ∙ h .last-turn (omega arith) (λ g. absurd (omega arith)))
+              ap (λ (y : ℕ). row t y .turn) (own .low k .level-is)
+              ∙ h .last-turn (omega arith) (λ g. absurd (omega arith)))
               x);
           turns = λ q i k. kept q ∙ h .turns q i k;
           last-turn = λ i k. kept l ∙ h .last-turn i (λ e. before e (k e) (decLe p l));
         }
       where
+        -- in the round of the pushes a stride is none of l
         before : c ≡ n + 3 → l < suc p → Dec (p ≤ l) → l < p
         before e k (yes i) =
             let few : n ≤ 16 = omega (arith, sound-few t z) in
@@ -128,14 +132,14 @@ module _ (n l c j d : ℕ) (some : 1 ≤ l) (next : Next n l c j d) (p : ℕ) (t
         let w = turnAssigned t k p in
         let u = assigned w p (pushedRow t p) in
         let in-w : p < length w = omega (arith, length-set t k (withTurn p (row t k))) in
-        let all-due : c ≡ n + 3 = low-push n l c p (row t p) own in-front (next-due n l c some next) e in
+        let all-due : c ≡ n + 3 = low-push n l c p (row t p) own in-front (next-due n l c next) e in
         let written = turn-set-is t k p low p in-t (pushedRow t p) (λ r. refl) (λ r. refl) in
         let kept = turn-set-others t k p low p in-t (pushedRow t p) (λ r. refl) (λ r. refl) in
         record {
           rows =
               swept-set (FrontRow n l c) (FrontRow n j d) n w p (pushedRow t p (row w p)) in-w
               (λ q i. (λ x. free q (h .rows q i .0 x), λ x. free q (h .rows q i .1 x)))
-              (next-push n l c some t next (free p own) in-front all-due size few in-n);
+              (next-push n l c t next (free p own) in-front all-due size few in-n);
           turns = λ q i x. kept q (omega arith) ∙ h .turns q i x;
           last-turn = λ i x. ap (λ (y : ℕ). row u y .turn) (sym at-l) ∙ written ∙ omega (arith, in-front, x all-due);
         }

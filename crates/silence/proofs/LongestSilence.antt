@@ -20,7 +20,7 @@ use Rattle.machine.specs.Rounds.{round, isPending, pending, silenceBound, allCo
 use Rattle.machine.proofs.SoundRows.{sound-rows, sound-accepted}
 use Rattle.machine.proofs.Soundness.{words-keep-sound, words-keep-length}
 use Rattle.machine.proofs.FreshRows.{fresh-sound}
-use Rattle.silence.proofs.Arrivals.{Came, all-come, front-begins}
+use Rattle.silence.proofs.Arrivals.{all-come, front-begins}
 use Rattle.silence.proofs.FrontEnds.{First, first-later, front-enters}
 
 -- the round in which all enter, and those of the front
