@@ -3,7 +3,6 @@
 --   First m t       <=>  after m rounds some process is at 30, and after fewer nobody is.
 --   first-later          one round more, where nobody is at 30
 --   first-least          no smaller number of rounds is enough
---   level-0-enters       a process at 21 on level 0 is at 30 after one round
 --   front-enters         a front with everything due takes 2 n + 5 rounds for each level, and one more
 --
 -- Assumes nothing.
@@ -13,17 +12,13 @@ use native.Mathlib.Nat.{mul-suc}
 use native.Mathlib.Decide.{decLe, decLt}
 use native.Mathlib.Omega.{arith}
 use lib.ListN.{length}
-use borrow.Author.Tests.{eq-eqb}
-use Rattle.counting.proofs.CountLaws.{count-pos}
-use Rattle.machine.specs.Tables.{Table, row, tableRefusal}
-use Rattle.machine.specs.Census.{isCritical, critical}
+use Rattle.machine.specs.Tables.{Table, row}
+use Rattle.machine.specs.Census.{critical}
 use Rattle.machine.specs.Rounds.{round, rounds}
-use Rattle.machine.specs.declared.Row.{Row}
-use Rattle.machine.proofs.TableLaws.{row-same}
 use Rattle.machine.proofs.SoundRows.{sound-row}
-use Rattle.machine.proofs.RoundLaws.{Move, one-move, round-length, rounds-zero, rounds-suc}
-use Rattle.machine.proofs.OwnMoves.{own-move}
+use Rattle.machine.proofs.RoundLaws.{round-length, rounds-zero, rounds-suc}
 use Rattle.silence.proofs.Steady.{Enters}
+use Rattle.silence.proofs.LastRound.{level-zero-wins, critical-at}
 use Rattle.silence.proofs.Front.{Low, Front, front-silent}
 use Rattle.silence.proofs.FrontRounds.{Next, front-round}
 
@@ -47,31 +42,14 @@ first-least m b t h (r, l, some) = go (decLt r m)
 
 -- ---- the last round
 
-pub level-0-enters : (t : Table) (q : ℕ)
-    → tableRefusal t ≡ 0
-    → q < length t
-    → row t q .location ≡ 21
-    → row t q .level ≡ 0
-    → row (round t) q .location ≡ 30
-level-0-enters t q z l e h =
-    let o = own-move t q z l in
-    let v = o .before in
-    let in-v : q < length v = omega (arith, o .same-size) in
-    let won = one-move (o .sound-before) in-v (o .moves)
-    (Move.wins (o .as-before .location-same ∙ e) (o .as-before .level-same ∙ h)) in
-    o .as-after .location-same
-    ∙ ap (λ (u : Table). row u q .location) won
-    ∙ ap (λ (r : Row). r .location) (row-same v q _ in-v)
-
 -- the front has come down to level 0, where process 0 is alone
 front-wins : (n c : ℕ) (t : Table) → Front n 0 c t → First 1 t
 front-wins n c t f =
-    let enters = level-0-enters t 0 (f .sound) in-t (at-21 (decLe 22 (row t 0 .location))) (own .level-is) in
+    let enters = level-zero-wins t 0 (f .sound) in-t (at-21 (decLe 22 (row t 0 .location))) (own .level-is) in
     first-later 0 t (front-silent n 0 c t f) (
       λ r l. absurd (omega arith),
       subst (λ (u : Table). 1 ≤ critical u) (sym (rounds-zero (round t)))
-          (count-pos (λ q. isCritical (row (round t) q)) (length (round t)) 0 (omega (arith, round-length t, in-t))
-          (eq-eqb _ _ enters)),
+          (critical-at (round t) 0 (omega (arith, round-length t, in-t)) enters),
     )
   where
     in-t : 0 < length t

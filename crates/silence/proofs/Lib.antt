@@ -6,7 +6,12 @@ pub mod Due
 pub mod DueLaws
 pub mod QuietLaws
 pub mod OnTime
+pub mod Pace
 pub mod Moving
+pub mod Schedule
+pub mod Stale
+pub mod LastRound
+pub mod OneRound
 pub mod Sweeps
 pub mod Front
 pub mod Strides

@@ -16,7 +16,8 @@ use Rattle.machine.proofs.StepRows.{stepRow, step-becomes, step-keeps-rows}
 use Rattle.machine.proofs.RoundLaws.{Move, move-step}
 use Rattle.machine.proofs.RoundLaws.Move.{rests, enters, starts-pass, wins, discards, keeps, ends-pass, lowers, to-push}
 use Rattle.machine.proofs.RoundLaws.Move.{waits, skips, pushes, exits, leaves}
-use Rattle.silence.proofs.Steady.{Steady, Quiet}
+use Rattle.silence.proofs.Steady.{Quiet}
+use Rattle.silence.proofs.Kept.{step-keeps-steady}
 use Rattle.silence.proofs.QuietLaws.{quietPlaces, quiet-in, quiet-sound, quiet-never}
 
 pub record Among (C : ℕ → Bool) (n : ℕ) (t : Table) : Type 0 where
@@ -28,7 +29,6 @@ abbrev Onward : Row → Row → Type 0
 Onward r s = (s .location ≡ 30) ⊎ ((oneOf (s .location) quietPlaces ≡ true) × (competes s ≡ competes r))
 
 module _ (n : ℕ) (t : Table) (p : ℕ) (l : p < n) (h : Quiet n t) where
-  -- from location v, where p competes, to location w, where it competes
   onward : {u : Table} (m : Move t p u) → Onward (row t p) (stepRow t p (move-step m))
   unfolding move-step
   onward (rests e) = inr (h .places p l, refl)
@@ -51,10 +51,9 @@ module _ (n : ℕ) (t : Table) (p : ℕ) (l : p < n) (h : Quiet n t) where
 
   pub quiet-moves : (C : ℕ → Bool) {u : Table}
       → ((q : ℕ) → competes (row t q) ≡ C q)
-      → Steady u
       → Move t p u
       → (row u p .location ≡ 30) ⊎ Among C n u
-  quiet-moves C {u} c steady m = go (onward m)
+  quiet-moves C {u} c m = go (onward m)
     where
       go : Onward (row t p) (stepRow t p (move-step m)) → (row u p .location ≡ 30) ⊎ Among C n u
       go (inl e) =
@@ -69,7 +68,7 @@ module _ (n : ℕ) (t : Table) (p : ℕ) (l : p < n) (h : Quiet n t) where
           let one = h .somebody in
           let quiet : Quiet n u =
           record {
-            steady = steady;
+            steady = step-keeps-steady t u p (h .steady .sound) in-t (move-step m) (h .steady);
             size-is = b .same-size ∙ h .size-is;
             places = places;
             somebody = (one .0, same (one .0) ∙ sym (c (one .0)) ∙ one .1);

@@ -6,6 +6,7 @@
 --   quiet-seen           who shows act competes
 --   est-fits             est of one who competes has at most n - 1 members
 --   left-most, due-most, due-some    n + 2 moves at most until the decision at 23; in all 2n + 5, and at least one
+--   look-left            a look is one move of them
 --
 -- Assumes nothing.
 use Prim.Native.Nat.{ℕ, _+_, _*_, _≤_, _<_}
@@ -18,10 +19,12 @@ use native.Mathlib.Omega.{arith}
 use lib.Dec.{eqb}
 use lib.ListN.{length}
 use borrow.Author.Tests.{eqb-true}
-use Rattle.counting.specs.Sets.{size}
+use Rattle.counting.specs.Sets.{has, size, without, lowest}
 use Rattle.counting.proofs.TestLaws.{or-cases}
 use Rattle.counting.proofs.CountLaws.{count-all}
-use Rattle.counting.proofs.SizeLaws.{size-le, size-under}
+use Rattle.counting.proofs.SizeLaws.{size-le, size-under, size-without-in}
+use Rattle.counting.proofs.SetLaws.{member-below}
+use Rattle.machine.specs.Rows.{withEst, withLis}
 use Rattle.machine.specs.Tables.{Table, row, oneOf, competes}
 use Rattle.machine.proofs.OneOfLaws.{by-one}
 use Rattle.machine.proofs.SoundRows.{SoundRow, sound-row, sound-few}
@@ -115,3 +118,17 @@ module _ (n : ℕ) (t : Table) (h : Quiet n t) where
         go (no nz) =
             let inside = h .steady .rows q .bb-inside nz .1 in
             omega (arith, due-set (row t q) n nz, left-pos (row t q) (λ e. omega arith))
+
+  -- a look at a member of lis, whatever becomes of est
+  pub look-left : (p : ℕ)
+      → p < n
+      → row t p .location ≡ 22
+      → has (row t p .lis) (lowest (row t p .lis)) ≡ true
+      → (a : ℕ)
+      → left (withEst a (withLis (without (row t p .lis) (lowest (row t p .lis))) (row t p))) + 1 ≤ left (row t p)
+  look-left p l e m a =
+      let x = lowest (row t p .lis) in
+      let low = member-below (row t p .lis) n x (quiet-sound p l .lis-low) m in
+      let fewer = size-without-in (row t p .lis) x (omega (arith, quiet-few)) m in
+      let s = withEst a (withLis (without (row t p .lis) x) (row t p)) in
+      omega (arith, left-22 (row t p) e, left-22 s e)
