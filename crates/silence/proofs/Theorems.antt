@@ -2,8 +2,8 @@
 -- the machine's definitions; the argument is in the other files.
 --
 -- A silence is a table with nobody at 30 and somebody at 20 to 24. Each theorem is about every number of processes at
--- once, and about rounds in which no word is refused (`round-word-accepted` in machine/proofs/RoundLaws). It says
--- nothing of words in another order, nor of who comes to 30. Assumes nothing.
+-- once; no word of the rounds is refused (`round-word-accepted` in machine/proofs/RoundLaws). Nothing is said of words
+-- in another order, nor of who comes to 30. Assumes nothing.
 use Prim.Native.Nat.{ℕ, _≤_}
 use mathlib.Core.Path.{_≡_, subst}
 use mathlib.Core.Bool.{true}
@@ -30,7 +30,7 @@ steady-enters = within-bound
 -- process is at 30 after r rounds, for an r of at most 2 n n + 3 n - 3, where n is the number of processes.
 -- Excludes: an engine that some list brings to a table from which rounds go on for ever with nobody at 30, refused
 -- words, flickers and cancels included; a bound for some numbers of processes only, or from one fresh table only.
--- Not empty: `silence-attained` in ExactTheorems.antt, by which no smaller bound would do.
+-- Not empty: `silence-there` in ExactTheorems.antt; and no smaller bound would do: `silence-attained` there.
 pub silence-ends : (t : Table) (ws : List ℕ)
     → fresh t ≡ true
     → critical (afterWords t ws) ≡ 0
@@ -41,7 +41,7 @@ silence-ends t ws h none some =
     (steady-enters (afterWords t ws) (steady-after t ws h) none some)
 
 -- The same with the bound that was asked for, 4 n n (n + 3): the rounds after which the engine gives up.
--- Excludes: as above; and an engine that gives up, from a table that a list of words made, before some process is at 30.
+-- Excludes: as above; and an engine that gives up before some process is at 30, from a table that a list of words made.
 -- Not empty: as above.
 pub silence-ends-as-asked : (t : Table) (ws : List ℕ)
     → fresh t ≡ true
