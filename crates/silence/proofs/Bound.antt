@@ -24,7 +24,7 @@ use Rattle.silence.proofs.Steady.{Quiet, Enters}
 use Rattle.silence.proofs.QuietLaws.{waitingPlaces, quiet-in, quiet-sound, quiet-within, quiet-waits}
 use Rattle.silence.proofs.Moving.{Among}
 use Rattle.silence.proofs.OnTime.{onTime, under, below-of-test, test-of-below, phase-starts, phase-ends}
-use Rattle.silence.proofs.Stale.{AllDown, down-at-start, down-at-end}
+use Rattle.silence.proofs.Down.{AllDown, down-at-start, down-at-end}
 use Rattle.silence.proofs.LastRound.{critical-at, level-zero-wins}
 use Rattle.silence.proofs.OneRound.{Goes, round-goes-on}
 
@@ -124,7 +124,7 @@ module _ (C : ℕ → Bool) (n : ℕ) where
     stale-ends : (j : ℕ) (t : Table) → Among C n t → AllDown C n (λ q. j) t → Enters t (D * i + 1 + j)
     stale-ends zero t a d =
         enters-mono t _ _ (omega arith)
-        (low-ends t a (λ q c. subst (λ (m : ℕ). row t q .level < m) m-is (down-at-end C n t a q c (d q c))))
+        (low-ends t a (λ q c. subst (λ (m : ℕ). row t q .level < m) m-is (down-at-end C n t a q (d q c))))
     stale-ends (suc j) t a d =
         by-round t a (D * i + 1 + j) _ (omega arith) (λ g. stale-ends j (round t) (g .among) (g .down j d))
 
@@ -160,4 +160,4 @@ quiet-ends k t h = go (count C n) refl (decLt (count C n) n)
         (λ q c. omega (arith, all, quiet-sound n t h q (quiet-within n t h q c) .level-low)))
     go (suc i) e (yes few) =
         enters-mono t _ _ (omega (arith, phases-fit k (suc i) (omega (arith, few))))
-        (stale-ends C n i e (2 * n + 5) t a (λ q c. down-at-start C n t a q c))
+        (stale-ends C n i e (2 * n + 5) t a (down-at-start C n t a))

@@ -8,7 +8,6 @@ use Prim.Native.Nat.{ℕ, _<_}
 use mathlib.Core.Path.{_≡_, refl, sym, ap, _∙_}
 use mathlib.Core.Bool.{Bool, true}
 use mathlib.Core.Logic.{_⊎_, inl, inr}
-use lib.ListN.{length}
 use Rattle.machine.specs.Tables.{Table, row, oneOf, competes}
 use Rattle.machine.specs.declared.Row.{Row}
 use Rattle.machine.proofs.Assignments.{competes-at}
@@ -18,7 +17,7 @@ use Rattle.machine.proofs.RoundLaws.Move.{rests, enters, starts-pass, wins, dis
 use Rattle.machine.proofs.RoundLaws.Move.{waits, skips, pushes, exits, leaves}
 use Rattle.silence.proofs.Steady.{Quiet}
 use Rattle.silence.proofs.Kept.{step-keeps-steady}
-use Rattle.silence.proofs.QuietLaws.{quietPlaces, quiet-in, quiet-sound, quiet-never}
+use Rattle.silence.proofs.QuietLaws.{quietPlaces, quiet-in, quiet-level, quiet-never}
 
 pub record Among (C : ℕ → Bool) (n : ℕ) (t : Table) : Type 0 where
   pub quiet : Quiet n t
@@ -46,9 +45,6 @@ module _ (n : ℕ) (t : Table) (p : ℕ) (l : p < n) (h : Quiet n t) where
   onward (exits e) = absurd (quiet-never n t h p 30 l e refl)
   onward (leaves e) = absurd (quiet-never n t h p 40 l e refl)
 
-  level-in : row t p .level < length t
-  level-in = quiet-in n t h (row t p .level) (quiet-sound n t h p l .level-low)
-
   pub quiet-moves : (C : ℕ → Bool) {u : Table}
       → ((q : ℕ) → competes (row t q) ≡ C q)
       → Move t p u
@@ -57,13 +53,13 @@ module _ (n : ℕ) (t : Table) (p : ℕ) (l : p < n) (h : Quiet n t) where
     where
       go : Onward (row t p) (stepRow t p (move-step m)) → (row u p .location ≡ 30) ⊎ Among C n u
       go (inl e) =
-          let b = step-becomes t p (quiet-in n t h p l) level-in (move-step m) in
+          let b = step-becomes t p (quiet-in n t h p l) (quiet-level n t h p l) (move-step m) in
           inl (ap (λ (r : Row). r .location) (b .own) ∙ e)
       go (inr (o, d)) =
           let in-t = quiet-in n t h p l in
-          let b = step-becomes t p in-t level-in (move-step m) in
-          let same = step-keeps-rows t p in-t level-in (λ q r. competes r ≡ C q) (move-step m) (d ∙ c p) (λ q ne. c q) in
-          let places = step-keeps-rows t p in-t level-in (λ q r. q < n → oneOf (r .location) quietPlaces ≡ true)
+          let b = step-becomes t p in-t (quiet-level n t h p l) (move-step m) in
+          let same = step-keeps-rows t p in-t (quiet-level n t h p l) (λ q r. competes r ≡ C q) (move-step m) (d ∙ c p) (λ q ne. c q) in
+          let places = step-keeps-rows t p in-t (quiet-level n t h p l) (λ q r. q < n → oneOf (r .location) quietPlaces ≡ true)
           (move-step m) (λ i. o) (λ q ne. h .places q) in
           let one = h .somebody in
           let quiet : Quiet n u =

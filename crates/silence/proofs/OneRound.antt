@@ -22,7 +22,8 @@ use Rattle.silence.proofs.Pace.{pace, pace-first, pace-last, pace-spend
 use Rattle.silence.proofs.Moving.{Among, quiet-moves}
 use Rattle.silence.proofs.OnTime.{OnTime, onTime, onTime-mono}
 use Rattle.silence.proofs.Schedule.{moved-on-time}
-use Rattle.silence.proofs.Stale.{Down, AllDown, moved-down}
+use Rattle.silence.proofs.Down.{Down, AllDown}
+use Rattle.silence.proofs.Stale.{moved-down}
 use Rattle.silence.proofs.LastRound.{critical-at}
 
 pub record Goes (C : ℕ → Bool) (n : ℕ) (t : Table) (f : ℕ → ℕ → ℕ) (v : Table) : Type 0 where

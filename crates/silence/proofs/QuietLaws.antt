@@ -6,7 +6,7 @@
 --   quiet-seen           who shows act competes
 --   est-fits             est of one who competes has at most n - 1 members
 --   left-most, due-most, due-some    n + 2 moves at most until the decision at 23; in all 2n + 5, and at least one
---   look-left            a look is one move of them
+--   look-left, push-left    a look is one move of them, and after a push so many are left again
 --
 -- Assumes nothing.
 use Prim.Native.Nat.{ℕ, _+_, _*_, _≤_, _<_}
@@ -22,13 +22,14 @@ use borrow.Author.Tests.{eqb-true}
 use Rattle.counting.specs.Sets.{has, size, without, lowest}
 use Rattle.counting.proofs.TestLaws.{or-cases}
 use Rattle.counting.proofs.CountLaws.{count-all}
-use Rattle.counting.proofs.SizeLaws.{size-le, size-under, size-without-in}
+use Rattle.counting.proofs.SizeLaws.{size-le, size-under, size-without-in, size-others}
 use Rattle.counting.proofs.SetLaws.{member-below}
 use Rattle.machine.specs.Rows.{withEst, withLis}
 use Rattle.machine.specs.Tables.{Table, row, oneOf, competes}
 use Rattle.machine.proofs.OneOfLaws.{by-one}
 use Rattle.machine.proofs.SoundRows.{SoundRow, sound-row, sound-few}
 use Rattle.machine.proofs.Assignments.{competes-at, competes-within}
+use Rattle.machine.proofs.StepRows.{pushedRow}
 use Rattle.silence.proofs.Steady.{Quiet}
 use Rattle.silence.proofs.Due.{left, due}
 use Rattle.silence.proofs.DueLaws.{left-21, left-22, left-23, left-24, left-pos, due-set, due-unset}
@@ -51,6 +52,10 @@ module _ (n : ℕ) (t : Table) (h : Quiet n t) where
   pub quiet-sound : (q : ℕ) → q < n → SoundRow n q (row t q)
   quiet-sound q l =
       subst (λ (x : ℕ). SoundRow x q (row t q)) (h .size-is) (sound-row t (h .steady .sound) q (quiet-in q l))
+
+  -- the row of the turn cell that q writes at 24 is a row of the table
+  pub quiet-level : (q : ℕ) → q < n → row t q .level < length t
+  quiet-level q l = quiet-in (row t q .level) (quiet-sound q l .level-low)
 
   pub quiet-within : (q : ℕ) → competes (row t q) ≡ true → q < n
   quiet-within q c = subst (λ (x : ℕ). q < x) (h .size-is) (competes-within t q c)
@@ -132,3 +137,9 @@ module _ (n : ℕ) (t : Table) (h : Quiet n t) where
       let fewer = size-without-in (row t p .lis) x (omega (arith, quiet-few)) m in
       let s = withEst a (withLis (without (row t p .lis) x) (row t p)) in
       omega (arith, left-22 (row t p) e, left-22 s e)
+
+  -- a push, after which est has all others
+  pub push-left : (p : ℕ) → p < n → left (pushedRow t p (row t p)) ≤ n + 2
+  push-left p l =
+      let size-is = h .size-is in
+      omega (arith, size-others (length t) p (omega (arith, quiet-few)) (quiet-in p l))

@@ -14,7 +14,6 @@ use native.Mathlib.Omega.{arith}
 use lib.ListN.{length, set}
 use Rattle.counting.proofs.TestLaws.{fails}
 use Rattle.counting.proofs.LessLaws.{count-swap}
-use Rattle.counting.proofs.SizeLaws.{size-others}
 use Rattle.machine.specs.Rows.{withLocation}
 use Rattle.machine.specs.Tables.{Table, row, competes}
 use Rattle.machine.specs.declared.Row.{Row}
@@ -28,7 +27,8 @@ use Rattle.machine.proofs.RoundLaws.Move.{waits, skips, pushes, exits, leaves}
 use Rattle.silence.proofs.Steady.{Quiet}
 use Rattle.silence.proofs.Due.{left, due}
 use Rattle.silence.proofs.DueLaws.{left-21, left-22, left-23, due-set, due-unset, due-falls}
-use Rattle.silence.proofs.QuietLaws.{quiet-few, quiet-in, quiet-sound, quiet-never, left-most, look-left}
+use Rattle.silence.proofs.QuietLaws.{quiet-in, quiet-level, quiet-sound, quiet-never, left-most, look-left}
+use Rattle.silence.proofs.QuietLaws.{push-left}
 use Rattle.silence.proofs.Pace.{Spends}
 use Rattle.silence.proofs.OnTime.{OnTime, isOnTime, onTime, on-time-of-test, test-of-on-time, onTime-mono}
 
@@ -111,9 +111,7 @@ module _ (n : ℕ) (t : Table) (p : ℕ) (l : p < n) (h : Quiet n t) (k j : ℕ)
       where
         -- another pass, with bb set
         pass-due : due n (pushedRow t p (row t p)) ≤ n + 2
-        pass-due =
-            let few = quiet-few n t h in
-            omega (arith, h .size-is, size-others (length t) p (omega (arith, h .size-is)) in-t)
+        pass-due = omega (arith, push-left n t h p l)
 
         -- at another level turn[k] is kept
         pushed-elsewhere : (k ≡ row t p .level → ⊥) → onTime n t k f ≤ onTime n u k g
@@ -215,7 +213,7 @@ module _ (n : ℕ) (t : Table) (p : ℕ) (l : p < n) (h : Quiet n t) (k j : ℕ)
         go (c, inl m) = (refl, inl m)
         go (c, inr (m, _)) = (refl, inr (m, inr (b, ap (λ (x : ℕ). row t x .turn) (sym m) ∙ o)))
     moved-on-time on (pushes e) =
-        let i = quiet-in n t h (row t p .level) (quiet-sound n t h p l .level-low) in
+        let i = quiet-level n t h p l in
         pushed-on-time e
         (turn-set-becomes t (row t p .level) p i p in-t (pushedRow t p) (λ r. refl) (λ r. refl))
         (turn-set-others t (row t p .level) p i p in-t (pushedRow t p) (λ r. refl) (λ r. refl))
