@@ -20,6 +20,7 @@ pub mod OneWord
 pub mod SameOutcome
 pub mod Progress
 pub mod RoundLaws
+pub mod OwnMoves
 pub mod AnswerLaws
 pub mod RunLaws
 pub mod InputLaws

@@ -7,7 +7,7 @@
 --
 -- Assumes nothing.
 use Prim.Native.Nat.{ℕ, zero, suc, _+_, _*_, _≤_, _<_}
-use mathlib.Core.Path.{_≡_, refl, sym, ap, _∙_, subst}
+use mathlib.Core.Path.{_≡_, refl, ap, _∙_, subst}
 use mathlib.Core.Bool.{Bool, true}
 use mathlib.Core.Logic.{⊎-elim}
 use native.Mathlib.Nat.{le-trans, mul-le-mul-left}
@@ -16,29 +16,18 @@ use native.Mathlib.Omega.{arith}
 use Rattle.counting.specs.Sums.{count}
 use Rattle.counting.proofs.CountLaws.{count-mono, count-le, count-pos, count-witness}
 use Rattle.machine.specs.Tables.{Table, row, competes}
-use Rattle.machine.specs.Census.{isBelow, critical}
+use Rattle.machine.specs.Census.{isBelow}
 use Rattle.machine.specs.Rounds.{round}
 use Rattle.machine.proofs.OneOfLaws.{by-one}
-use Rattle.machine.proofs.RoundLaws.{round-length, rounds-zero, rounds-suc}
+use Rattle.machine.proofs.RoundLaws.{round-length}
 use Rattle.silence.proofs.Steady.{Quiet, Enters}
+use Rattle.silence.proofs.Entering.{enters-mono, enters-next, enters-now}
 use Rattle.silence.proofs.QuietLaws.{waitingPlaces, quiet-in, quiet-sound, quiet-within, quiet-waits}
 use Rattle.silence.proofs.Moving.{Among}
 use Rattle.silence.proofs.OnTime.{onTime, under, below-of-test, test-of-below, phase-starts, phase-ends}
 use Rattle.silence.proofs.Down.{AllDown, down-at-start, down-at-end}
 use Rattle.silence.proofs.LastRound.{critical-at, level-zero-wins}
 use Rattle.silence.proofs.OneRound.{Goes, round-goes-on}
-
--- ---- rounds
-
-enters-mono : (t : Table) (b c : ℕ) → b ≤ c → Enters t b → Enters t c
-enters-mono t b c l (r, h, k) = (r, le-trans h l, k)
-
-enters-next : (t : Table) (b : ℕ) → Enters (round t) b → Enters t (suc b)
-enters-next t b (r, h, k) = (suc r, omega arith, subst (λ (u : Table). 1 ≤ critical u) (sym (rounds-suc r t)) k)
-
--- after one round
-enters-now : (t : Table) (b : ℕ) → 1 ≤ critical (round t) → Enters t (suc b)
-enters-now t b h = enters-next t b (0, omega arith, subst (λ (u : Table). 1 ≤ critical u) (sym (rounds-zero (round t))) h)
 
 -- ---- quiet tables in which those of C compete
 

@@ -1,9 +1,11 @@
 -- Theorems.antt says what is proved; the others prove it, each from those above it.
 pub mod Steady
+pub mod Entering
 pub mod Kept
 pub mod Due
 pub mod DueLaws
 pub mod QuietLaws
+pub mod FirstRound
 pub mod OnTime
 pub mod Pace
 pub mod Moving
@@ -13,3 +15,5 @@ pub mod Stale
 pub mod LastRound
 pub mod OneRound
 pub mod Bound
+pub mod Silence
+pub mod Theorems
