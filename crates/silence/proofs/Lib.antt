@@ -17,3 +17,12 @@ pub mod OneRound
 pub mod Bound
 pub mod Silence
 pub mod Theorems
+pub mod Sweeps
+pub mod Front
+pub mod Strides
+pub mod FrontMoves
+pub mod FrontRounds
+pub mod Arrivals
+pub mod FrontEnds
+pub mod LongestSilence
+pub mod ExactTheorems
