@@ -1,16 +1,16 @@
 -- How far a process is from a level below the number of those that compete.
 --
 --   Clean C r         <=>  who was looked at in this pass of r and kept in est has C.
---   Down C n j r      <=>  the level of r is below the number of those that have C, or gets there within j of its moves:
---                          at the end of this pass, if that is clean, or at the end of the next.
+--   Down C n j r      <=>  the level of r is below the number of those that have C, or gets there within j moves of its
+--                          process: at the end of this pass, if that is clean, or at the end of the next.
 --   AllDown C n f t   <=>  each q that has C gets there within f q moves.
---   down-at-start          in 2n + 5 moves everybody gets there
+--   down-at-start          within a phase everybody gets there
 --   down-at-end            and who has no move left is there
 --   clean-few              est has fewer members than C at the end of a clean pass
 --
 -- Those who do not compete, but stand in an est since they did, are stale: a clean pass has met none.
 -- Assumes nothing.
-use Prim.Native.Nat.{ℕ, _+_, _*_, _≤_, _<_}
+use Prim.Native.Nat.{ℕ, _+_, _≤_, _<_}
 use mathlib.Core.Path.{_≡_, _∙_}
 use mathlib.Core.Bool.{Bool, true, false}
 use mathlib.Core.Logic.{_⊎_, inl, inr}
@@ -20,7 +20,7 @@ use Rattle.counting.specs.Sets.{has, size}
 use Rattle.counting.proofs.SizeLaws.{size-under}
 use Rattle.machine.specs.Tables.{Table, row}
 use Rattle.machine.specs.declared.Row.{Row}
-use Rattle.silence.proofs.Due.{left}
+use Rattle.silence.proofs.Due.{left, phase}
 use Rattle.silence.proofs.DueLaws.{left-pos}
 use Rattle.silence.proofs.QuietLaws.{quiet-few, quiet-sound, quiet-within, left-most}
 use Rattle.silence.proofs.Moving.{Among}
@@ -40,7 +40,7 @@ abbrev pub AllDown : (ℕ → Bool) → ℕ → (ℕ → ℕ) → Table → Type
 AllDown C n f t = (q : ℕ) → C q ≡ true → Down C n (f q) (row t q)
 
 module _ (C : ℕ → Bool) (n : ℕ) (t : Table) (a : Among C n t) where
-  pub down-at-start : AllDown C n (λ q. 2 * n + 5) t
+  pub down-at-start : AllDown C n (λ q. phase n) t
   down-at-start q c = inr (inr (omega (arith, left-most n t (a .quiet) q (a .competing q ∙ c))))
 
   pub down-at-end : (q : ℕ) → Down C n 0 (row t q) → row t q .level < count C n

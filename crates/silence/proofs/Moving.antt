@@ -8,6 +8,7 @@ use Prim.Native.Nat.{ℕ, _<_}
 use mathlib.Core.Path.{_≡_, refl, sym, ap, _∙_}
 use mathlib.Core.Bool.{Bool, true}
 use mathlib.Core.Logic.{_⊎_, inl, inr}
+use lib.ListN.{length}
 use Rattle.machine.specs.Tables.{Table, row, oneOf, competes}
 use Rattle.machine.specs.declared.Row.{Row}
 use Rattle.machine.proofs.Assignments.{competes-at}
@@ -51,21 +52,23 @@ module _ (n : ℕ) (t : Table) (p : ℕ) (l : p < n) (h : Quiet n t) where
       → (row u p .location ≡ 30) ⊎ Among C n u
   quiet-moves C {u} c m = go (onward m)
     where
+      in-t : p < length t
+      in-t = quiet-in n t h p l
+
+      i : row t p .level < length t
+      i = quiet-level n t h p l
+
       go : Onward (row t p) (stepRow t p (move-step m)) → (row u p .location ≡ 30) ⊎ Among C n u
-      go (inl e) =
-          let b = step-becomes t p (quiet-in n t h p l) (quiet-level n t h p l) (move-step m) in
-          inl (ap (λ (r : Row). r .location) (b .own) ∙ e)
+      go (inl e) = inl (ap (λ (r : Row). r .location) (step-becomes t p in-t i (move-step m) .own) ∙ e)
       go (inr (o, d)) =
-          let in-t = quiet-in n t h p l in
-          let b = step-becomes t p in-t (quiet-level n t h p l) (move-step m) in
-          let same = step-keeps-rows t p in-t (quiet-level n t h p l) (λ q r. competes r ≡ C q) (move-step m) (d ∙ c p) (λ q ne. c q) in
-          let places = step-keeps-rows t p in-t (quiet-level n t h p l) (λ q r. q < n → oneOf (r .location) quietPlaces ≡ true)
-          (move-step m) (λ i. o) (λ q ne. h .places q) in
+          let same = step-keeps-rows t p in-t i (λ q r. competes r ≡ C q) (move-step m) (d ∙ c p) (λ q ne. c q) in
+          let places = step-keeps-rows t p in-t i (λ q r. q < n → oneOf (r .location) quietPlaces ≡ true)
+          (move-step m) (λ k. o) (λ q ne. h .places q) in
           let one = h .somebody in
           let quiet : Quiet n u =
           record {
             steady = step-keeps-steady t u p (h .steady .sound) in-t (move-step m) (h .steady);
-            size-is = b .same-size ∙ h .size-is;
+            size-is = step-becomes t p in-t i (move-step m) .same-size ∙ h .size-is;
             places = places;
             somebody = (one .0, same (one .0) ∙ sym (c (one .0)) ∙ one .1);
           } in

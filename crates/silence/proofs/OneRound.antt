@@ -1,8 +1,8 @@
 -- A round from a quiet table: somebody is at 30, or it is quiet still and everybody has spent one round.
 --
---   Goes C n t f v    <=>  v is quiet with the same competitors as t, and as far as its processes had suc j rounds in t,
---                          process q has f j q of them left.
---   round-goes-on          after a round everybody has j of them left, or somebody is at 30
+--   Goes C n t f v    <=>  v is quiet, and just those that have C compete; and for each j, where everybody had suc j
+--                          rounds in t and process q has f j q in v, as many are on time, and all get down still.
+--   round-goes-on          after a round everybody has j of suc j rounds left, or somebody is at 30
 --
 -- Assumes nothing.
 use Prim.Native.Nat.{ℕ, suc, _≤_, _<_}
@@ -72,7 +72,6 @@ module _ (C : ℕ → Bool) (n : ℕ) (t : Table) where
                 moved-down C n v u p j (pace j p) (pace j (suc p)) (pace-spends j p) l (h .among) on m (h .down j d);
           })
 
-  -- V6
   pub round-goes-on : Among C n t → (1 ≤ critical (round t)) ⊎ Goes C n t (λ j q. j) (round t)
   round-goes-on a = go (by-moves t After (a .quiet .steady .sound) each (inr start))
     where
@@ -95,4 +94,5 @@ module _ (C : ℕ → Bool) (n : ℕ) (t : Table) where
 
       go : After (length t) (round t) → (1 ≤ critical (round t)) ⊎ Goes C n t (λ j q. j) (round t)
       go (inl (i, l, e)) = inl (critical-at (round t) i (omega (arith, round-length t)) e)
-      go (inr h) = inr (goes-cong (λ j. pace j (length t)) (λ j q. j) (round t) (λ j q l. pace-last j _ q (omega arith)) h)
+      go (inr h) =
+          inr (goes-cong (λ j. pace j (length t)) (λ j q. j) (round t) (λ j q l. pace-last j _ q (omega arith)) h)

@@ -2,14 +2,14 @@
 --
 --   quiet-few, quiet-sound, quiet-within    at most 16 processes, each within its ranges; who competes is one of them
 --   quiet-never          at no other location
---   quiet-waits          who competes is at 21 to 24
+--   quiet-waits, quiet-last    who competes is at 21 to 24, and with level 0 at 21
 --   quiet-seen           who shows act competes
 --   est-fits             est of one who competes has at most n - 1 members
---   left-most, due-most, due-some    n + 2 moves at most until the decision at 23; in all 2n + 5, and at least one
+--   left-most, due-most, due-some    n + 2 moves at most until the decision at 23; in all a phase at most, and one at least
 --   look-left, push-left    a look is one move of them, and after a push so many are left again
 --
 -- Assumes nothing.
-use Prim.Native.Nat.{ℕ, _+_, _*_, _≤_, _<_}
+use Prim.Native.Nat.{ℕ, _+_, _≤_, _<_}
 use mathlib.Core.Path.{_≡_, refl, sym, ap, _∙_, subst}
 use mathlib.Core.Bool.{true, false, false≢true}
 use mathlib.Core.Logic.{⊎-elim}
@@ -31,7 +31,7 @@ use Rattle.machine.proofs.SoundRows.{SoundRow, sound-row, sound-few}
 use Rattle.machine.proofs.Assignments.{competes-at, competes-within}
 use Rattle.machine.proofs.StepRows.{pushedRow}
 use Rattle.silence.proofs.Steady.{Quiet}
-use Rattle.silence.proofs.Due.{left, due}
+use Rattle.silence.proofs.Due.{left, due, phase}
 use Rattle.silence.proofs.DueLaws.{left-21, left-22, left-23, left-24, left-pos, due-set, due-unset}
 
 -- where one who competes is in a quiet table
@@ -72,12 +72,31 @@ module _ (n : ℕ) (t : Table) (h : Quiet n t) where
       (λ e. e)
       (or-cases (eqb (row t q .location) 10) (oneOf (row t q .location) waitingPlaces) (h .places q (quiet-within q c)))
 
+  -- and at 21 where its level is 0
+  pub quiet-last : (q : ℕ) → competes (row t q) ≡ true → row t q .level ≡ 0 → row t q .location ≡ 21
+  quiet-last q c z =
+      let some = quiet-sound q (quiet-within q c) .level-some in
+      by-one (row t q .location) waitingPlaces (
+        (λ e. e),
+        (
+          (λ e. absurd (omega (arith, some (omega arith) (omega arith)))),
+          (
+            (λ e. absurd (omega (arith, some (omega arith) (omega arith)))),
+            ((λ e. absurd (omega (arith, some (omega arith) (omega arith)))), tt),
+          ),
+        ),
+      )
+      (quiet-waits q c)
+
   -- who shows act competes
   pub quiet-seen : (q : ℕ) → q < n → (row t q .act ≡ 0 → ⊥) → competes (row t q) ≡ true
   quiet-seen q l ne =
       by-one (row t q .location) quietPlaces (
         (λ e. absurd (ne (h .steady .rows q .rest-unseen e))),
-        (competes-at (row t q) 21, (competes-at (row t q) 22, (competes-at (row t q) 23, (competes-at (row t q) 24, tt)))),
+        (
+          competes-at (row t q) 21,
+          (competes-at (row t q) 22, (competes-at (row t q) 23, (competes-at (row t q) 24, tt))),
+        ),
       )
       (h .places q l)
 
@@ -107,10 +126,10 @@ module _ (n : ℕ) (t : Table) (h : Quiet n t) where
         lis-fits : size (row t q .lis) ≤ n
         lis-fits = size-le (row t q .lis) n (quiet-sound q (quiet-within q c) .lis-low) quiet-few
 
-    pub due-most : due n (row t q) ≤ 2 * n + 5
+    pub due-most : due n (row t q) ≤ phase n
     due-most = go (ℕ-discrete (row t q .bb) 0)
       where
-        go : Dec (row t q .bb ≡ 0) → due n (row t q) ≤ 2 * n + 5
+        go : Dec (row t q .bb ≡ 0) → due n (row t q) ≤ phase n
         go (yes z) = omega (arith, due-unset (row t q) n z, left-most)
         go (no nz) = omega (arith, due-set (row t q) n nz, left-most)
 
