@@ -8,7 +8,8 @@
 --   down-at-end            and who has no move left is there
 --   clean-few              est has fewer members than C at the end of a clean pass
 --
--- Those who do not compete, but stand in an est since they did, are stale: a clean pass has met none.
+-- Est may have members that do not compete, since a pass takes out only those whose act is 0 when they are looked at; a
+-- clean pass has kept none of them.
 -- Assumes nothing.
 use Prim.Native.Nat.{ℕ, _+_, _≤_, _<_}
 use mathlib.Core.Path.{_≡_, _∙_}

@@ -1,7 +1,8 @@
 -- How far a process is from leaving its level, from its row alone.
 --
 --   left r    ==  its own moves until it has decided at 23.
---   due n r   ==  its own moves until it has decided at 23 with bb set, of n processes; with bb 0 it has to pass 24 first.
+--   due n r   ==  its own moves, of n processes, until it has decided at 23 with bb set; with bb 0 it has to pass 24
+--                 first.
 --   phase n   ==  the most that is due of one of n processes: a pass, GO at 24, and another pass.
 --
 -- Assumes nothing.

@@ -46,12 +46,13 @@ module _ (n : ℕ) (t : Table) (p : ℕ) (l : p < n) (h : Quiet n t) where
   onward (exits e) = absurd (quiet-never n t h p 30 l e refl)
   onward (leaves e) = absurd (quiet-never n t h p 40 l e refl)
 
-  pub quiet-moves : (C : ℕ → Bool) {u : Table}
-      → ((q : ℕ) → competes (row t q) ≡ C q)
-      → Move t p u
-      → (row u p .location ≡ 30) ⊎ Among C n u
-  quiet-moves C {u} c m = go (onward m)
+module _ (C : ℕ → Bool) (n : ℕ) (t u : Table) (p : ℕ) (l : p < n) (a : Among C n t) (m : Move t p u) where
+  pub quiet-moves : (row u p .location ≡ 30) ⊎ Among C n u
+  quiet-moves = go (onward n t p l h m)
     where
+      h : Quiet n t
+      h = a .quiet
+
       in-t : p < length t
       in-t = quiet-in n t h p l
 
@@ -61,7 +62,8 @@ module _ (n : ℕ) (t : Table) (p : ℕ) (l : p < n) (h : Quiet n t) where
       go : Onward (row t p) (stepRow t p (move-step m)) → (row u p .location ≡ 30) ⊎ Among C n u
       go (inl e) = inl (ap (λ (r : Row). r .location) (step-becomes t p in-t i (move-step m) .own) ∙ e)
       go (inr (o, d)) =
-          let same = step-keeps-rows t p in-t i (λ q r. competes r ≡ C q) (move-step m) (d ∙ c p) (λ q ne. c q) in
+          let same = step-keeps-rows t p in-t i (λ q r. competes r ≡ C q) (move-step m) (d ∙ a .competing p)
+          (λ q ne. a .competing q) in
           let places = step-keeps-rows t p in-t i (λ q r. q < n → oneOf (r .location) quietPlaces ≡ true)
           (move-step m) (λ k. o) (λ q ne. h .places q) in
           let one = h .somebody in
@@ -70,6 +72,6 @@ module _ (n : ℕ) (t : Table) (p : ℕ) (l : p < n) (h : Quiet n t) where
             steady = step-keeps-steady t u p (h .steady .sound) in-t (move-step m) (h .steady);
             size-is = step-becomes t p in-t i (move-step m) .same-size ∙ h .size-is;
             places = places;
-            somebody = (one .0, same (one .0) ∙ sym (c (one .0)) ∙ one .1);
+            somebody = (one .0, same (one .0) ∙ sym (a .competing (one .0)) ∙ one .1);
           } in
           inr (record { quiet = quiet; competing = same })

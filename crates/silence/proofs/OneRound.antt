@@ -56,7 +56,7 @@ module _ (C : ℕ → Bool) (n : ℕ) (t : Table) where
   move-goes-on : (p : ℕ) (v u : Table) → p < n → Move v p u → After p v → After (suc p) u
   move-goes-on p v u l m (inl (i, k, e)) =
       inl (i, omega arith, step-others v u p i (move-step m) (λ z. omega arith) .location-same ∙ e)
-  move-goes-on p v u l m (inr h) = go (quiet-moves n v p l (h .among .quiet) C (h .among .competing) m)
+  move-goes-on p v u l m (inr h) = go (quiet-moves C n v u p l (h .among) m)
     where
       go : (row u p .location ≡ 30) ⊎ Among C n u → After (suc p) u
       go (inl e) = inl (p, omega arith, e)

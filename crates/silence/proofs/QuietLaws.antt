@@ -1,12 +1,15 @@
 -- What a quiet table says of one process.
 --
---   quiet-few, quiet-sound, quiet-within    at most 16 processes, each within its ranges; who competes is one of them
---   quiet-never          at no other location
+--   quiet-few, quiet-sound     at most 16 processes, each within its ranges
+--   quiet-in, quiet-level      a process has a row, and so has its level
+--   quiet-within               who competes is a process of the table
+--   quiet-never                nobody is at another location than those of a quiet table
 --   quiet-waits, quiet-last    who competes is at 21 to 24, and with level 0 at 21
---   quiet-seen           who shows act competes
---   est-fits             est of one who competes has at most n - 1 members
---   left-most, due-most, due-some    n + 2 moves at most until the decision at 23; in all a phase at most, and one at least
---   look-left, push-left    a look is one move of them, and after a push so many are left again
+--   quiet-seen                 who shows act competes
+--   est-fits                   est of one who competes has at most n - 1 members
+--   left-most                  n + 2 moves at most are left until the decision at 23
+--   due-most, due-some         at most a phase is due, and at least one move
+--   look-left, push-left       a look is one move of those left, and after a push at most n + 2 are left again
 --
 -- Assumes nothing.
 use Prim.Native.Nat.{ℕ, _+_, _≤_, _<_}
