@@ -5,7 +5,7 @@ pub mod Kept
 pub mod Due
 pub mod DueLaws
 pub mod QuietLaws
-pub mod FirstRound
+pub mod Landing
 pub mod OnTime
 pub mod Pace
 pub mod Moving
@@ -15,6 +15,7 @@ pub mod Stale
 pub mod LastRound
 pub mod OneRound
 pub mod Bound
+pub mod FirstRound
 pub mod Silence
 pub mod Theorems
 pub mod Sweeps

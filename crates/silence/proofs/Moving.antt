@@ -6,19 +6,22 @@
 -- Assumes nothing.
 use Prim.Native.Nat.{ℕ, _<_}
 use mathlib.Core.Path.{_≡_, refl, sym, ap, _∙_}
-use mathlib.Core.Bool.{Bool, true}
-use mathlib.Core.Logic.{_⊎_, inl, inr}
+use mathlib.Core.Bool.{Bool, true, _&&_, Bool·beq}
+use mathlib.Core.Logic.{_⊎_, inl, inr, ⊎-elim}
+use lib.Dec.{eqb, leb}
 use lib.ListN.{length}
+use borrow.Author.Tests.{eqb-true}
+use Rattle.counting.proofs.TestLaws.{or-cases, beq-true}
 use Rattle.machine.specs.Tables.{Table, row, oneOf, competes}
+use Rattle.machine.specs.Rounds.{isPending}
 use Rattle.machine.specs.declared.Row.{Row}
-use Rattle.machine.proofs.Assignments.{competes-at}
+use Rattle.machine.proofs.OneOfLaws.{by-test}
 use Rattle.machine.proofs.StepRows.{stepRow, step-becomes, step-keeps-rows}
 use Rattle.machine.proofs.RoundLaws.{Move, move-step}
-use Rattle.machine.proofs.RoundLaws.Move.{rests, enters, starts-pass, wins, discards, keeps, ends-pass, lowers, to-push}
-use Rattle.machine.proofs.RoundLaws.Move.{waits, skips, pushes, exits, leaves}
 use Rattle.silence.proofs.Steady.{Quiet}
 use Rattle.silence.proofs.Kept.{step-keeps-steady}
 use Rattle.silence.proofs.QuietLaws.{quietPlaces, quiet-in, quiet-level, quiet-never}
+use Rattle.silence.proofs.Landing.{lands}
 
 pub record Among (C : ℕ → Bool) (n : ℕ) (t : Table) : Type 0 where
   pub quiet : Quiet n t
@@ -29,22 +32,19 @@ abbrev Onward : Row → Row → Type 0
 Onward r s = (s .location ≡ 30) ⊎ ((oneOf (s .location) quietPlaces ≡ true) × (competes s ≡ competes r))
 
 module _ (n : ℕ) (t : Table) (p : ℕ) (l : p < n) (h : Quiet n t) where
+  -- nobody is at 20 or 30
+  pending-competes : isPending (row t p) ≡ competes (row t p)
+  pending-competes =
+      beq-true (isPending (row t p)) (competes (row t p))
+      (by-test (λ v. Bool·beq (leb 20 v && leb v 24) (leb 21 v && leb v 30)) (row t p .location) quietPlaces refl
+      (h .places p l))
+
   onward : {u : Table} (m : Move t p u) → Onward (row t p) (stepRow t p (move-step m))
-  unfolding move-step
-  onward (rests e) = inr (h .places p l, refl)
-  onward (enters e) = absurd (quiet-never n t h p 20 l e refl)
-  onward (starts-pass e i) = inr (refl, sym (competes-at (row t p) 21 e))
-  onward (wins e i) = inl refl
-  onward (discards e i a) = inr (h .places p l, refl)
-  onward (keeps e i a) = inr (h .places p l, refl)
-  onward (ends-pass e i) = inr (refl, sym (competes-at (row t p) 22 e))
-  onward (lowers e i) = inr (refl, sym (competes-at (row t p) 23 e))
-  onward (to-push e i b) = inr (refl, sym (competes-at (row t p) 23 e))
-  onward (waits e i b v) = inr (refl, sym (competes-at (row t p) 23 e))
-  onward (skips e i b v) = inr (refl, sym (competes-at (row t p) 23 e))
-  onward (pushes e) = inr (refl, sym (competes-at (row t p) 24 e))
-  onward (exits e) = absurd (quiet-never n t h p 30 l e refl)
-  onward (leaves e) = absurd (quiet-never n t h p 40 l e refl)
+  onward m =
+      let v = stepRow t p (move-step m) .location in
+      let a = lands t p m (λ e. quiet-never n t h p 30 l e refl) in
+      ⊎-elim (λ e. inl (eqb-true _ _ e)) (λ e. inr (e, a .1 ∙ pending-competes))
+      (or-cases (eqb v 30) (oneOf v quietPlaces) (a .0))
 
 module _ (C : ℕ → Bool) (n : ℕ) (t u : Table) (p : ℕ) (l : p < n) (a : Among C n t) (m : Move t p u) where
   pub quiet-moves : (row u p .location ≡ 30) ⊎ Among C n u
