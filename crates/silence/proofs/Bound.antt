@@ -1,9 +1,9 @@
--- From a quiet table some process is at 30 after at most (2n + 5)(n - 1) + 1 rounds.
+-- From a quiet table of n processes some process is at 30 after at most n - 1 phases and one round more.
 --
---   levels-end     after (2n + 5)k + 1 rounds, if k + 1 processes compete at level k or below
---   low-ends       after (2n + 5)(m - 1) + 1 rounds, if all m that compete are at levels below m
+--   levels-end     after k phases and one round, if k + 1 processes compete at level k or below
+--   low-ends       after m - 1 phases and one round, if all m that compete are at levels below m
 --   stale-ends     after j rounds more, if each gets there within j moves
---   quiet-ends     from every quiet table
+--   quiet-ends     from every quiet table; a phase of k + 1 processes has 2 k + 7 rounds
 --
 -- Assumes nothing.
 use Prim.Native.Nat.{ℕ, zero, suc, _+_, _*_, _≤_, _<_}
@@ -18,24 +18,20 @@ use Rattle.counting.proofs.CountLaws.{count-mono, count-le, count-pos, count-wi
 use Rattle.machine.specs.Tables.{Table, row, competes}
 use Rattle.machine.specs.Census.{isBelow}
 use Rattle.machine.specs.Rounds.{round}
-use Rattle.machine.proofs.OneOfLaws.{by-one}
 use Rattle.machine.proofs.RoundLaws.{round-length}
 use Rattle.silence.proofs.Steady.{Quiet, Enters}
+use Rattle.silence.proofs.Due.{phase}
 use Rattle.silence.proofs.Entering.{enters-mono, enters-next, enters-now}
-use Rattle.silence.proofs.QuietLaws.{waitingPlaces, quiet-in, quiet-sound, quiet-within, quiet-waits}
+use Rattle.silence.proofs.QuietLaws.{quiet-in, quiet-sound, quiet-within, quiet-last}
 use Rattle.silence.proofs.Moving.{Among}
 use Rattle.silence.proofs.OnTime.{onTime, under, below-of-test, test-of-below, phase-starts, phase-ends}
-use Rattle.silence.proofs.Stale.{AllDown, down-at-start, down-at-end}
+use Rattle.silence.proofs.Down.{AllDown, down-at-start, down-at-end}
 use Rattle.silence.proofs.LastRound.{critical-at, level-zero-wins}
 use Rattle.silence.proofs.OneRound.{Goes, round-goes-on}
 
 -- ---- quiet tables in which those of C compete
 
 module _ (C : ℕ → Bool) (n : ℕ) where
-  -- the rounds of a phase
-  abbrev D : ℕ
-  D = 2 * n + 5
-
   -- one round, and what holds of a table that is quiet after it
   by-round : (t : Table)
       → Among C n t
@@ -46,83 +42,66 @@ module _ (C : ℕ → Bool) (n : ℕ) where
   by-round t a b c l f =
       enters-mono t (suc b) c l (⊎-elim (enters-now t b) (λ g. enters-next t b (f g)) (round-goes-on C n t a))
 
-  -- who competes at level 0 is at 21
+  -- who competes at level 0 is at 30 after it
   zero-enters : (t : Table) (q : ℕ) → Among C n t → competes (row t q) ≡ true → row t q .level ≡ 0 → Enters t 1
   zero-enters t q a c z =
-      by-one (row t q .location) waitingPlaces (
-        wins,
-        (
-          (λ e. high (omega arith) (omega arith)),
-          ((λ e. high (omega arith) (omega arith)), ((λ e. high (omega arith) (omega arith)), tt)),
-        ),
-      )
-      (quiet-waits n t (a .quiet) q c)
-    where
-      in-n : q < n
-      in-n = quiet-within n t (a .quiet) q c
-
-      wins : row t q .location ≡ 21 → Enters t 1
-      wins e =
-          let in-t = quiet-in n t (a .quiet) q in-n in
-          let there = level-zero-wins t q (a .quiet .steady .sound) in-t e z in
-          enters-now t 0 (critical-at (round t) q (omega (arith, round-length t)) there)
-
-      high : 22 ≤ row t q .location → row t q .location ≤ 24 → Enters t 1
-      high x y = absurd (omega (arith, quiet-sound n t (a .quiet) q in-n .level-some x y))
+      let in-t = quiet-in n t (a .quiet) q (quiet-within n t (a .quiet) q c) in
+      let there = level-zero-wins t q (a .quiet .steady .sound) in-t (quiet-last n t (a .quiet) q c z) z in
+      enters-now t 0 (critical-at (round t) q (omega (arith, round-length t)) there)
 
   -- ---- phases
 
   -- one phase, of which j rounds are left: all but one of k + 2 leave level k + 1, and then the rest is known
   phase-passes : (k : ℕ)
-      → ((t : Table) → Among C n t → k + 1 ≤ under n t (suc k) → Enters t (D * k + 1))
+      → ((t : Table) → Among C n t → k + 1 ≤ under n t (suc k) → Enters t (phase n * k + 1))
       → (j : ℕ) (t : Table)
       → Among C n t
       → k + 2 ≤ onTime n t (suc k) (λ q. j)
-      → Enters t (D * k + 1 + j)
+      → Enters t (phase n * k + 1 + j)
   phase-passes k rest zero t a h =
       enters-mono t _ _ (omega arith) (rest t a (phase-ends n t (a .quiet) (suc k) (k + 1) (omega arith)))
   phase-passes k rest (suc j) t a h =
-      by-round t a (D * k + 1 + j) _ (omega arith)
+      by-round t a (phase n * k + 1 + j) _ (omega arith)
       (λ g. phase-passes k rest j (round t) (g .among) (le-trans h (g .on-time (suc k) j)))
 
-  -- V7
-  levels-end : (k : ℕ) (t : Table) → Among C n t → k + 1 ≤ under n t (suc k) → Enters t (D * k + 1)
+  -- k phases and the last round, from k + 1 processes at level k or below
+  levels-end : (k : ℕ) (t : Table) → Among C n t → k + 1 ≤ under n t (suc k) → Enters t (phase n * k + 1)
   levels-end zero t a h =
       let w = count-witness (λ q. isBelow 1 (row t q)) n (omega arith) in
       let b = below-of-test 1 (row t (w .0)) (w .2) in
       enters-mono t 1 _ (omega arith) (zero-enters t (w .0) a (b .0) (omega (arith, b .1)))
   levels-end (suc k) t a h =
       enters-mono t _ _ (omega arith)
-      (phase-passes k (levels-end k) D t a (le-trans (omega arith) (phase-starts n t (a .quiet) (suc k))))
+      (phase-passes k (levels-end k) (phase n) t a (le-trans (omega arith) (phase-starts n t (a .quiet) (suc k))))
 
   -- ---- all that compete
 
   module _ (i : ℕ) (m-is : count C n ≡ suc i) where
-    -- V8
+    -- all levels are low
     low-ends : (t : Table)
         → Among C n t
         → ((q : ℕ) → C q ≡ true → row t q .level < suc i)
-        → Enters t (D * i + 1)
+        → Enters t (phase n * i + 1)
     low-ends t a low =
         let all : count C n ≤ under n t (suc i) =
         count-mono C (λ q. isBelow (suc i) (row t q)) n
         (λ q l c. test-of-below (suc i) (row t q) (a .competing q ∙ c) (low q c)) in
         levels-end i t a (omega arith)
 
-    -- V9
-    stale-ends : (j : ℕ) (t : Table) → Among C n t → AllDown C n (λ q. j) t → Enters t (D * i + 1 + j)
+    -- all get there within j rounds
+    stale-ends : (j : ℕ) (t : Table) → Among C n t → AllDown C n (λ q. j) t → Enters t (phase n * i + 1 + j)
     stale-ends zero t a d =
         enters-mono t _ _ (omega arith)
-        (low-ends t a (λ q c. subst (λ (m : ℕ). row t q .level < m) m-is (down-at-end C n t a q c (d q c))))
+        (low-ends t a (λ q c. subst (λ (m : ℕ). row t q .level < m) m-is (down-at-end C n t a q (d q c))))
     stale-ends (suc j) t a d =
-        by-round t a (D * i + 1 + j) _ (omega arith) (λ g. stale-ends j (round t) (g .among) (g .down j d))
+        by-round t a (phase n * i + 1 + j) _ (omega arith) (λ g. stale-ends j (round t) (g .among) (g .down j d))
 
 -- ---- every quiet table
 
--- i phases take no longer than k
-phases-fit : (k i : ℕ) → i ≤ k → (2 * suc k + 5) * i ≤ (2 * k + 7) * k
+-- i phases of k + 1 processes take no longer than k of them
+phases-fit : (k i : ℕ) → i ≤ k → phase (suc k) * i ≤ (2 * k + 7) * k
 phases-fit k i l =
-    let same : (2 * suc k + 5) * i ≡ (2 * k + 7) * i = ap (λ (x : ℕ). x * i) (omega arith) in
+    let same : phase (suc k) * i ≡ (2 * k + 7) * i = ap (λ (x : ℕ). x * i) (omega arith) in
     omega (arith, mul-le-mul-left (2 * k + 7) l)
 
 pub quiet-ends : (k : ℕ) (t : Table) → Quiet (suc k) t → Enters t ((2 * k + 7) * k + 1)
@@ -149,4 +128,4 @@ quiet-ends k t h = go (count C n) refl (decLt (count C n) n)
         (λ q c. omega (arith, all, quiet-sound n t h q (quiet-within n t h q c) .level-low)))
     go (suc i) e (yes few) =
         enters-mono t _ _ (omega (arith, phases-fit k (suc i) (omega (arith, few))))
-        (stale-ends C n i e (2 * n + 5) t a (λ q c. down-at-start C n t a q c))
+        (stale-ends C n i e (phase n) t a (down-at-start C n t a))

@@ -10,6 +10,7 @@ pub mod OnTime
 pub mod Pace
 pub mod Moving
 pub mod Schedule
+pub mod Down
 pub mod Stale
 pub mod LastRound
 pub mod OneRound

@@ -20,7 +20,7 @@ use Rattle.machine.proofs.StepRows.{stepRow, step-becomes, step-keeps-rows}
 use Rattle.machine.proofs.RoundLaws.{Move, move-step}
 use Rattle.silence.proofs.Steady.{Quiet}
 use Rattle.silence.proofs.Kept.{step-keeps-steady}
-use Rattle.silence.proofs.QuietLaws.{quietPlaces, quiet-in, quiet-sound, quiet-never}
+use Rattle.silence.proofs.QuietLaws.{quietPlaces, quiet-in, quiet-level, quiet-never}
 use Rattle.silence.proofs.Landing.{lands}
 
 pub record Among (C : ℕ → Bool) (n : ℕ) (t : Table) : Type 0 where
@@ -46,31 +46,32 @@ module _ (n : ℕ) (t : Table) (p : ℕ) (l : p < n) (h : Quiet n t) where
       ⊎-elim (λ e. inl (eqb-true _ _ e)) (λ e. inr (e, a .1 ∙ pending-competes))
       (or-cases (eqb v 30) (oneOf v quietPlaces) (a .0))
 
-  level-in : row t p .level < length t
-  level-in = quiet-in n t h (row t p .level) (quiet-sound n t h p l .level-low)
-
-  pub quiet-moves : (C : ℕ → Bool) {u : Table}
-      → ((q : ℕ) → competes (row t q) ≡ C q)
-      → Move t p u
-      → (row u p .location ≡ 30) ⊎ Among C n u
-  quiet-moves C {u} c m = go (onward m)
+module _ (C : ℕ → Bool) (n : ℕ) (t u : Table) (p : ℕ) (l : p < n) (a : Among C n t) (m : Move t p u) where
+  pub quiet-moves : (row u p .location ≡ 30) ⊎ Among C n u
+  quiet-moves = go (onward n t p l h m)
     where
+      h : Quiet n t
+      h = a .quiet
+
+      in-t : p < length t
+      in-t = quiet-in n t h p l
+
+      i : row t p .level < length t
+      i = quiet-level n t h p l
+
       go : Onward (row t p) (stepRow t p (move-step m)) → (row u p .location ≡ 30) ⊎ Among C n u
-      go (inl e) =
-          let b = step-becomes t p (quiet-in n t h p l) level-in (move-step m) in
-          inl (ap (λ (r : Row). r .location) (b .own) ∙ e)
+      go (inl e) = inl (ap (λ (r : Row). r .location) (step-becomes t p in-t i (move-step m) .own) ∙ e)
       go (inr (o, d)) =
-          let in-t = quiet-in n t h p l in
-          let b = step-becomes t p in-t level-in (move-step m) in
-          let same = step-keeps-rows t p in-t level-in (λ q r. competes r ≡ C q) (move-step m) (d ∙ c p) (λ q ne. c q) in
-          let places = step-keeps-rows t p in-t level-in (λ q r. q < n → oneOf (r .location) quietPlaces ≡ true)
-          (move-step m) (λ i. o) (λ q ne. h .places q) in
+          let same = step-keeps-rows t p in-t i (λ q r. competes r ≡ C q) (move-step m) (d ∙ a .competing p)
+          (λ q ne. a .competing q) in
+          let places = step-keeps-rows t p in-t i (λ q r. q < n → oneOf (r .location) quietPlaces ≡ true)
+          (move-step m) (λ k. o) (λ q ne. h .places q) in
           let one = h .somebody in
           let quiet : Quiet n u =
           record {
             steady = step-keeps-steady t u p (h .steady .sound) in-t (move-step m) (h .steady);
-            size-is = b .same-size ∙ h .size-is;
+            size-is = step-becomes t p in-t i (move-step m) .same-size ∙ h .size-is;
             places = places;
-            somebody = (one .0, same (one .0) ∙ sym (c (one .0)) ∙ one .1);
+            somebody = (one .0, same (one .0) ∙ sym (a .competing (one .0)) ∙ one .1);
           } in
           inr (record { quiet = quiet; competing = same })

@@ -1,16 +1,17 @@
 -- Who is on schedule to leave level k, and the start and the end of a phase, in which all but one of them leave it.
 --
---   OnTime n v k j q r   <=>  r, of process q of n where turn[k] is v, competes below level k; or at level k, and there its
---                             decision with bb set is due within j, or it is the one that turn[k] may hold back.
---   isOnTime             ==   the same as a test; on-time-of-test, test-of-on-time.
---   onTime n t k f       ==   how many of n processes are, process q having f q rounds.
+--   Leaving n v j q r    <=>  r, of process q of n, is due to leave its level within j; or it has pushed, and its turn
+--                             cell, which holds v, names it: then it may be held back.
+--   OnTime n v k j q r   <=>  r competes below level k, or at level k and is leaving it, where turn[k] is v.
+--   isOnTime             ==   the same as a test: on-time-of-test, test-of-on-time.
+--   onTime n t k f       ==   how many of n processes are on time, process q having f q rounds.
 --   under n t k          ==   how many of n processes compete below level k.
 --   onTime-mono               who stays on time is counted still
---   phase-starts              with 2n + 5 rounds everybody below level k + 1 is on schedule to leave level k
---   phase-ends                with none left all but one have left it
+--   phase-starts              with a phase left everybody below level k + 1 is on schedule to leave level k
+--   phase-ends                with no round left all but one have left it
 --
 -- Assumes nothing.
-use Prim.Native.Nat.{ℕ, suc, _+_, _*_, _≤_, _<_}
+use Prim.Native.Nat.{ℕ, suc, _+_, _≤_, _<_}
 use mathlib.Core.Path.{_≡_, sym, ap}
 use mathlib.Core.Bool.{Bool, true, _&&_, _||_, not, and-eq-true-iff, or-eq-true-iff}
 use mathlib.Core.Logic.{_⊎_, inl, inr, Or·inl, Or·inr}
@@ -25,10 +26,9 @@ use Rattle.machine.specs.Tables.{Table, row, competes}
 use Rattle.machine.specs.Census.{isBelow}
 use Rattle.machine.specs.declared.Row.{Row}
 use Rattle.silence.proofs.Steady.{Quiet}
-use Rattle.silence.proofs.Due.{due}
+use Rattle.silence.proofs.Due.{due, phase}
 use Rattle.silence.proofs.QuietLaws.{due-most, due-some}
 
--- due to leave its level within j, or pushed and perhaps held back
 abbrev pub Leaving : ℕ → ℕ → ℕ → ℕ → Row → Type 0
 Leaving n v j q r = (due n r ≤ j) ⊎ ((r .bb ≡ 0 → ⊥) × (v ≡ q))
 
@@ -109,16 +109,16 @@ onTime-mono n t u k f g h =
 -- ---- a phase
 
 module _ (n : ℕ) (t : Table) (h : Quiet n t) (k : ℕ) where
-  pub phase-starts : under n t (suc k) ≤ onTime n t k (λ q. 2 * n + 5)
+  pub phase-starts : under n t (suc k) ≤ onTime n t k (λ q. phase n)
   phase-starts =
-      count-mono (λ q. isBelow (suc k) (row t q)) (λ q. isOnTime n (row t k .turn) k (2 * n + 5) q (row t q)) n
+      count-mono (λ q. isBelow (suc k) (row t q)) (λ q. isOnTime n (row t k .turn) k (phase n) q (row t q)) n
       (λ q l e. let b = below-of-test (suc k) (row t q) e in on q (b .0) (b .1) (decLt (row t q .level) k))
     where
       on : (q : ℕ)
           → competes (row t q) ≡ true
           → row t q .level < suc k
           → Dec (row t q .level < k)
-          → isOnTime n (row t k .turn) k (2 * n + 5) q (row t q) ≡ true
+          → isOnTime n (row t k .turn) k (phase n) q (row t q) ≡ true
       on q c i (yes j) = test-of-on-time n _ k _ q (row t q) (c, inl j)
       on q c i (no nj) =
           test-of-on-time n _ k _ q (row t q) (c, inr (omega (arith, nj), inl (due-most n t h q c)))
@@ -126,7 +126,8 @@ module _ (n : ℕ) (t : Table) (h : Quiet n t) (k : ℕ) where
   -- who has no round left has left level k, but for the one that turn[k] names
   pub phase-ends : (i : ℕ) → i + 1 ≤ onTime n t k (λ q. 0) → i ≤ under n t k
   phase-ends i l =
-      let most = count-one (λ q. isOnTime n (row t k .turn) k 0 q (row t q)) (λ q. isBelow k (row t q)) n (row t k .turn)
+      let most =
+      count-one (λ q. isOnTime n (row t k .turn) k 0 q (row t q)) (λ q. isBelow k (row t q)) n (row t k .turn)
       (λ q j ne e. gone q ne (on-time-of-test n _ k 0 q (row t q) e)) in
       omega arith
     where

@@ -1,8 +1,8 @@
 -- A round from a quiet table: somebody is at 30, or it is quiet still and everybody has spent one round.
 --
---   Goes C n t f v    <=>  v is quiet with the same competitors as t, and as far as its processes had suc j rounds in t,
---                          process q has f j q of them left.
---   round-goes-on          after a round everybody has j of them left, or somebody is at 30
+--   Goes C n t f v    <=>  v is quiet, and just those that have C compete; and for each j, where everybody had suc j
+--                          rounds in t and process q has f j q in v, as many are on time, and all get down still.
+--   round-goes-on          after a round everybody has j of suc j rounds left, or somebody is at 30
 --
 -- Assumes nothing.
 use Prim.Native.Nat.{ℕ, suc, _≤_, _<_}
@@ -22,7 +22,8 @@ use Rattle.silence.proofs.Pace.{pace, pace-first, pace-last, pace-spend
 use Rattle.silence.proofs.Moving.{Among, quiet-moves}
 use Rattle.silence.proofs.OnTime.{OnTime, onTime, onTime-mono}
 use Rattle.silence.proofs.Schedule.{moved-on-time}
-use Rattle.silence.proofs.Stale.{Down, AllDown, moved-down}
+use Rattle.silence.proofs.Down.{Down, AllDown}
+use Rattle.silence.proofs.Stale.{moved-down}
 use Rattle.silence.proofs.LastRound.{critical-at}
 
 pub record Goes (C : ℕ → Bool) (n : ℕ) (t : Table) (f : ℕ → ℕ → ℕ) (v : Table) : Type 0 where
@@ -55,7 +56,7 @@ module _ (C : ℕ → Bool) (n : ℕ) (t : Table) where
   move-goes-on : (p : ℕ) (v u : Table) → p < n → Move v p u → After p v → After (suc p) u
   move-goes-on p v u l m (inl (i, k, e)) =
       inl (i, omega arith, step-others v u p i (move-step m) (λ z. omega arith) .location-same ∙ e)
-  move-goes-on p v u l m (inr h) = go (quiet-moves n v p l (h .among .quiet) C (h .among .competing) m)
+  move-goes-on p v u l m (inr h) = go (quiet-moves C n v u p l (h .among) m)
     where
       go : (row u p .location ≡ 30) ⊎ Among C n u → After (suc p) u
       go (inl e) = inl (p, omega arith, e)
@@ -71,7 +72,6 @@ module _ (C : ℕ → Bool) (n : ℕ) (t : Table) where
                 moved-down C n v u p j (pace j p) (pace j (suc p)) (pace-spends j p) l (h .among) on m (h .down j d);
           })
 
-  -- V6
   pub round-goes-on : Among C n t → (1 ≤ critical (round t)) ⊎ Goes C n t (λ j q. j) (round t)
   round-goes-on a = go (by-moves t After (a .quiet .steady .sound) each (inr start))
     where
@@ -94,4 +94,5 @@ module _ (C : ℕ → Bool) (n : ℕ) (t : Table) where
 
       go : After (length t) (round t) → (1 ≤ critical (round t)) ⊎ Goes C n t (λ j q. j) (round t)
       go (inl (i, l, e)) = inl (critical-at (round t) i (omega (arith, round-length t)) e)
-      go (inr h) = inr (goes-cong (λ j. pace j (length t)) (λ j q. j) (round t) (λ j q l. pace-last j _ q (omega arith)) h)
+      go (inr h) =
+          inr (goes-cong (λ j. pace j (length t)) (λ j q. j) (round t) (λ j q l. pace-last j _ q (omega arith)) h)

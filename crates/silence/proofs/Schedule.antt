@@ -1,7 +1,8 @@
 -- A move in a quiet table keeps as many processes on time: the one that moves has one round less afterwards.
 --
 --   paced, dropped       a row one move nearer to its decision, and one with a lower level
---   pushed-on-time       GO at 24, which writes a turn cell: another process may no longer be held back, but p is
+--   alone-on-time        a move that does not write turn[k]
+--   pushed-on-time       GO at 24, which may write it: then another process is no longer held back there, but p is
 --   moved-on-time        every move
 --
 -- Assumes nothing.
@@ -14,7 +15,6 @@ use native.Mathlib.Omega.{arith}
 use lib.ListN.{length, set}
 use Rattle.counting.proofs.TestLaws.{fails}
 use Rattle.counting.proofs.LessLaws.{count-swap}
-use Rattle.counting.proofs.SizeLaws.{size-others}
 use Rattle.machine.specs.Rows.{withLocation}
 use Rattle.machine.specs.Tables.{Table, row, competes}
 use Rattle.machine.specs.declared.Row.{Row}
@@ -28,9 +28,11 @@ use Rattle.machine.proofs.RoundLaws.Move.{waits, skips, pushes, exits, leaves}
 use Rattle.silence.proofs.Steady.{Quiet}
 use Rattle.silence.proofs.Due.{left, due}
 use Rattle.silence.proofs.DueLaws.{left-21, left-22, left-23, due-set, due-unset, due-falls}
-use Rattle.silence.proofs.QuietLaws.{quiet-few, quiet-in, quiet-sound, quiet-never, left-most, look-left}
+use Rattle.silence.proofs.QuietLaws.{quiet-in, quiet-level, quiet-sound, quiet-never, left-most, look-left}
+use Rattle.silence.proofs.QuietLaws.{push-left}
 use Rattle.silence.proofs.Pace.{Spends}
-use Rattle.silence.proofs.OnTime.{OnTime, isOnTime, onTime, on-time-of-test, test-of-on-time, onTime-mono}
+use Rattle.silence.proofs.OnTime.{Leaving, OnTime, isOnTime, onTime, on-time-of-test, test-of-on-time}
+use Rattle.silence.proofs.OnTime.{onTime-mono}
 
 -- ---- two rows
 
@@ -62,24 +64,45 @@ module _ (n : ℕ) (t : Table) (p : ℕ) (l : p < n) (h : Quiet n t) (k j : ℕ)
     in-t : p < length t
     in-t = quiet-in n t h p l
 
-    -- the row of p alone changes, and turn[k] does not
+    -- another process is on time, where turn[k] holds x, unless it was held back and is no longer
+    other-on-time : (x q : ℕ)
+        → (q ≡ p → ⊥)
+        → (competes (row t q) ≡ true → (row t q .bb ≡ 0 → ⊥) → v ≡ q → Leaving n x (g q) q (row t q))
+        → OnTime n v k (f q) q (row t q)
+        → OnTime n x k (g q) q (row t q)
+    other-on-time x q ne held (c, inl i) = (c, inl i)
+    other-on-time x q ne held (c, inr (i, inl d)) = (c, inr (i, inl (omega (arith, spends .same q ne))))
+    other-on-time x q ne held (c, inr (i, inr (b, z))) = (c, inr (i, held c b z))
+
+    -- the row of p becomes s, and everybody is on time still
+    rows-on-time : (u : Table) (s : Row)
+        → Becomes t p (λ r. r) s u
+        → (OnTime n v k (suc j) p (row t p) → OnTime n (row u k .turn) k j p s)
+        → ((q : ℕ)
+        → (q ≡ p → ⊥)
+        → competes (row t q) ≡ true
+        → (row t q .bb ≡ 0 → ⊥)
+        → v ≡ q
+        → Leaving n (row u k .turn) (g q) q (row t q))
+        → onTime n t k f ≤ onTime n u k g
+    rows-on-time u s b own held =
+        onTime-mono n t u k f g
+        (λ q i.
+        other-rows-keep (λ q r. OnTime n v k (f q) q (row t q) → OnTime n (row u k .turn) k (g q) q r) b
+        (λ o.
+        subst (λ (x : ℕ). OnTime n (row u k .turn) k x p s) (sym (spends .after))
+        (own (subst (λ (x : ℕ). OnTime n v k x p (row t p)) (spends .before) o)))
+        (λ q ne. other-on-time (row u k .turn) q ne (held q ne))
+        q)
+
+    -- turn[k] is kept
     alone-on-time : (u : Table) (s : Row)
         → Becomes t p (λ r. r) s u
         → row u k .turn ≡ v
         → (OnTime n v k (suc j) p (row t p) → OnTime n v k j p s)
         → onTime n t k f ≤ onTime n u k g
     alone-on-time u s b e own =
-        onTime-mono n t u k f g
-        (λ q i.
-        other-rows-keep (λ q r. OnTime n v k (f q) q (row t q) → OnTime n (row u k .turn) k (g q) q r) b
-        (λ o.
-        subst (λ (x : ℕ). OnTime n x k (g p) p s) (sym e)
-        (subst (λ (x : ℕ). OnTime n v k x p s) (sym (spends .after))
-        (own (subst (λ (x : ℕ). OnTime n v k x p (row t p)) (spends .before) o))))
-        (λ q ne o.
-        subst (λ (x : ℕ). OnTime n x k (g q) q (row t q)) (sym e)
-        (subst (λ (x : ℕ). OnTime n v k x q (row t q)) (sym (spends .same q ne)) o))
-        q)
+        rows-on-time u s b (λ o. subst (λ (x : ℕ). OnTime n x k j p s) (sym e) (own o)) (λ q ne c m z. inr (m, e ∙ z))
 
     set-on-time : (s : Row)
         → s .turn ≡ row t p .turn
@@ -111,9 +134,7 @@ module _ (n : ℕ) (t : Table) (p : ℕ) (l : p < n) (h : Quiet n t) (k j : ℕ)
       where
         -- another pass, with bb set
         pass-due : due n (pushedRow t p (row t p)) ≤ n + 2
-        pass-due =
-            let few = quiet-few n t h in
-            omega (arith, h .size-is, size-others (length t) p (omega (arith, h .size-is)) in-t)
+        pass-due = omega (arith, push-left n t h p l)
 
         -- at another level turn[k] is kept
         pushed-elsewhere : (k ≡ row t p .level → ⊥) → onTime n t k f ≤ onTime n u k g
@@ -123,59 +144,41 @@ module _ (n : ℕ) (t : Table) (p : ℕ) (l : p < n) (h : Quiet n t) (k j : ℕ)
             go (c, inl i) = (refl, inl i)
             go (c, inr (i, _)) = absurd (ne (sym i))
 
-        -- with so many rounds left nobody is counted for turn[k] alone
+        -- with so many rounds left nobody needs turn[k] to be counted
         pushed-early : n + 3 ≤ suc j → k ≡ row t p .level → onTime n t k f ≤ onTime n u k g
         pushed-early many i =
-            onTime-mono n t u k f g
-            (λ q in-n.
-            other-rows-keep (λ q r. OnTime n v k (f q) q (row t q) → OnTime n (row u k .turn) k (g q) q r) b
-            (λ o. (refl, inr (sym i, inl (omega (arith, pass-due, spends .after))))) other q)
-          where
-            other : (q : ℕ)
-                → (q ≡ p → ⊥)
-                → OnTime n v k (f q) q (row t q)
-                → OnTime n (row u k .turn) k (g q) q (row t q)
-            other q ne (c, inl m) = (c, inl m)
-            other q ne (c, inr (m, inl d)) = (c, inr (m, inl (omega (arith, spends .same q ne))))
-            other q ne (c, inr (m, inr (bb, z))) =
-                let last = left-most n t h q c in
-                (c, inr (m, inl (omega (arith, due-set (row t q) n bb, spends .same q ne, spends .least q))))
+            rows-on-time u _ b (λ o. (refl, inr (sym i, inl (omega (arith, pass-due)))))
+            (λ q ne c m z.
+            let last = left-most n t h q c in
+            inl (omega (arith, due-set (row t q) n m, spends .same q ne, spends .least q)))
 
         -- p is counted for turn[k] from now on, and in its place one other no longer is
         pushed-late : suc j < n + 3 → k ≡ row t p .level → onTime n t k f ≤ onTime n u k g
         pushed-late few i =
-            count-swap (λ q. isOnTime n v k (f q) q (row t q)) (λ q. isOnTime n (row u k .turn) k (g q) q (row u q)) n p v
-            (λ q in-n ne o.
-            test-of-on-time n _ k (g q) q (row u q)
-            (other-rows-keep
-            (λ q r. (q ≡ v → ⊥) → OnTime n v k (f q) q (row t q) → OnTime n (row u k .turn) k (g q) q r) b
-            (λ ne o. held) other q ne (on-time-of-test n v k (f q) q (row t q) o)))
+            count-swap (λ q. isOnTime n v k (f q) q (row t q)) (λ q. isOnTime n x k (g q) q (row u q)) n p v
+            (λ q in-n nv o.
+            test-of-on-time n x k (g q) q (row u q)
+            (other-rows-keep (λ q r. (q ≡ v → ⊥) → OnTime n v k (f q) q (row t q) → OnTime n x k (g q) q r) b
+            (λ nv o. held) (λ q ne nv. other-on-time x q ne (λ c m z. absurd (nv (sym z))))
+            q nv (on-time-of-test n v k (f q) q (row t q) o)))
             l
-            (test-of-on-time n _ k (g p) p (row u p)
-            (subst (OnTime n (row u k .turn) k (g p) p) (sym (b .own)) held))
+            (test-of-on-time n x k (g p) p (row u p) (subst (OnTime n x k (g p) p) (sym (b .own)) held))
             (fails _ (λ o. out (on-time-of-test n v k (f p) p (row t p) o)))
           where
-            held : OnTime n (row u k .turn) k (g p) p (pushedRow t p (row t p))
-            held = (refl, inr (sym i, inr ((λ z. omega arith), ap (λ (x : ℕ). row u x .turn) i ∙ own)))
+            x : ℕ
+            x = row u k .turn
+
+            held : OnTime n x k (g p) p (pushedRow t p (row t p))
+            held = (refl, inr (sym i, inr ((λ z. omega arith), ap (λ (y : ℕ). row u y .turn) i ∙ own)))
 
             -- bb is 0 at 24, and a whole pass is to come
+            bb-none : (row t p .bb ≡ 0 → ⊥) → ⊥
+            bb-none m = omega (arith, h .steady .rows p .bb-inside m .1)
+
             out : OnTime n v k (f p) p (row t p) → ⊥
             out (c, inl m) = omega arith
-            out (c, inr (m, inr (bb, z))) = omega (arith, h .steady .rows p .bb-inside bb .1)
-            out (c, inr (m, inl d)) = go (ℕ-discrete (row t p .bb) 0)
-              where
-                go : Dec (row t p .bb ≡ 0) → ⊥
-                go (yes z) = omega (arith, due-unset (row t p) n z, spends .before)
-                go (no bb) = omega (arith, h .steady .rows p .bb-inside bb .1)
-
-            other : (q : ℕ)
-                → (q ≡ p → ⊥)
-                → (q ≡ v → ⊥)
-                → OnTime n v k (f q) q (row t q)
-                → OnTime n (row u k .turn) k (g q) q (row t q)
-            other q ne nv (c, inl m) = (c, inl m)
-            other q ne nv (c, inr (m, inl d)) = (c, inr (m, inl (omega (arith, spends .same q ne))))
-            other q ne nv (c, inr (m, inr (bb, z))) = absurd (nv (sym z))
+            out (c, inr (_, inr (m, z))) = bb-none m
+            out (c, inr (_, inl d)) = bb-none (λ z. omega (arith, due-unset (row t p) n z, spends .before))
 
         pushed-on-time : onTime n t k f ≤ onTime n u k g
         pushed-on-time = go (ℕ-discrete k (row t p .level)) (decLt (suc j) (n + 3))
@@ -215,7 +218,7 @@ module _ (n : ℕ) (t : Table) (p : ℕ) (l : p < n) (h : Quiet n t) (k j : ℕ)
         go (c, inl m) = (refl, inl m)
         go (c, inr (m, _)) = (refl, inr (m, inr (b, ap (λ (x : ℕ). row t x .turn) (sym m) ∙ o)))
     moved-on-time on (pushes e) =
-        let i = quiet-in n t h (row t p .level) (quiet-sound n t h p l .level-low) in
+        let i = quiet-level n t h p l in
         pushed-on-time e
         (turn-set-becomes t (row t p .level) p i p in-t (pushedRow t p) (λ r. refl) (λ r. refl))
         (turn-set-others t (row t p .level) p i p in-t (pushedRow t p) (λ r. refl) (λ r. refl))
