@@ -5,19 +5,21 @@
 --   size-mono, size-le, size-zero    some of the members; at most n of n processes; none in the empty set
 --   size-without, size-without-in, size-without-le, size-le-without    a removal, and how far it changes the size
 --   size-others                   all of n processes but p are n - 1
+--   size-under                    a set of some of the numbers that have P, less one of them, has fewer members
 --   size-pos, size-member         a member makes the size at least 1, and a size of at least 1 has a member
 --
 -- Assumes nothing.
 use Prim.Native.Nat.{ℕ, _+_, _^_, _≤_, _<_}
 use mathlib.Core.Path.{_≡_, refl, sym, ap, _∙_}
-use mathlib.Core.Bool.{Bool, true, not}
+use mathlib.Core.Bool.{Bool, true, false, not}
 use native.Mathlib.Omega.{arith}
 use lib.Dec.{eqb}
 use borrow.Author.Tests.{eq-eqb, ne-eqb}
 use Rattle.counting.specs.Sums.{bit, count}
 use Rattle.counting.specs.Sets.{has, setOf, size, without, others}
 use Rattle.counting.proofs.CountLaws.{Implies, count-cong, count-mono, count-le, count-all, count-none}
-use Rattle.counting.proofs.CountLaws.{count-over, count-one, count-same-but, count-pos, count-witness}
+use Rattle.counting.proofs.CountLaws.{count-over, count-one, count-same-but, count-strict, count-pos}
+use Rattle.counting.proofs.CountLaws.{count-witness}
 use Rattle.counting.proofs.SetLaws.{setOf-lt, has-setOf, has-over, has-zero}
 use Rattle.counting.proofs.SetLaws.{without-same, without-other, without-sub}
 
@@ -45,6 +47,18 @@ size-le s n h l = rw (size-count s n h l) (count-le (has s) n)
 pub size-le-all : (s : ℕ) → size s ≤ 16
 unfolding size
 size-le-all s = count-le (has s) 16
+
+-- every member has P, and q has P and is no member
+pub size-under : (s n q : ℕ) (P : ℕ → Bool)
+    → s < 2 ^ n
+    → n ≤ 16
+    → q < n
+    → has s q ≡ false
+    → ((x : ℕ) → x < n → has s x ≡ true → P x ≡ true)
+    → P q ≡ true
+    → size s + 1 ≤ count P n
+size-under s n q P h l k out in-P hq =
+    rw (size-count s n h l) (count-strict (has s) P n q in-P k out hq)
 
 pub size-zero : size 0 ≡ 0
 unfolding size

@@ -1,6 +1,7 @@
 -- Laws of tests and choices, beside those of mathlib.Core.Bool and borrow.Author.Tests.
 --
 --   or-cases, implied, implies      what a disjunction and an implication say
+--   fails                           a test that cannot hold fails
 --   same-test, beq-true             tests that imply each other are equal, and so are tests that compare as equal
 --   at-one                          from a to a is a itself
 --   split                           a test by cases, with the equation kept
@@ -34,6 +35,11 @@ implied false b h e = absurd (false≢true e)
 pub implies : (a b : Bool) → (a ≡ true → b ≡ true) → (not a || b) ≡ true
 implies true b f = f refl
 implies false b f = refl
+
+-- a test that cannot hold fails
+pub fails : (a : Bool) → (a ≡ true → ⊥) → a ≡ false
+fails true h = absurd (h refl)
+fails false h = refl
 
 -- tests that imply each other
 pub same-test : (a b : Bool) → (a ≡ true → b ≡ true) → (b ≡ true → a ≡ true) → a ≡ b

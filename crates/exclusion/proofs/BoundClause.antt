@@ -21,10 +21,11 @@ use Rattle.machine.specs.System.{Cp}
 use Rattle.machine.specs.declared.Row.{Row}
 use Rattle.machine.proofs.SoundRows.{sound-row, sound-few}
 use Rattle.machine.proofs.Assignments.{Becomes, other-rows-keep, TurnsKept, TurnsKeptBut, competes-at}
+use Rattle.machine.proofs.StepRows.{enteredRow, loweredRow, pushedRow, forgotten}
 use Rattle.exclusion.proofs.Reaching.{Held, Reaches, Stops, reaches-competes, reaches-held}
 use Rattle.exclusion.proofs.Bounded.{Bounded, Stopper, countRows-mono, bounded-few, bounded-stop, bounded-leave}
 use Rattle.exclusion.proofs.Bounded.{stopper-kept, stopper-own, bounded-row}
-use Rattle.exclusion.proofs.Effects.{Stays, Alone, Effect, enteredRow, loweredRow, pushedRow, forgotten}
+use Rattle.exclusion.proofs.Effects.{Stays, Alone, Effect}
 use Rattle.exclusion.proofs.Effects.Effect.{idled, stayed, entered, lowered, went-to-push, passed, flickered}
 use Rattle.exclusion.proofs.Effects.Effect.{pushed, exited}
 use Rattle.exclusion.proofs.Invariant.{Invariant}

@@ -9,12 +9,13 @@
 -- Assumes nothing.
 use Prim.Native.Nat.{ℕ, _+_, _≤_}
 use mathlib.Core.Path.{_≡_, refl, sym, ap, subst}
-use mathlib.Core.Bool.{Bool, true, false}
+use mathlib.Core.Bool.{Bool, true}
 use mathlib.Core.Logic.{_⊎_, inl, inr}
 use native.Mathlib.Nat.{le-trans}
 use native.Mathlib.Omega.{arith}
 use lib.ListN.{length}
 use Rattle.counting.specs.Sums.{count}
+use Rattle.counting.proofs.TestLaws.{fails}
 use Rattle.counting.proofs.CountLaws.{count-mono, count-strict}
 use Rattle.machine.specs.Tables.{Table, row, competes}
 use Rattle.machine.specs.Census.{countRows, isHeld, held}
@@ -41,11 +42,6 @@ pub countRows-mono : (P Q : Row → Bool) (t u : Table)
 countRows-mono P Q t u e h =
     subst (λ (n : ℕ). count (λ q. P (row u q)) n ≤ countRows Q t) (sym e)
     (count-mono (λ q. P (row u q)) (λ q. Q (row t q)) (length t) (λ q l. h q))
-
--- a test that cannot hold fails
-pub fails : (a : Bool) → (a ≡ true → ⊥) → a ≡ false
-fails true h = absurd (h refl)
-fails false h = refl
 
 held-reaching : (k : ℕ) (r : Row) → isHeld k r ≡ true → isReaching k r ≡ true
 held-reaching k r h = isReaching-of-reaches k r (inl (held-of-isHeld k r h))

@@ -14,18 +14,18 @@ use native.Mathlib.Omega.{arith}
 use lib.Dec.{leb}
 use lib.ListN.{length, set}
 use borrow.Author.Tests.{le-leb}
-use Rattle.counting.specs.Sets.{has, size, without, others}
-use Rattle.counting.proofs.SetLaws.{has-zero, without-none, without-other}
-use Rattle.machine.specs.Rows.{blank, withLocation, withAct, withBb, withLevel, withEst, withLis, withAhead}
+use Rattle.counting.specs.Sets.{has, size, without}
+use Rattle.counting.proofs.SetLaws.{without-other}
+use Rattle.machine.specs.Rows.{withLocation, withEst, withLis}
 use Rattle.machine.specs.Tables.{Table, row, competes}
-use Rattle.machine.specs.System.{Cp, Step}
+use Rattle.machine.specs.System.{Step}
 use Rattle.machine.specs.System.Step.{rests, comes, flickers-20, enters, starts-pass, wins, discards, keeps, ends-pass}
 use Rattle.machine.specs.System.Step.{lowers, to-push, waits, skips, flickers-24, pushes, exits, flickers-40, leaves}
 use Rattle.machine.specs.System.Step.{cancels}
 use Rattle.machine.specs.declared.Row.{Row}
 use Rattle.machine.proofs.Assignments.{bare, Becomes, TurnsKept, TurnsKeptBut, set-becomes, set-keeps-turns}
-use Rattle.machine.proofs.Assignments.{turn-becomes, other-turns-keep, turn-set-becomes, turn-set-is}
-use Rattle.machine.proofs.Assignments.{turn-set-others, map-becomes, competes-at}
+use Rattle.machine.proofs.Assignments.{other-turns-keep, turn-set-is, turn-set-others, competes-at}
+use Rattle.machine.proofs.StepRows.{enteredRow, loweredRow, pushedRow, forgotten, step-becomes}
 
 pub record Idles (r s : Row) : Type 0 where
   pub idle-before : competes r ≡ false
@@ -50,23 +50,6 @@ pub record Stays (t : Table) (r s : Row) : Type 0 where
   pub same-level : s .level ≡ r .level
   pub same-ahead : s .ahead ≡ r .ahead
   pub est-spares : Spares t (r .est) (s .est)
-
--- ---- the rows after the statements that count
-
-abbrev pub enteredRow : Table → ℕ → Row
-enteredRow t p =
-    withLocation 21 (withEst (others (length t) p) (withLevel (length t - 1) (withAct 1 (withAhead (Cp t) (row t p)))))
-
--- to 21 with level v and bb 0
-abbrev pub loweredRow : ℕ → Row → Row
-loweredRow v r = withLocation 21 (withBb 0 (withLevel v r))
-
-abbrev pub pushedRow : Table → ℕ → Row → Row
-pushedRow t p r = withLocation 21 (withAhead (without (Cp t) p) (withEst (others (length t) p) (withBb 1 r)))
-
--- p leaves ahead
-abbrev pub forgotten : ℕ → Row → Row
-forgotten p r = withAhead (without (r .ahead) p) r
 
 -- no row but that of p changes
 abbrev pub Alone : Table → ℕ → Row → Table → Type 0
@@ -181,18 +164,15 @@ module _ (t : Table) (p : ℕ) (l : p < length t) where
   effect-of i (skips e h n v) =
       stay-inside 21 (row t p .lis) (row t p .est) (omega arith, omega arith) (omega arith, omega arith) same-est
   effect-of i (flickers-24 a e h) =
-      flickered e (turn-becomes t (row t p .level) a i p) (other-turns-keep t (row t p .level) a i)
+      flickered e (step-becomes t p l i (flickers-24 a e h)) (other-turns-keep t (row t p .level) a i)
   effect-of i (pushes e) =
       let keep : (r : Row) → pushedRow t p r .turn ≡ r .turn = λ r. refl in
       let blind : (r : Row) → bare (pushedRow t p r) ≡ bare (pushedRow t p (bare r)) = λ r. refl in
       pushed e
-      (turn-set-becomes t (row t p .level) p i p l (pushedRow t p) keep blind)
+      (step-becomes t p l i (pushes e))
       (turn-set-others t (row t p .level) p i p l (pushedRow t p) keep blind)
       (turn-set-is t (row t p .level) p i p l (pushedRow t p) keep blind)
-  effect-of i (exits e) =
-      exited e
-      (map-becomes t p (forgotten p) (withLocation 40) l
-      (ap (λ (s : ℕ). withAhead s blank) (without-none 0 p (omega arith) (has-zero p))))
+  effect-of i (exits e) = exited e (step-becomes t p l i (exits e))
   effect-of i (flickers-40 a e h) = idle-set 40 _ e refl (competes-at (row t p) 40 e) refl refl refl refl
   effect-of i (leaves e) = idle-set 40 _ e refl refl refl refl refl refl
   effect-of i (cancels e) = idle-set 20 _ e refl refl refl refl refl refl

@@ -18,12 +18,13 @@ use Rattle.machine.proofs.SoundRows.{sound-row}
 use Rattle.machine.proofs.Soundness.{step-keeps-sound}
 use Rattle.machine.proofs.Accepted.{always}
 use Rattle.machine.proofs.Assignments.{competes-at, competes-within}
+use Rattle.machine.proofs.BbInside.{step-keeps-bb-inside}
 use Rattle.exclusion.proofs.Reaching.{isHeld-of-held}
 use Rattle.exclusion.proofs.Bounded.{countRows-mono, bounded-held}
 use Rattle.exclusion.proofs.Effects.{effect-of}
 use Rattle.exclusion.proofs.Invariant.{Invariant}
-use Rattle.exclusion.proofs.RowClauses.{effect-keeps-bb-inside, effect-keeps-ahead-in-est}
-use Rattle.exclusion.proofs.RowClauses.{effect-keeps-act-shown, effect-keeps-ahead-competes}
+use Rattle.exclusion.proofs.RowClauses.{effect-keeps-ahead-in-est, effect-keeps-act-shown}
+use Rattle.exclusion.proofs.RowClauses.{effect-keeps-ahead-competes}
 use Rattle.exclusion.proofs.BoundClause.{effect-keeps-bounded}
 use Rattle.exclusion.proofs.Fresh.{fresh-invariant}
 
@@ -37,7 +38,7 @@ step-keeps-invariant t u p z l x i =
     let e = effect-of t p l (sound-row t z p l .level-low) x in
     record {
       sound = step-keeps-sound t u p z l x;
-      bb-inside = effect-keeps-bb-inside t u p l i e;
+      bb-inside = step-keeps-bb-inside t p z l (i .bb-inside) x;
       ahead-in-est = effect-keeps-ahead-in-est t u p l i e;
       act-shown = effect-keeps-act-shown t u p l i e;
       ahead-competes = effect-keeps-ahead-competes t u p l i e;

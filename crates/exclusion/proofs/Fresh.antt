@@ -1,72 +1,35 @@
 -- A fresh table has the invariant, and there is one for every number of processes from 2 to 16.
 --
---   Resting r           <=>  the process of r does not compete, and has bb 0 and nobody ahead.
---   fresh-rests         every row of a fresh table rests, and so do those past its end
---   fresh-invariant     so the invariant holds
+--   fresh-invariant     every row of a fresh table rests, so the invariant holds
 --   freshTable-fresh    the table that is made for n processes is fresh
 --
 -- Assumes nothing.
 use Prim.Native.Nat.{ℕ, zero, suc, _≤_}
 use mathlib.Core.Path.{_≡_, refl, sym, _∙_, subst}
-use mathlib.Core.Bool.{Bool, true, false, _&&_, false≢true, and-eq-true-iff}
+use mathlib.Core.Bool.{true, false≢true, and-eq-true-iff}
 use mathlib.Core.Logic.{inl}
-use mathlib.Core.List.{[], _∷_}
 use native.Mathlib.Omega.{arith}
-use lib.Dec.{eqb}
 use lib.Pow.{pow-pos}
 use lib.ListN.{length, length-replicate, getD-replicate}
-use borrow.Author.Tests.{eqb-true}
 use Rattle.counting.specs.Sets.{has}
+use Rattle.counting.proofs.TestLaws.{fails}
 use Rattle.counting.proofs.SetLaws.{has-zero}
 use Rattle.counting.proofs.CountLaws.{count-none}
 use Rattle.machine.specs.Rows.{idle, blank}
-use Rattle.machine.specs.Tables.{Table, row, sound, resting, allResting, fresh, freshTable, competes}
-use Rattle.machine.specs.declared.Row.{Row}
+use Rattle.machine.specs.Tables.{Table, row, sound, allResting, fresh, freshTable, competes}
 use Rattle.machine.proofs.SoundRows.{SoundRow, sound-accepted, accepted-sound, rows-sound}
-use Rattle.machine.proofs.Assignments.{competes-at}
+use Rattle.machine.proofs.FreshRows.{fresh-sound, fresh-rests}
 use Rattle.exclusion.proofs.Reaching.{isReaching, reaches-of-isReaching, reaches-competes}
-use Rattle.exclusion.proofs.Bounded.{Bounded, fails}
+use Rattle.exclusion.proofs.Bounded.{Bounded}
 use Rattle.exclusion.proofs.Invariant.{Invariant}
 
-record Resting (r : Row) : Type 0 where
-  idle-now : competes r ≡ false
-  no-bb : r .bb ≡ 0
-  none-ahead : r .ahead ≡ 0
-
-rests-of-test : (r : Row) → resting r ≡ true → Resting r
-rests-of-test r h =
-    let a : Bool = eqb (r .location) 10 in
-    let b : Bool = eqb (r .act) 0 in
-    let c : Bool = eqb (r .bb) 0 in
-    let d : Bool = eqb (r .ahead) 0 in
-    let abc = and-eq-true-iff (a && b && c) d .0 h .0 in
-    record {
-      idle-now = competes-at r 10 (eqb-true _ _ (and-eq-true-iff a b .0 (and-eq-true-iff (a && b) c .0 abc .0) .0));
-      no-bb = eqb-true _ _ (and-eq-true-iff (a && b) c .0 abc .1);
-      none-ahead = eqb-true _ _ (and-eq-true-iff (a && b && c) d .0 h .1);
-    }
-
-all-rest : (t : Table) → allResting t ≡ true → (q : ℕ) → Resting (row t q)
-unfolding allResting
-all-rest [] h q = record { idle-now = refl; no-bb = refl; none-ahead = refl }
-all-rest (r ∷ t) h zero = rests-of-test r (and-eq-true-iff (resting r) (allResting t) .0 h .0)
-all-rest (r ∷ t) h (suc q) = all-rest t (and-eq-true-iff (resting r) (allResting t) .0 h .1) q
-
 module _ (t : Table) (h : fresh t ≡ true) where
-  fresh-rests : (q : ℕ) → Resting (row t q)
-  unfolding fresh
-  fresh-rests = all-rest t (and-eq-true-iff (sound t) (allResting t) .0 h .1)
-
-  pub fresh-sound : sound t ≡ true
-  unfolding fresh
-  fresh-sound = and-eq-true-iff (sound t) (allResting t) .0 h .0
-
   nobody-competes : (q : ℕ) → competes (row t q) ≡ true → ⊥
-  nobody-competes q c = false≢true (sym (fresh-rests q .idle-now) ∙ c)
+  nobody-competes q c = false≢true (sym (fresh-rests t h q .idle-now) ∙ c)
 
   nobody-ahead : (q x : ℕ) → has (row t q .ahead) x ≡ true → ⊥
   nobody-ahead q x m =
-      false≢true (sym (has-zero x) ∙ subst (λ (s : ℕ). has s x ≡ true) (fresh-rests q .none-ahead) m)
+      false≢true (sym (has-zero x) ∙ subst (λ (s : ℕ). has s x ≡ true) (fresh-rests t h q .none-ahead) m)
 
   fresh-bounded : (k : ℕ) → Bounded t k
   fresh-bounded k =
@@ -78,8 +41,8 @@ module _ (t : Table) (h : fresh t ≡ true) where
   pub fresh-invariant : Invariant t
   fresh-invariant =
       record {
-        sound = sound-accepted t fresh-sound;
-        bb-inside = λ q n. absurd (n (fresh-rests q .no-bb));
+        sound = sound-accepted t (fresh-sound t h);
+        bb-inside = λ q n. absurd (n (fresh-rests t h q .no-bb));
         ahead-in-est = λ q x m. absurd (nobody-ahead q x m);
         act-shown = λ q c. absurd (nobody-competes q c);
         ahead-competes = λ q x m. absurd (nobody-ahead q x m);

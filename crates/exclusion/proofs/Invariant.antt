@@ -1,9 +1,9 @@
 -- The invariant, one field a clause, with the labels of sections 3.4 (K) and 3.5 (L, J) of the paper.
 --
---   BbInside r      <=>  bb is set only at 21, 22 and 23, above level 0.
 --   AheadInEst r    <=>  who is ahead is in est.
 --   ActShown r      <=>  who competes shows act.
---   Invariant t     <=>  t is sound, each row has these, who is ahead competes, and t is bounded at every k.
+--   Invariant t     <=>  t is sound, bb is set only where it may be, each row has these, who is ahead competes, and
+--                        t is bounded at every k.
 --
 -- Each clause speaks of every number q and k: past the end of the table the rows are blank, and all clauses hold there.
 -- Assumes nothing.
@@ -18,11 +18,8 @@ use Rattle.counting.proofs.SetLaws.{setOf-lt, has-setOf, has-over, without-same
 use Rattle.machine.specs.Tables.{Table, row, tableRefusal, competes}
 use Rattle.machine.specs.System.{Cp}
 use Rattle.machine.specs.declared.Row.{Row}
+use Rattle.machine.proofs.BbInside.{BbInside}
 use Rattle.exclusion.proofs.Bounded.{Bounded}
-
--- L0 and L1
-abbrev pub BbInside : Row → Type 0
-BbInside r = (r .bb ≡ 0 → ⊥) → (competes r ≡ true) × (r .location ≤ 23) × (0 < r .level)
 
 -- K0
 abbrev pub AheadInEst : Row → Type 0
@@ -34,6 +31,7 @@ ActShown r = competes r ≡ true → r .act ≡ 0 → ⊥
 
 pub record Invariant (t : Table) : Type 0 where
   pub sound : tableRefusal t ≡ 0
+  -- L0 and L1
   pub bb-inside : (q : ℕ) → BbInside (row t q)
   pub ahead-in-est : (q : ℕ) → AheadInEst (row t q)
   pub act-shown : (q : ℕ) → ActShown (row t q)

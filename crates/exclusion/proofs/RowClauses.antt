@@ -17,37 +17,13 @@ use Rattle.machine.proofs.Assignments.{other-rows-keep, competes-at, competes-w
 use Rattle.exclusion.proofs.Effects.{Alone, Effect}
 use Rattle.exclusion.proofs.Effects.Effect.{idled, stayed, entered, lowered, went-to-push, passed, flickered}
 use Rattle.exclusion.proofs.Effects.Effect.{pushed, exited}
-use Rattle.exclusion.proofs.Invariant.{BbInside, AheadInEst, ActShown, Invariant, competitor-competes}
+use Rattle.exclusion.proofs.Invariant.{AheadInEst, ActShown, Invariant, competitor-competes}
 use Rattle.exclusion.proofs.Invariant.{without-member}
 
 module _ (t u : Table) (p : ℕ) (l : p < length t) (i : Invariant t) where
   -- who competes is not p, where p does not
   competes-not : (x : ℕ) → competes (row t p) ≡ false → competes (row t x) ≡ true → x ≡ p → ⊥
   competes-not x o c z = false≢true (sym o ∙ subst (λ (y : ℕ). competes (row t y) ≡ true) z c)
-
-  -- ---- bb
-
-  bb-alone : (s : Row) → Alone t p s u → BbInside s → (q : ℕ) → BbInside (row u q)
-  bb-alone s b h = other-rows-keep (λ q r. BbInside r) b h (λ q ne. i .bb-inside q)
-
-  pub effect-keeps-bb-inside : Effect t p u → (q : ℕ) → BbInside (row u q)
-  effect-keeps-bb-inside (idled s h b v) =
-      bb-alone s b (λ n. absurd (false≢true (sym (h .idle-before) ∙ i .bb-inside p (λ z. n (h .same-bb ∙ z)) .0)))
-  effect-keeps-bb-inside (stayed s h b v) =
-      bb-alone s b
-      (λ n.
-      let a = i .bb-inside p (λ z. n (h .same-bb ∙ z)) in
-      (h .after, h .inside (a .2), subst (λ (k : ℕ). 0 < k) (sym (h .same-level)) (a .2)))
-  effect-keeps-bb-inside (entered e b v) =
-      bb-alone _ b (λ n. absurd (false≢true (sym (competes-at (row t p) 20 e) ∙ i .bb-inside p n .0)))
-  effect-keeps-bb-inside (lowered e h b v) = bb-alone _ b (λ n. absurd (n refl))
-  effect-keeps-bb-inside (went-to-push e z b v) = bb-alone _ b (λ n. absurd (n z))
-  effect-keeps-bb-inside (passed e n o b v) = bb-alone _ b (λ n. absurd (n refl))
-  effect-keeps-bb-inside (flickered e b v) = bb-alone _ b (i .bb-inside p)
-  effect-keeps-bb-inside (pushed e b v w) =
-      bb-alone _ b (λ n. (refl, omega arith, sound-row t (i .sound) p l .level-some (omega arith) (omega arith)))
-  effect-keeps-bb-inside (exited e b) =
-      other-rows-keep (λ q r. BbInside r) b (λ n. absurd (omega (arith, i .bb-inside p n .1))) (λ q ne. i .bb-inside q)
 
   -- ---- est
 

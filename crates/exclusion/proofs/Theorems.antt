@@ -15,7 +15,8 @@ use Rattle.machine.specs.Steps.{afterWords}
 use Rattle.machine.specs.Census.{held, critical}
 use Rattle.machine.proofs.SoundRows.{sound-accepted, accepted-sound}
 use Rattle.machine.proofs.Soundness.{words-keep-length, words-keep-sound}
-use Rattle.exclusion.proofs.Fresh.{fresh-sound, freshTable-fresh}
+use Rattle.machine.proofs.FreshRows.{fresh-sound}
+use Rattle.exclusion.proofs.Fresh.{freshTable-fresh}
 use Rattle.exclusion.proofs.Exclusion.{invariant-after, invariant-held, invariant-critical}
 
 -- The counts (J0). After any list of words from a fresh table at most k processes are held at k, for every k.

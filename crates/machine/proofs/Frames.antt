@@ -1,11 +1,11 @@
 -- What a step leaves alone.
 --
---   Untouched r s    <=>  row s is row r but for its turn and its ahead.
+--   Untouched r s    <=>  row s is row r but for its turn and its ahead; `untouched-twice`: first to s, then to x.
 --   step-others           a step of p leaves every other row so
 --
 -- Assumes nothing.
 use Prim.Native.Nat.{ℕ}
-use mathlib.Core.Path.{_≡_, refl, sym, subst}
+use mathlib.Core.Path.{_≡_, refl, sym, _∙_, subst}
 use mathlib.Core.Logic.{_≢_}
 use mathlib.Core.List.{map}
 use lib.ListN.{set}
@@ -61,7 +61,7 @@ module _ (P : Row → Type 0) (t : Table) (p q : ℕ) (ne : q ≢ p)
     other-row (leaves e) h = same t _ h
     other-row (cancels e) h = same t _ h
 
-untouched : (r : Row) → Untouched r r
+pub untouched : (r : Row) → Untouched r r
 untouched r =
     record {
       location-same = refl;
@@ -70,6 +70,17 @@ untouched r =
       level-same = refl;
       est-same = refl;
       lis-same = refl;
+    }
+
+pub untouched-twice : {r s x : Row} → Untouched r s → Untouched s x → Untouched r x
+untouched-twice a b =
+    record {
+      location-same = b .location-same ∙ a .location-same;
+      act-same = b .act-same ∙ a .act-same;
+      bb-same = b .bb-same ∙ a .bb-same;
+      level-same = b .level-same ∙ a .level-same;
+      est-same = b .est-same ∙ a .est-same;
+      lis-same = b .lis-same ∙ a .lis-same;
     }
 
 -- the same cells, by another row with the same cells

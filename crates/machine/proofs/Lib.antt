@@ -10,6 +10,9 @@ pub mod SoundCells
 pub mod Soundness
 pub mod Frames
 pub mod Assignments
+pub mod StepRows
+pub mod BbInside
+pub mod FreshRows
 pub mod Arcs
 pub mod WordLaws
 pub mod Choices
@@ -18,6 +21,7 @@ pub mod SameOutcome
 pub mod Progress
 pub mod RoundLaws
 pub mod RoundAnswers
+pub mod OwnMoves
 pub mod AnswerLaws
 pub mod RunLaws
 pub mod InputLaws

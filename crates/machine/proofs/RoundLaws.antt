@@ -5,6 +5,7 @@
 --   move-step                a move is a step
 --   process-moves-on         every process of a sound table has a move, and the word of the round makes it
 --   round-word-accepted      so the word is accepted
+--   one-move                 and it has no other move
 --   by-moves                 what each move makes of what held before it, a round makes
 --   round-sound, round-length, rounds-sound, rounds-length    rounds keep a table sound and its number of processes
 --   rounds-add               rounds after rounds
@@ -84,7 +85,7 @@ pub data Move (t : Table) (p : ℕ) : Table → Type 0 where
 
 -- ---- a move is a step, and its word is that of the round
 
-pub move-step : {t u : Table} {p : ℕ} → Move t p u → Step t p u
+unfoldable pub move-step : {t u : Table} {p : ℕ} → Move t p u → Step t p u
 move-step (rests e) = Step.rests e
 move-step (enters e) = Step.enters e
 move-step (starts-pass e h) = Step.starts-pass e h
@@ -204,6 +205,13 @@ module _ (t : Table) (p : ℕ) where
 -- The word that a round gives is accepted, from every sound table.
 pub round-word-accepted : (t : Table) (p : ℕ) → tableRefusal t ≡ 0 → p < length t → refusalOf t (roundWord t p) ≡ 0
 round-word-accepted t p z l = process-moves-on t p z l .0
+
+-- A process has one move: each is what the word of the round makes.
+pub one-move : {t u w : Table} {p : ℕ} → tableRefusal t ≡ 0 → p < length t → Move t p u → Move t p w → u ≡ w
+one-move {t} {u} {w} {p} z l m o = sym (made u m) ∙ made w o
+  where
+    made : (u : Table) → Move t p u → afterWord t (roundWord t p) ≡ u
+    made u m = ap (afterWord t) (move-word t p m) ∙ one-word t u p (accepted-sound t z) l (move-step m) .2
 
 -- ---- one round
 

@@ -1,10 +1,12 @@
 -- How far a process is from leaving its level, from its row alone.
 --
 --   left r    ==  its own moves until it has decided at 23.
---   due n r   ==  its own moves until it has decided at 23 with bb set, of n processes: with bb 0 it has to pass 24 first.
+--   due n r   ==  its own moves, of n processes, until it has decided at 23 with bb set; with bb 0 it has to pass 24
+--                 first.
+--   phase n   ==  the most that is due of one of n processes: a pass, GO at 24, and another pass.
 --
 -- Assumes nothing.
-use Prim.Native.Nat.{ℕ, _+_}
+use Prim.Native.Nat.{ℕ, _+_, _*_}
 use mathlib.Core.Bool.{cond}
 use lib.Dec.{eqb}
 use Rattle.counting.specs.Sets.{size}
@@ -20,3 +22,7 @@ left r =
 -- from 24 on it takes n + 2 moves more, and GO at 24 is one
 abbrev pub due : ℕ → Row → ℕ
 due n r = left r + cond (eqb (r .bb) 0) (n + 3) 0
+
+-- a pass takes at most n + 2 moves
+abbrev pub phase : ℕ → ℕ
+phase n = 2 * n + 5

@@ -1,3 +1,30 @@
--- Theorems.antt says what is proved; the others prove it, each from those above it.
+-- Theorems.antt and ExactTheorems.antt say what is proved; the others prove it, each from those above it.
 pub mod Steady
+pub mod Entering
+pub mod Kept
 pub mod Due
+pub mod DueLaws
+pub mod PhaseLaws
+pub mod QuietLaws
+pub mod Landing
+pub mod OnTime
+pub mod Pace
+pub mod Moving
+pub mod Schedule
+pub mod Down
+pub mod Stale
+pub mod LastRound
+pub mod OneRound
+pub mod Bound
+pub mod FirstRound
+pub mod Silence
+pub mod Sweeps
+pub mod Front
+pub mod Strides
+pub mod FrontMoves
+pub mod FrontRounds
+pub mod Arrivals
+pub mod FrontEnds
+pub mod LongestSilence
+pub mod Theorems
+pub mod ExactTheorems

@@ -10,17 +10,14 @@
 use Prim.Native.Nat.{ℕ, _≤_, _<_}
 use mathlib.Core.Path.{_≡_}
 use mathlib.Core.Bool.{true, false}
-use mathlib.Core.List.{[], _∷_}
+use mathlib.Core.List.{List, [], _∷_}
 use lib.ListN.{length}
 use Rattle.counting.specs.Sets.{has}
 use Rattle.machine.specs.Tables.{Table, row, oneOf, tableRefusal, competes}
 use Rattle.machine.specs.Census.{critical}
 use Rattle.machine.specs.Rounds.{rounds}
 use Rattle.machine.specs.declared.Row.{Row}
-
--- L0 and L1 of section 3.5 of the paper
-abbrev pub BbInside : Row → Type 0
-BbInside r = (r .bb ≡ 0 → ⊥) → (competes r ≡ true) × (r .location ≤ 23) × (0 < r .level)
+use Rattle.machine.proofs.BbInside.{BbInside}
 
 pub record SteadyRow (q : ℕ) (r : Row) : Type 0 where
   pub bb-inside : BbInside r
@@ -31,10 +28,17 @@ pub record Steady (t : Table) : Type 0 where
   pub sound : tableRefusal t ≡ 0
   pub rows : (q : ℕ) → SteadyRow q (row t q)
 
+-- where one who competes is in a quiet table, and where a process is
+abbrev pub waitingPlaces : List ℕ
+waitingPlaces = 21 ∷ 22 ∷ 23 ∷ 24 ∷ []
+
+abbrev pub quietPlaces : List ℕ
+quietPlaces = 10 ∷ waitingPlaces
+
 pub record Quiet (n : ℕ) (t : Table) : Type 0 where
   pub steady : Steady t
   pub size-is : length t ≡ n
-  pub places : (q : ℕ) → q < n → oneOf (row t q .location) (10 ∷ 21 ∷ 22 ∷ 23 ∷ 24 ∷ []) ≡ true
+  pub places : (q : ℕ) → q < n → oneOf (row t q .location) quietPlaces ≡ true
   pub somebody : (q : ℕ) × (competes (row t q) ≡ true)
 
 abbrev pub Enters : Table → ℕ → Type 0

@@ -1,0 +1,141 @@
+-- After COME of every process of a fresh table all are at 20 with bb 0, and after one round more a front begins on the
+-- highest level.
+--
+--   Came q r        <=>  r is at 20 with bb 0.
+--   all-come             every row is such a row after `allCome`
+--   front-begins         the first round from there leaves a front with everything due
+--
+-- Assumes nothing.
+use Prim.Native.Nat.{ℕ, zero, suc, _+_, _*_, _-_, _≤_, _<_}
+use mathlib.Core.Path.{_≡_, refl, sym, _∙_, subst}
+use mathlib.Core.Bool.{true}
+use mathlib.Core.List.{List}
+use native.Mathlib.Omega.{arith}
+use lib.ListN.{length}
+use Rattle.counting.specs.Sets.{others}
+use Rattle.counting.proofs.SizeLaws.{size-others}
+use Rattle.machine.specs.Rows.{withLocation, withAct, withLevel, withEst, withAhead}
+use Rattle.machine.specs.Tables.{Table, row, tableRefusal, fresh}
+use Rattle.machine.specs.Words.{COME, wordOf}
+use Rattle.machine.specs.Steps.{afterWord, afterWords}
+use Rattle.machine.specs.Census.{upTo}
+use Rattle.machine.specs.Rounds.{round, allCome}
+use Rattle.machine.specs.System.{assigned, Cp, Step}
+use Rattle.machine.specs.declared.Row.{Row}
+use Rattle.machine.proofs.SoundRows.{sound-few, sound-accepted, accepted-sound}
+use Rattle.machine.proofs.Accepted.{afterWords-snoc}
+use Rattle.machine.proofs.Soundness.{words-keep-sound, words-keep-length}
+use Rattle.machine.proofs.OneWord.{one-word}
+use Rattle.machine.proofs.FreshRows.{fresh-sound, fresh-at-10, fresh-rests}
+use Rattle.machine.proofs.RoundLaws.{Move, one-move, by-moves, round-sound, round-length}
+use Rattle.silence.proofs.Due.{phase}
+use Rattle.silence.proofs.DueLaws.{due-unset}
+use Rattle.silence.proofs.Sweeps.{Swept, swept-none, swept-all, swept-set}
+use Rattle.silence.proofs.Front.{FrontRow, Front}
+
+abbrev Rested : ℕ → Row → Type 0
+Rested q r = (r .location ≡ 10) × (r .bb ≡ 0)
+
+abbrev pub Came : ℕ → Row → Type 0
+Came q r = (r .location ≡ 20) × (r .bb ≡ 0)
+
+-- ---- all come
+
+-- COME of p, which rests
+come-next : (t : Table) (p : ℕ)
+    → tableRefusal t ≡ 0
+    → p < length t
+    → row t p .location ≡ 10
+    → afterWord t (wordOf COME p 0) ≡ assigned t p (withLocation 20)
+come-next t p z l e = one-word t _ p (accepted-sound t z) l (Step.comes e) .2
+
+module _ (t : Table) (h : fresh t ≡ true) where
+  abbrev come : ℕ → List ℕ
+  come p = upTo (λ q. wordOf COME q 0) p
+
+  sound-after : (ws : List ℕ) → tableRefusal (afterWords t ws) ≡ 0
+  sound-after ws = words-keep-sound t ws (sound-accepted t (fresh-sound t h))
+
+  come-to : (p : ℕ) → p ≤ length t → Swept Rested Came (length t) p (afterWords t (come p))
+  unfolding upTo afterWords
+  come-to zero l = swept-none Rested Came (length t) t (λ q i. (fresh-at-10 t h q i, fresh-rests t h q .no-bb))
+  come-to (suc p) l =
+      let u = afterWords t (come p) in
+      let in-u : p < length u = omega (arith, words-keep-length t (come p)) in
+      let before = come-to p (omega arith) in
+      let own = before p (omega arith) .1 (omega arith) in
+      let after = afterWords-snoc t (come p) (wordOf COME p 0) ∙ come-next u p (sound-after (come p)) in-u (own .0) in
+      subst (Swept Rested Came (length t) (suc p)) (sym after)
+      (swept-set Rested Came (length t) u p (withLocation 20 (row u p)) in-u before (refl, own .1))
+
+  pub all-come : (q : ℕ) → q < length t → Came q (row (afterWords t (allCome (length t))) q)
+  unfolding upTo
+  all-come =
+      swept-all Rested Came (length t) (afterWords t (allCome (length t))) (come-to (length t) (omega arith))
+
+-- ---- the first round
+
+-- the row of p after GO at 20
+abbrev enteredRow : Table → ℕ → Row → Row
+enteredRow t p r =
+    withLocation 21 (withEst (others (length t) p) (withLevel (length t - 1) (withAct 1 (withAhead (Cp t) r))))
+
+-- of k + 1 processes
+module _ (k : ℕ) where
+  abbrev Entered : ℕ → Row → Type 0
+  Entered = FrontRow (suc k) k (phase (suc k))
+
+  entered-row : (t : Table) (p : ℕ) (r : Row)
+      → length t ≡ suc k
+      → length t ≤ 16
+      → p < suc k
+      → r .bb ≡ 0
+      → Entered p (enteredRow t p r)
+  entered-row t p r e few l z =
+      let all = size-others (length t) p few (omega arith) in
+      record {
+        act-shown = λ i. absurd (omega arith);
+        est-full = omega arith;
+        low =
+            λ i.
+            record {
+              from-21 = omega arith;
+              to-24 = omega arith;
+              level-is = omega arith;
+              due-is = omega (arith, due-unset (enteredRow t p r) (suc k) z);
+            };
+        high = λ i. absurd (omega arith);
+      }
+
+  entered-move : (p : ℕ) (t u : Table)
+      → p < suc k
+      → length t ≡ suc k
+      → tableRefusal t ≡ 0
+      → Move t p u
+      → Swept Came Entered (suc k) p t
+      → Swept Came Entered (suc k) (suc p) u
+  entered-move p t u l e z m h =
+      let in-t : p < length t = omega arith in
+      let own = h p l .1 (omega arith) in
+      subst (Swept Came Entered (suc k) (suc p)) (one-move z in-t (Move.enters (own .0)) m)
+      (swept-set Came Entered (suc k) t p (enteredRow t p (row t p)) in-t h
+      (entered-row t p (row t p) e (sound-few t z) l (own .1)))
+
+  pub front-begins : (t : Table)
+      → tableRefusal t ≡ 0
+      → length t ≡ suc k
+      → ((q : ℕ) → q < suc k → Came q (row t q))
+      → Front (suc k) k (phase (suc k)) (round t)
+  front-begins t z e came =
+      let end =
+      by-moves t (λ p v. Swept Came Entered (suc k) p v) z
+      (λ p v u l same sound m h. entered-move p v u (omega arith) (same ∙ e) sound m h)
+      (swept-none Came Entered (suc k) t came) in
+      record {
+        sound = round-sound t z;
+        size-is = round-length t ∙ e;
+        level-low = omega arith;
+        rows = λ q l. end q l .0 (omega arith);
+        turns = λ q i l. absurd (omega arith);
+        last-turn = λ i. absurd (omega arith);
+      }
