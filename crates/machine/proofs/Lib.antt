@@ -22,6 +22,7 @@ pub mod Progress
 pub mod RoundLaws
 pub mod RoundAnswers
 pub mod OwnMoves
+pub mod Arriving
 pub mod AnswerLaws
 pub mod RunLaws
 pub mod InputLaws

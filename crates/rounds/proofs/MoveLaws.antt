@@ -3,23 +3,26 @@
 -- Assumes nothing.
 use Prim.Native.Nat.{ℕ, _^_, _<_}
 use mathlib.Core.Path.{_≡_, refl, sym, ap, _∙_, subst}
-use mathlib.Core.Bool.{true, false, _&&_, not, and-eq-true-iff}
+use mathlib.Core.Bool.{Bool, true, false, _&&_, not, and-eq-true-iff}
 use mathlib.Core.List.{List}
 use native.Mathlib.Nat.{lt-of-lt-of-le}
 use native.Mathlib.Omega.{arith}
 use lib.Dec.{eqb}
 use lib.ListN.{length}
 use lib.Pow.{pow-mono}
-use borrow.Author.Tests.{eqb-false, not-true}
+use borrow.Author.Tests.{eqb-true, eqb-false, ne-eqb, not-true}
 use Rattle.counting.specs.Sets.{has, lowest}
 use Rattle.counting.proofs.SetLaws.{member-below}
 use Rattle.counting.proofs.LowestLaws.{lowest-member}
 use Rattle.machine.specs.Tables.{Table, row, tableRefusal}
 use Rattle.machine.specs.Words.{GO, LOOK}
 use Rattle.machine.specs.Steps.{moved, afterWord}
+use Rattle.machine.specs.Census.{isCritical}
 use Rattle.machine.specs.Rounds.{roundWord}
 use Rattle.machine.specs.declared.Row.{Row}
 use Rattle.machine.specs.declared.Told.{Told}
+use Rattle.machine.proofs.RoundLaws.{process-moves-on}
+use Rattle.machine.proofs.Arriving.{arriving, move-arrives}
 use Rattle.sets.specs.Answers.{lowestOf}
 use Rattle.sets.specs.declared.Lowest.{Lowest}
 use Rattle.sets.proofs.LowestLaws.{lowest-same}
@@ -28,7 +31,7 @@ use Rattle.cells.proofs.ViewLaws.{rows-length}
 use Rattle.steps.specs.Moves.{Ready, Free, Sees, Moves}
 use Rattle.steps.proofs.MoveLaws.{becomes-as}
 use Rattle.steps.proofs.StepLaws.{ready}
-use Rattle.rounds.specs.Promises.{Moving}
+use Rattle.rounds.specs.Promises.{Moving, MovesOn}
 use Rattle.rounds.proofs.WordLaws.{Given, rest-given, look-given, go-given}
 
 module _ (x : List (List ℕ)) (p : ℕ) (m : Moving x p) (r : Row) (own : r ≡ row (rowsOf x) p) where
@@ -54,10 +57,28 @@ module _ (x : List (List ℕ)) (p : ℕ) (m : Moving x p) (r : Row) (own : r ≡
   away : (r .location ≡ 10 → ⊥) → row t p .location ≡ 10 → ⊥
   away ne e = ne (ap (λ (s : Row). s .location) own ∙ e)
 
-  pub rest-becomes : r .location ≡ 10 → Becomes x u x
+  rest-becomes : r .location ≡ 10 → Becomes x u x
   rest-becomes e =
       let at = sym (ap (λ (s : Row). s .location) own) ∙ e in
       record { rows-are = sym (rest-given t p (m .table-sound) in-t at); size-is = refl }
+
+  -- whether p is at 30 after its word is known before
+  told-by : (y : List (List ℕ)) → Becomes x u y → isCritical (row (rowsOf y) p) ≡ arriving r
+  told-by y b =
+      ap (λ (v : Table). isCritical (row v p)) (b .rows-are)
+      ∙ move-arrives t u p (m .table-sound) in-t (process-moves-on t p (m .table-sound) in-t .1)
+      ∙ ap arriving (sym own)
+
+  moves-on : (y : List (List ℕ)) (b : Bool) → Becomes x u y → b ≡ arriving r → MovesOn x p y b
+  moves-on y b h e = record { becomes = h; told = e ∙ sym (told-by y h) }
+
+  -- elsewhere than at 21 it does not arrive
+  not-arriving : (r .location ≡ 21 → ⊥) → false ≡ arriving r
+  not-arriving n = sym (ap (λ (b : Bool). b && eqb (r .level) 0) (ne-eqb (r .location) 21 n))
+
+  pub rest-moves : r .location ≡ 10 → MovesOn x p x false
+  rest-moves e =
+      moves-on x false (rest-becomes e) (not-arriving (λ i. absurd (omega arith)))
 
   -- ---- GO
 
@@ -68,8 +89,8 @@ module _ (x : List (List ℕ)) (p : ℕ) (m : Moving x p) (r : Row) (own : r ≡
     pub go-free : Free x GO p
     go-free = record { ready = can; may = go-given-here .may }
 
-    pub go-becomes : (y : List (List ℕ)) (s : Told) → Moves x GO p 0 y s → Becomes x u y
-    go-becomes y s h = becomes-as (h .becomes) (sym (go-given-here .table-is))
+    pub go-moves : (y : List (List ℕ)) (s : Told) → Moves x GO p 0 y s → MovesOn x p y (arriving r)
+    go-moves y s h = moves-on y (arriving r) (becomes-as (h .becomes) (sym (go-given-here .table-is))) refl
 
   -- ---- LOOK
 
@@ -95,9 +116,11 @@ module _ (x : List (List ℕ)) (p : ℕ) (m : Moving x p) (r : Row) (own : r ≡
     pub look-sees : Sees x p q
     look-sees = record { ready = can; seen = below }
 
-    pub look-becomes : (y : List (List ℕ)) (s : Told) → Moves x LOOK p q y s → Becomes x u y
-    look-becomes y s h =
+    pub look-moves : (y : List (List ℕ)) (s : Told) → Moves x LOOK p q y s → MovesOn x p y false
+    look-moves y s h =
+        let at : r .location ≡ 22 =
+        eqb-true _ _ (and-eq-true-iff (eqb (r .location) 22) (not (eqb (r .lis) 0)) .0 ask .0) in
         let low : lowest (row t p .lis) < 256 = omega (arith, lowest-is-q, below, can .few) in
         let g = look-given t p (m .table-sound) in-t low (away ne) (subst looks own ask) in
-        becomes-as (h .becomes)
-        (sym (g .table-is ∙ ap (moved t LOOK p) lowest-is-q))
+        moves-on y false (becomes-as (h .becomes) (sym (g .table-is ∙ ap (moved t LOOK p) lowest-is-q)))
+        (not-arriving (λ i. absurd (omega arith)))

@@ -11,41 +11,44 @@ ghost use mathlib.Core.Path.{_≡_};
 ghost use Prim.Native.Nat.{_≤_};
 ghost use lib.ListN.{length};
 ghost use Rattle.machine.specs.Tables.{tableRefusal};
-ghost use Rattle.machine.specs.Steps.{afterWord};
-ghost use Rattle.machine.specs.Rounds.{roundWord, round, roundLimit, occupied, rounded, roundsFrom, roundsOf};
-ghost use Rattle.cells.specs.View.{rowsOf, Becomes};
-ghost use Rattle.rounds.specs.Promises.{Moving, Rounds};
+ghost use Rattle.machine.specs.Rounds.{roundLimit, roundsFrom, roundsOf};
+ghost use Rattle.cells.specs.View.{rowsOf};
+ghost use Rattle.rounds.specs.Promises.{Moving, MovesOn, GoesRound, Rounds};
 
-// Process p is given its word of a round: at 10 nothing happens, at 22 it looks at the lowest member
-// of lis, and otherwise it goes on. The word is allowed, so that nothing has to be asked.
-fn move_on(cells: &mut [[u16; 8]], p: u16)
+// Process p is given its word of a round, and whether that led it to 30 is told: at 10 nothing happens,
+// at 22 it looks at the lowest member of lis, and otherwise it goes on. The word is allowed, so that
+// nothing has to be asked.
+fn move_on(cells: &mut [[u16; 8]], p: u16) -> bool
     requires { ⌜ Moving (now cells) p ⌝ }
-    ensures { λ _. ⌜ Becomes (now (cells .entry))
-        (afterWord (rowsOf (now (cells .entry))) (roundWord (rowsOf (now (cells .entry))) p))
-        (now (cells .exit)) ⌝ }
+    ensures { λ b. ⌜ MovesOn (now (cells .entry)) p (now (cells .exit)) b ⌝ }
 {
     let r = row_at(cells, p as usize);
     if r.location == 10 {
-        return;
+        return false;
     }
     if (r.location == 22) & (r.lis != 0) {
         let _told = look(cells, p, sets::first_of(r.lis));
-        return;
+        return false;
     }
     let _told = go(cells, p);
+    (r.location == 21) & (r.level == 0)
 }
 
-// One round: each process in number order is given its word.
-fn round(cells: &mut [[u16; 8]])
+// One round: each process in number order is given its word. It tells whether some process is at 30
+// after it, which is one whose word led there.
+fn round(cells: &mut [[u16; 8]]) -> bool
     requires { ⌜ tableRefusal (rowsOf (now cells)) ≡ 0 ⌝ }
-    ensures { λ _. ⌜ Becomes (now (cells .entry)) (round (rowsOf (now (cells .entry)))) (now (cells .exit)) ⌝ }
+    ensures { λ b. ⌜ GoesRound (now (cells .entry)) (now (cells .exit)) b ⌝ }
 {
     let n = cells.len();
+    let mut occupied = false;
     let mut p = 0;
     while p < n {
-        move_on(cells, p as u16);
+        let there = move_on(cells, p as u16);
+        occupied = occupied | there;
         p += 1;
     }
+    occupied
 }
 
 // The most rounds that are done at a table of n processes.
@@ -54,18 +57,6 @@ fn round_limit(n: u16) -> u16
     ensures { λ b. ⌜ b ≡ roundLimit n ⌝ }
 {
     4 * n * n * (n + 3)
-}
-
-// The answer after r rounds, at the table that they left.
-fn answer(cells: &[[u16; 8]], r: u16) -> RoundsAnswer
-    requires { ⌜ length (now cells) ≤ 16 ⌝ }
-    ensures { λ a. ⌜ a ≡ rounded r (rowsOf (now (cells .entry))) .answer ⌝ }
-{
-    RoundsAnswer {
-        refusal: 0,
-        rounds: r,
-        occupied: (critical(cells) != 0) as u16,
-    }
 }
 
 // Rounds at a table that is known to be sound, which is not checked again.
@@ -77,13 +68,16 @@ fn run_rounds(cells: &mut [[u16; 8]]) -> RoundsAnswer
 {
     let limit = round_limit(cells.len() as u16);
     let mut r: u16 = 0;
-    let mut free = critical(cells) == 0;
-    while free & (r < limit) {
-        round(cells);
+    let mut occupied = critical(cells) != 0;
+    while !occupied & (r < limit) {
+        occupied = round(cells);
         r += 1;
-        free = critical(cells) == 0;
     }
-    answer(cells, r)
+    RoundsAnswer {
+        refusal: 0,
+        rounds: r,
+        occupied: occupied as u16,
+    }
 }
 
 // Rounds at a table of any size and content, until some process is at 30 after a round or the limit is
@@ -101,7 +95,11 @@ pub fn rounds(cells: &mut [[u16; 8]]) -> RoundsAnswer
         };
     }
     if count_at(cells, 20, 24) == 0 {
-        return answer(cells, 0);
+        return RoundsAnswer {
+            refusal: 0,
+            rounds: 0,
+            occupied: (critical(cells) != 0) as u16,
+        };
     }
     run_rounds(cells)
 }

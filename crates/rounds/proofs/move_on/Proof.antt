@@ -1,6 +1,6 @@
 -- `move_on` meets its contract. Assumes nothing.
 use borrow.Author.Needs.{needs}
-use Rattle.rounds.proofs.MoveLaws.{rest-becomes, some-member, look-sees, look-becomes, go-free, go-becomes}
+use Rattle.rounds.proofs.MoveLaws.{rest-moves, some-member, look-sees, look-moves, go-free, go-moves}
 use Rattle.rounds.proofs.move_on.Statement.{statement}
 use Rattle.rounds.proofs.move_on.Tie as tie
 
@@ -14,7 +14,7 @@ returns : tie.Need-returns
 returns c =
     let a = c .before .before in
     let s = a .before .before in
-    rest-becomes _ _ (s .pre) _ (a .row-at .ensures) (c .if1 .taken)
+    rest-moves _ _ (s .pre) _ (a .row-at .ensures) (c .if1 .taken)
 
 first-of-requires : tie.Need-first-of-requires
 first-of-requires c κs =
@@ -41,7 +41,7 @@ returns-2 c =
     let e = i .before .before .before in
     let a = e .before .before in
     let s = a .before .before in
-    look-becomes _ _ (s .pre) _ (a .row-at .ensures) (e .if1 .left) (i .if2 .taken) _ (f .first-of .ensures) _ _
+    look-moves _ _ (s .pre) _ (a .row-at .ensures) (e .if1 .left) (i .if2 .taken) _ (f .first-of .ensures) _ _
     (c .before .look .ensures)
 
 go-requires : tie.Need-go-requires
@@ -57,12 +57,12 @@ same-length-3 c = search needs
 
 returns-3 : tie.Need-returns-3
 returns-3 c =
-    let g = c .before in
+    let g = c .before .before .before in
     let i = g .before .before in
     let e = i .before .before .before in
     let a = e .before .before in
     let s = a .before .before in
-    go-becomes _ _ (s .pre) _ (a .row-at .ensures) (e .if1 .left) (i .if2 .left) _ _ (g .go .ensures)
+    go-moves _ _ (s .pre) _ (a .row-at .ensures) (e .if1 .left) (i .if2 .left) _ _ (g .go .ensures)
 
 pub move-on-spec : {M : Type 1} → statement M
 move-on-spec =

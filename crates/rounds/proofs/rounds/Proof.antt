@@ -2,6 +2,7 @@
 use Prim.Native.Nat.{ℕ, _≤_}
 use mathlib.Core.Path.{_≡_, refl, sym, ap, _∙_}
 use borrow.Author.Needs.{needs}
+use lib.Dec.{ltb}
 use lib.ListN.{length}
 use Rattle.machine.specs.Tables.{tableRefusal}
 use Rattle.machine.specs.Rounds.{roundLimit, roundsFrom}
@@ -9,7 +10,8 @@ use Rattle.machine.proofs.RoundAnswers.{rounds-refused, rounds-none, rounds-som
 use Rattle.cells.specs.View.{rowsOf}
 use Rattle.cells.proofs.ViewLaws.{rows-length}
 use Rattle.rounds.proofs.LimitLaws.{few-cells}
-use Rattle.rounds.proofs.RoundLaws.{rounds-ended, rounds-stopped, rounds-as}
+use Rattle.rounds.proofs.RoundLaws.{rounds-ended, rounds-stopped, rounds-as, flag-is, some-is}
+use Rattle.rounds.proofs.RoundLaws.{answer-is}
 use Rattle.rounds.proofs.rounds.Statement.{statement}
 use Rattle.rounds.proofs.rounds.Tie as tie
 
@@ -35,8 +37,11 @@ few c = few-cells (c .before .before .before .args .cells .now) (sound c)
 count-at-requires : tie.Need-count-at-requires
 count-at-requires c κs = few (c .before)
 
-answer-requires : tie.Need-answer-requires
-answer-requires c κs = few (c .before .before .before .before)
+critical-requires : tie.Need-critical-requires
+critical-requires c κs = few (c .before .before .before .before)
+
+cast-t13 : tie.Need-cast-t13
+cast-t13 c = search needs
 
 same-length-2 : tie.Need-same-length-2
 same-length-2 c = search needs
@@ -47,7 +52,9 @@ returns-2 c =
     let e = i .before .before .before in
     let x = e .before .before .before .args .cells .now in
     let none = sym (i .before .count-at .ensures) ∙ i .if2 .taken in
-    rounds-ended x x _ 0 _ refl (rounds-none (rowsOf x) (sound e) none) (c .answer .ensures)
+    let at-30 = some-is (c .critical .result) ∙ ap (λ (k : ℕ). ltb 0 k) (c .critical .ensures) in
+    rounds-ended x x _ 0 _ refl (rounds-none (rowsOf x) (sound e) none)
+    (answer-is 0 (rowsOf x) _ (flag-is (rowsOf x) _ at-30))
 
 run-rounds-requires : tie.Need-run-rounds-requires
 run-rounds-requires c κs = sound (c .before .before .before .before)
@@ -73,7 +80,8 @@ rounds-spec =
     same-length
     returns
     count-at-requires
-    answer-requires
+    critical-requires
+    cast-t13
     same-length-2
     returns-2
     run-rounds-requires

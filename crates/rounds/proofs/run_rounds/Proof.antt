@@ -1,35 +1,34 @@
 -- `run_rounds` meets its contract. Assumes nothing.
 use Prim.Native.Nat.{ℕ, _≤_, _<_, _-_}
 use mathlib.Core.Path.{_≡_, refl, ap, sym, _∙_}
-use mathlib.Core.Bool.{Bool, true, false, and-eq-true-iff}
-use mathlib.Core.List.{List}
+use mathlib.Core.Bool.{not, and-eq-true-iff}
 use native.Mathlib.Omega.{arith}
-use lib.Dec.{eqb, ltb}
+use lib.Dec.{ltb}
 use lib.ListN.{length}
 use borrow.Author.Needs.{needs}
-use borrow.Author.Tests.{eqb-true, ltb-true}
+use borrow.Author.Tests.{ltb-true, not-true}
 use Rattle.machine.specs.Tables.{tableRefusal}
 use Rattle.machine.specs.Census.{critical}
 use Rattle.machine.specs.Rounds.{roundLimit, roundsFrom}
 use Rattle.machine.proofs.RoundLaws.{round-sound}
 use Rattle.cells.specs.View.{rowsOf}
 use Rattle.rounds.proofs.LimitLaws.{few-cells, limit-low}
-use Rattle.rounds.proofs.RoundLaws.{from-turn, from-stop, rounds-ended}
+use Rattle.rounds.proofs.RoundLaws.{from-turn, from-stop, rounds-ended, flag-is, some-is, none-is, answer-is}
 use Rattle.rounds.proofs.run_rounds.Statement.{statement}
 use Rattle.rounds.proofs.run_rounds.Tie as tie
 
 abbrev Inv-loop : tie.InvT-loop
-Inv-loop cells₀ limit r₀ free₀ cells r free =
+Inv-loop cells₀ limit r₀ occupied₀ cells r occupied =
     (r ≤ limit)
     × (limit ≤ 19456)
     × (length cells₀ ≤ 16)
     × (length cells ≡ length cells₀)
     × (tableRefusal (rowsOf cells) ≡ 0)
-    × (free ≡ eqb (critical (rowsOf cells)) 0)
+    × (occupied ≡ ltb 0 (critical (rowsOf cells)))
     × (roundsFrom (roundLimit (length cells₀)) 0 (rowsOf cells₀) ≡ roundsFrom (limit - r) r (rowsOf cells))
 
 abbrev μ-loop : tie.MeasureT-loop
-μ-loop cells₀ limit r₀ free₀ cells r free = limit - r
+μ-loop cells₀ limit r₀ occupied₀ cells r occupied = limit - r
 
 cast-round-limit : tie.Need-cast-round-limit Inv-loop μ-loop
 cast-round-limit c = record { fits = omega (arith, few-cells (c .args .cells .now) (c .pre)) }
@@ -55,7 +54,7 @@ loop-holds c =
       few,
       refl,
       s .pre,
-      ap (λ (k : ℕ). eqb k 0) (c .critical .ensures),
+      some-is (c .critical .result) ∙ ap (λ (k : ℕ). ltb 0 k) (c .critical .ensures),
       ap (λ (b : ℕ). roundsFrom b 0 (rowsOf x)) all,
     )
 
@@ -65,54 +64,48 @@ round-requires c κs = c .before .before .loop .inv .4
 add-r : tie.Need-add-r Inv-loop μ-loop
 add-r c = search needs
 
-critical-requires-2 : tie.Need-critical-requires-2 Inv-loop μ-loop
-critical-requires-2 c κs =
-    let at = c .before .before .before .before .before .loop in
-    let size = c .before .before .round .ensures .size-is in
-    omega (arith, size, at .inv .2, at .inv .3)
-
 loop-less : tie.Need-loop-less Inv-loop μ-loop
 loop-less c =
-    let inside = c .before .before .before .before .before in
+    let inside = c .before .before .before in
     let at = inside .before .loop in
     let limit = inside .before .before .before .before .round-limit .result in
-    let more = and-eq-true-iff (at .free) (ltb (at .r) limit) .0 (inside .loop-test .taken) in
+    let more = and-eq-true-iff (not (at .occupied)) (ltb (at .r) limit) .0 (inside .loop-test .taken) in
     omega (arith, ltb-true (at .r) limit (more .1))
 
 loop-again : tie.Need-loop-again Inv-loop μ-loop
 loop-again c =
-    let inside = c .before .before .before .before .before in
+    let inside = c .before .before .before in
     let at = inside .before .loop in
     let v = at .inv in
     let t = rowsOf (at .cells) in
-    let b = c .before .before .before .round .ensures in
-    let more = and-eq-true-iff _ _ .0 (inside .loop-test .taken) in
-    let r-low : at .r < inside .before .before .before .before .round-limit .result = ltb-true _ _ (more .1) in
-    let nobody : critical t ≡ 0 = eqb-true _ _ (sym (v .5) ∙ more .0) in (
+    let g = c .before .round .ensures in
+    let b = g .becomes in
+    let limit = inside .before .before .before .before .round-limit .result in
+    let more = and-eq-true-iff (not (at .occupied)) (ltb (at .r) limit) .0 (inside .loop-test .taken) in
+    let r-low : at .r < limit = ltb-true _ _ (more .1) in
+    let nobody : critical t ≡ 0 = none-is _ (sym (v .5) ∙ not-true (at .occupied) (more .0)) in (
       omega (arith, r-low),
       v .1,
       v .2,
       b .size-is ∙ v .3,
       ap tableRefusal (b .rows-are) ∙ round-sound t (v .4),
-      ap (λ (k : ℕ). eqb k 0) (c .critical2 .ensures),
+      g .told,
       v .6 ∙ from-turn _ (at .r) t _ r-low nobody (b .rows-are),
     )
 
-answer-requires : tie.Need-answer-requires Inv-loop μ-loop
-answer-requires c κs =
-    let v = c .before .before .loop .inv in omega (arith, v .2, v .3)
+cast-t6 : tie.Need-cast-t6 Inv-loop μ-loop
+cast-t6 c = search needs
 
 same-length : tie.Need-same-length Inv-loop μ-loop
 same-length c = search needs
 
 returns : tie.Need-returns Inv-loop μ-loop
 returns c =
-    let l = c .before .before in
-    let at = l .before .loop in
+    let at = c .before .loop in
     let v = at .inv in
     let t = rowsOf (at .cells) in
-    let e = v .6 ∙ from-stop _ (at .r) t (at .free) (v .0) (v .5) (l .loop-test .left) in
-    rounds-ended _ (at .cells) _ (at .r) _ (v .3) e (c .answer .ensures)
+    let e = v .6 ∙ from-stop _ (at .r) t (at .occupied) (v .0) (v .5) (c .loop-test .left) in
+    rounds-ended _ (at .cells) _ (at .r) _ (v .3) e (answer-is (at .r) t _ (flag-is t (at .occupied) (v .5)))
 
 pub run-rounds-spec : {M : Type 1} → statement M
 run-rounds-spec =
@@ -126,9 +119,8 @@ run-rounds-spec =
     loop-holds
     round-requires
     add-r
-    critical-requires-2
     loop-less
     loop-again
-    answer-requires
+    cast-t6
     same-length
     returns)
