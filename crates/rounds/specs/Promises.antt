@@ -4,6 +4,7 @@
 --   MovesOn x p y b   <=>  the word of a round given to process p made y of the cells x, and b tells whether p is at 30.
 --   GoesRound x y b   <=>  a round made y of x, and b tells whether somebody is at 30.
 --   Rounds x o y a    <=>  the cells x have become y, and a is the answer, by rounds with outcome o.
+--   RoundsTo a t u    <=>  rounds make the table u of t, with the answer a: what the function for C ensures.
 --
 -- Assumes nothing.
 use Prim.Native.Nat.{ℕ, _<_}
@@ -12,10 +13,10 @@ use mathlib.Core.Bool.{Bool}
 use mathlib.Core.List.{List}
 use lib.Dec.{ltb}
 use lib.ListN.{length}
-use Rattle.machine.specs.Tables.{row, tableRefusal}
+use Rattle.machine.specs.Tables.{Table, row, tableRefusal}
 use Rattle.machine.specs.Steps.{afterWord}
 use Rattle.machine.specs.Census.{isCritical, critical}
-use Rattle.machine.specs.Rounds.{roundWord, round, Rounded}
+use Rattle.machine.specs.Rounds.{roundWord, round, Rounded, roundsOf}
 use Rattle.machine.specs.declared.RoundsAnswer.{RoundsAnswer}
 use Rattle.cells.specs.View.{rowsOf, Becomes}
 
@@ -34,3 +35,6 @@ pub record GoesRound (x y : List (List ℕ)) (b : Bool) : Type 0 where
 pub record Rounds (x : List (List ℕ)) (o : Rounded) (y : List (List ℕ)) (a : RoundsAnswer) : Type 0 where
   pub becomes : Becomes x (o .table) y
   pub answer-is : a ≡ o .answer
+
+abbrev pub RoundsTo : RoundsAnswer → Table → Table → Type 0
+RoundsTo a t u = (a ≡ roundsOf t .answer) × (u ≡ roundsOf t .table)

@@ -13,7 +13,7 @@ ghost use lib.ListN.{length};
 ghost use Rattle.machine.specs.Tables.{tableRefusal};
 ghost use Rattle.machine.specs.Rounds.{roundLimit, roundsFrom, roundsOf};
 ghost use Rattle.cells.specs.View.{rowsOf};
-ghost use Rattle.rounds.specs.Promises.{Moving, MovesOn, GoesRound, Rounds};
+ghost use Rattle.rounds.specs.Promises.{Moving, MovesOn, GoesRound, Rounds, RoundsTo};
 
 // Process p is given its word of a round, and whether that led it to 30 is told: at 10 nothing happens,
 // at 22 it looks at the lowest member of lis, and otherwise it goes on. The word is allowed, so that
@@ -107,8 +107,7 @@ pub fn rounds(cells: &mut [[u16; 8]]) -> RoundsAnswer
 // Rounds for C (include/zaguypo.h), in the lent rows.
 #[no_mangle]
 pub extern "C" fn zaguypo_rounds(rows: &mut [[u16; 8]]) -> RoundsAnswer
-    ensures { λ a. ⌜ (a ≡ roundsOf (rowsOf (now (rows .entry))) .answer)
-        × (rowsOf (now (rows .exit)) ≡ roundsOf (rowsOf (now (rows .entry))) .table) ⌝ }
+    ensures { λ a. ⌜ RoundsTo a (rowsOf (now (rows .entry))) (rowsOf (now (rows .exit))) ⌝ }
 {
     rounds(rows)
 }
