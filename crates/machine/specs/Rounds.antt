@@ -7,9 +7,10 @@
 --   round t          ==  the table after a round, one word for each process in number order; rounds r t: after r rounds.
 --   pending t        ==  how many processes are at 20 to 24: they have come and are not yet in the critical section.
 --   occupied t       ==  1 where some process is at 30, in the critical section; else 0.
+--   Silent t         <=> nobody is at 30 and somebody is pending.
 --   roundLimit n     ==  the most rounds that are done at a table of n processes.
---   silenceBound n   ==  the rounds after which some process is at 30, if a list of words made the table, nobody is at 30
---                        and somebody is pending: a bound that is attained.
+--   silenceBound n   ==  the rounds within which some process is at 30, if a list of words made a silent table from a
+--                        fresh one: a bound that is attained.
 --   allCome n        ==  COME of each of n processes in order; from a fresh table they lead to the longest silence.
 --   roundsOf t       ==  rounds until some process is at 30, or the limit is used up.
 --   Awaited b t o    <=> what the outcome o of at most b rounds says of the table t.
@@ -57,7 +58,7 @@ unfolding round
 rounds zero t = t
 rounds (suc r) t = rounds r (round t)
 
--- ---- silence: nobody is at 30 and somebody is pending
+-- ---- silence
 
 -- at 20 to 24; the census counts from 21 on, see `waiting`
 abbrev pub isPending : Row → Bool
@@ -68,6 +69,9 @@ pending t = countRows isPending t
 
 abbrev pub occupied : Table → ℕ
 occupied t = bit (ltb 0 (critical t))
+
+abbrev pub Silent : Table → Type 0
+Silent t = (critical t ≡ 0) × (1 ≤ pending t)
 
 -- after so many rounds the engine gives up
 abbrev pub roundLimit : ℕ → ℕ

@@ -14,7 +14,8 @@ use Rattle.counting.specs.Sums.{bit}
 use Rattle.machine.specs.Tables.{Table, sound, fresh}
 use Rattle.machine.specs.Steps.{afterWords}
 use Rattle.machine.specs.Census.{critical}
-use Rattle.machine.specs.Rounds.{rounds, pending, roundLimit, silenceBound, allCome, Rounded, roundsOf, Awaited}
+use Rattle.machine.specs.Rounds.{rounds, pending, Silent, roundLimit, silenceBound, allCome, Rounded, roundsOf}
+use Rattle.machine.specs.Rounds.{Awaited}
 use Rattle.machine.specs.declared.RoundsAnswer.{RoundsAnswer}
 use Rattle.machine.proofs.SoundRows.{sound-accepted, accepted-sound}
 use Rattle.machine.proofs.FreshRows.{fresh-sound}
@@ -69,7 +70,7 @@ module _ (t : Table) (ws : List ℕ) (h : fresh t ≡ true) (some : 1 ≤ pendin
 
   ends-within : critical (afterWords t ws) ≡ 0 → Ended (silenceBound (length t)) (roundsOf (afterWords t ws))
   ends-within none =
-      let (r, few, there) = silence-ends t ws h none some in
+      let (r, few, there) = silence-ends t ws h (none, some) in
       let e = ended-by _ r _ _ awaited (omega (arith, few, bound-fits (length t))) there in
       record { few = omega (arith, e .few, few); entered = e .entered }
 
@@ -81,11 +82,10 @@ module _ (t : Table) (ws : List ℕ) (h : fresh t ≡ true) (some : 1 ≤ pendin
 -- Not empty: `longest-answer`.
 pub rounds-end-silence : (t u : Table) (ws : List ℕ) (a : RoundsAnswer)
     → fresh t ≡ true
-    → critical (afterWords t ws) ≡ 0
-    → 1 ≤ pending (afterWords t ws)
+    → Silent (afterWords t ws)
     → RoundsTo a (afterWords t ws) u
     → (a .refusal ≡ 0) × (a .occupied ≡ 1) × (a .rounds ≤ silenceBound (length t)) × (1 ≤ critical u)
-rounds-end-silence t u ws a h none some (answer, left) =
+rounds-end-silence t u ws a h (none, some) (answer, left) =
     let w = awaited t ws h some in
     let e = ends-within t ws h some none in (
       ap (λ (k : RoundsAnswer). k .refusal) answer ∙ w .not-refused,
@@ -105,7 +105,7 @@ longest-answer t u a h made =
     let ws = allCome (length t) in
     let n = silenceBound (length t) in
     let there = silence-there t h in
-    let e = rounds-end-silence t u ws a h (there .0) (there .1) made in
+    let e = rounds-end-silence t u ws a h there made in
     let w = awaited t ws h (there .1) in
     let all : a .rounds ≡ n =
     exactly n (a .rounds) (e .2)

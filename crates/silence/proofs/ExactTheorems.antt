@@ -11,7 +11,7 @@ use lib.ListN.{length}
 use Rattle.machine.specs.Tables.{Table, fresh}
 use Rattle.machine.specs.Steps.{afterWords}
 use Rattle.machine.specs.Census.{critical}
-use Rattle.machine.specs.Rounds.{rounds, pending, silenceBound, allCome}
+use Rattle.machine.specs.Rounds.{rounds, Silent, silenceBound, allCome}
 use Rattle.silence.proofs.FrontEnds.{first-least}
 use Rattle.silence.proofs.LongestSilence.{come-silent, come-pending, come-first}
 
@@ -31,9 +31,7 @@ silence-attained = come-first
 -- That table is one of those of which the upper bound speaks: nobody is at 30, and somebody is pending.
 -- Excludes: a longest silence that is none, since nobody waits in it, or somebody is at 30 already.
 -- Not empty: as above.
-pub silence-there : (t : Table)
-    → fresh t ≡ true
-    → (critical (afterWords t (allCome (length t))) ≡ 0) × (1 ≤ pending (afterWords t (allCome (length t))))
+pub silence-there : (t : Table) → fresh t ≡ true → Silent (afterWords t (allCome (length t)))
 silence-there t h = (come-silent t h, come-pending t h)
 
 -- So no smaller bound would do: a number of rounds that is enough after every list of words, from one fresh table, is
@@ -42,12 +40,9 @@ silence-there t h = (come-silent t h, come-pending t h)
 -- Not empty: as above; `silenceBound` itself is such a number, by `silence-ends` in Theorems.antt.
 pub silence-least : (t : Table) (b : ℕ)
     → fresh t ≡ true
-    → ((ws : List ℕ)
-    → critical (afterWords t ws) ≡ 0
-    → 1 ≤ pending (afterWords t ws)
-    → (r : ℕ) × (r ≤ b) × (1 ≤ critical (rounds r (afterWords t ws))))
+    → ((ws : List ℕ) → Silent (afterWords t ws) → (r : ℕ) × (r ≤ b) × (1 ≤ critical (rounds r (afterWords t ws))))
     → silenceBound (length t) ≤ b
 silence-least t b h enough =
     first-least (silenceBound (length t)) b (afterWords t (allCome (length t)))
     (silence-attained t h)
-    (enough (allCome (length t)) (come-silent t h) (come-pending t h))
+    (enough (allCome (length t)) (silence-there t h))

@@ -4,7 +4,7 @@
 -- A silence is a table with nobody at 30 and somebody at 20 to 24. Each theorem is about every number of processes at
 -- once; no word of the rounds is refused (`round-word-accepted` in machine/proofs/RoundTheorems.antt). Nothing is said of words
 -- in another order, nor of who comes to 30. Assumes nothing.
-use Prim.Native.Nat.{ℕ, _≤_}
+use Prim.Native.Nat.{ℕ, _+_, _*_, _≤_}
 use mathlib.Core.Path.{_≡_, subst}
 use mathlib.Core.Bool.{true}
 use mathlib.Core.List.{List}
@@ -12,7 +12,7 @@ use lib.ListN.{length}
 use Rattle.machine.specs.Tables.{Table, fresh}
 use Rattle.machine.specs.Steps.{afterWords}
 use Rattle.machine.specs.Census.{critical}
-use Rattle.machine.specs.Rounds.{rounds, pending, roundLimit, silenceBound}
+use Rattle.machine.specs.Rounds.{rounds, Silent, roundLimit, silenceBound}
 use Rattle.machine.proofs.Soundness.{words-keep-length}
 use Rattle.silence.proofs.Steady.{Enters}
 use Rattle.silence.proofs.Entering.{enters-mono}
@@ -25,23 +25,18 @@ use Rattle.silence.proofs.Silence.{within-bound}
 -- Excludes: an engine that some list brings to a table from which rounds go on for ever with nobody at 30, refused
 -- words, flickers and cancels included; a bound for some numbers of processes only, or from one fresh table only.
 -- Not empty: `silence-there` in ExactTheorems.antt; and no smaller bound would do: `silence-attained` there.
-pub silence-ends : (t : Table) (ws : List ℕ)
-    → fresh t ≡ true
-    → critical (afterWords t ws) ≡ 0
-    → 1 ≤ pending (afterWords t ws)
+pub silence-ends : (t : Table) (ws : List ℕ) → fresh t ≡ true → Silent (afterWords t ws)
     → (r : ℕ) × (r ≤ silenceBound (length t)) × (1 ≤ critical (rounds r (afterWords t ws)))
-silence-ends t ws h none some =
+silence-ends t ws h s =
     subst (λ (n : ℕ). Enters (afterWords t ws) (silenceBound n)) (words-keep-length t ws)
-    (within-bound (afterWords t ws) (steady-after t ws h) none some)
+    (within-bound (afterWords t ws) (steady-after t ws h) (s .0) (s .1))
 
--- The same with the bound that was asked for, 4 n n (n + 3): the rounds after which the engine gives up.
+-- The same with the bound that was asked for, 4 n n (n + 3), which is `roundLimit`: the rounds after which the engine
+-- gives up.
 -- Excludes: as above; and an engine that gives up before some process is at 30, from a table that a list of words made.
 -- Not empty: as above.
-pub silence-ends-as-asked : (t : Table) (ws : List ℕ)
-    → fresh t ≡ true
-    → critical (afterWords t ws) ≡ 0
-    → 1 ≤ pending (afterWords t ws)
-    → (r : ℕ) × (r ≤ roundLimit (length t)) × (1 ≤ critical (rounds r (afterWords t ws)))
-silence-ends-as-asked t ws h none some =
+pub silence-ends-as-asked : (t : Table) (ws : List ℕ) → fresh t ≡ true → Silent (afterWords t ws)
+    → (r : ℕ) × (r ≤ 4 * length t * length t * (length t + 3)) × (1 ≤ critical (rounds r (afterWords t ws)))
+silence-ends-as-asked t ws h s =
     enters-mono (afterWords t ws) (silenceBound (length t)) (roundLimit (length t)) (bound-fits (length t))
-    (silence-ends t ws h none some)
+    (silence-ends t ws h s)
