@@ -12,9 +12,9 @@
 
 /* The first number rises with a change that a host compiled before would not survive, the second with any other change of
    an answer or of the interface. CHANGELOG.md says what each version changed. */
-#define ZAGUYPO_VERSION "2.0.0"
+#define ZAGUYPO_VERSION "2.1.0"
 #define ZAGUYPO_VERSION_MAJOR 2
-#define ZAGUYPO_VERSION_MINOR 0
+#define ZAGUYPO_VERSION_MINOR 1
 #define ZAGUYPO_VERSION_PATCH 0
 
 #define ZAGUYPO_MOST_PROCESSES 16
@@ -126,16 +126,17 @@ struct zaguypo_figures zaguypo_census(const struct zaguypo_row *rows, size_t siz
    rows as left. Where the table is refused, the other two are 0. */
 struct zaguypo_rounded {
     uint16_t refusal;  /* 0, 6 or 7 */
-    uint16_t rounds;   /* at most 4N * N * (N + 3), 19,456 for sixteen processes */
+    uint16_t rounds;   /* done; at most 4 * N * N * (N + 3), 19,456 for sixteen processes */
     uint16_t occupied; /* 1 where some process is at 30, else 0 */
 };
 
 /* Rounds, since version 2.1.0. A round gives each process in number order one word, and each word goes to the table
    that the word before left: STAY at 10; at 22 with lis not empty LOOK at the lowest member of lis; GO otherwise.
-   Rounds are done in the lent rows until some process is at 30 after a whole one, or 4N * N * (N + 3) are done. With a
+   Rounds are done in the lent rows until some process is at 30 after a whole one, or 4 * N * N * (N + 3) are done. With a
    process at 30 beforehand, or with nobody at 20 to 24, none is done and no row changes; nor does one after 6 and 7.
-   From a table that words made from a fresh one, with nobody at 30 and somebody at 20 to 24, at most 2N * N + 3N - 3
-   are done and occupied is 1. Sound tables that no words lead to may use up the bound, with occupied 0 ("Rounds"). */
+   From a table that words made from a fresh one, with nobody at 30 and somebody at 20 to 24, at most
+   2 * N * N + 3 * N - 3 are done and occupied is 1. Sound tables that no words lead to may use up the limit, with occupied
+   0 ("Rounds"). */
 struct zaguypo_rounded zaguypo_rounds(struct zaguypo_row *rows, size_t size);
 
 /* ---- images: a table as 5N words ("Images") */

@@ -254,7 +254,7 @@ static uint32_t drawn_word(const struct zaguypo_row *rows, uint32_t n) {
 }
 
 /* Tables that words lead to from idle ones, with somebody at 20 to 24 and nobody at 30: rounds lead there in time. And,
-   where a bound that is used up is short, any sound tables. */
+   where a limit that is used up is short, any sound tables. */
 static void rounds(uint32_t n) {
     struct zaguypo_row table[MOST];
     for (int i = 0; i < 6; i++) {

@@ -96,7 +96,7 @@ static void give_location(struct given *g, uint16_t location) {
     g->word = 0x400F0000;
 }
 
-/* 16 processes that use up the bound on rounds: all but the first rest with act 1, and the first waits for them */
+/* 16 processes that use up the limit of rounds: all but the first rest with act 1, and the first waits for them */
 static void give_rounds(struct given *g) {
     give(g, 16, 0);
     for (int q = 1; q < 16; q++) g->rows[q].act = 1;

@@ -7,7 +7,7 @@
 --
 -- Each clause speaks of every number q and k: past the end of the table the rows are blank, and all clauses hold there.
 -- Assumes nothing.
-use Prim.Native.Nat.{ℕ, _≤_, _<_}
+use Prim.Native.Nat.{ℕ, _<_}
 use mathlib.Core.Path.{_≡_, sym, _∙_, subst}
 use mathlib.Core.Bool.{true, false≢true}
 use native.Mathlib.Decide.{decLt}

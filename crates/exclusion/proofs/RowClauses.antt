@@ -12,7 +12,7 @@ use Rattle.counting.proofs.SetLaws.{others-other}
 use Rattle.machine.specs.Tables.{Table, row, competes}
 use Rattle.machine.specs.System.{Cp}
 use Rattle.machine.specs.declared.Row.{Row}
-use Rattle.machine.proofs.SoundRows.{sound-row, sound-few}
+use Rattle.machine.proofs.SoundRows.{sound-few}
 use Rattle.machine.proofs.Assignments.{other-rows-keep, competes-at, competes-within}
 use Rattle.exclusion.proofs.Effects.{Alone, Effect}
 use Rattle.exclusion.proofs.Effects.Effect.{idled, stayed, entered, lowered, went-to-push, passed, flickered}

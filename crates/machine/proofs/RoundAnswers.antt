@@ -4,7 +4,7 @@
 --   rounds-refused, rounds-none, rounds-some    a refused table, one with nobody at 20 to 24, and the others
 --
 -- Assumes nothing.
-use Prim.Native.Nat.{ℕ, suc, _<_}
+use Prim.Native.Nat.{ℕ, suc}
 use mathlib.Core.Path.{_≡_, refl, sym, ap, _∙_}
 use mathlib.Core.Bool.{Bool, true, false}
 use native.Mathlib.Omega.{arith}

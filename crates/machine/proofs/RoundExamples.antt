@@ -5,7 +5,7 @@ use mathlib.Core.Path.{_≡_, refl}
 use mathlib.Core.Bool.{true}
 use mathlib.Core.List.{List, [], _∷_, map}
 use Rattle.counting.specs.Sets.{lowest, lowestFrom}
-use Rattle.machine.specs.Rows.{idle, withLocation, withAct, withBb, withLevel, withEst, withLis, withTurn}
+use Rattle.machine.specs.Rows.{idle, withLocation, withAct, withBb, withLevel, withEst, withLis}
 use Rattle.machine.specs.Tables.{Table, sound, freshTable}
 use Rattle.machine.specs.Steps.{afterWords}
 use Rattle.machine.specs.Census.{critical, upTo}
@@ -64,7 +64,7 @@ pub to-the-end-of-a-round :
 unfolding locationsOf completed
 to-the-end-of-a-round = (refl, refl)
 
--- somebody at 30 beforehand, though somebody is at 20 as well; nobody at 20 to 24 nor at 30, and who is at 40 stays there
+-- somebody at 30 beforehand, though somebody is at 20 as well; nobody at 20 to 24 nor at 30, and who is at 40 stays
 pub no-round :
     (roundsOf (withLocation 20 idle ∷ withLocation 30 (withAct 1 idle) ∷ []) .answer ≡ answers 0 0 1)
     × (roundsOf (withLocation 40 idle ∷ withLocation 30 (withAct 1 idle) ∷ []) .answer ≡ answers 0 0 1)
@@ -88,7 +88,9 @@ rounds-refused = (refl, refl)
 
 -- ---- the longest silence
 
-pub bounds : (map silenceBound (2 ∷ 3 ∷ 16 ∷ []) ≡ 11 ∷ 24 ∷ 557 ∷ []) × (map roundLimit (2 ∷ 3 ∷ 16 ∷ []) ≡ 80 ∷ 216 ∷ 19456 ∷ [])
+pub bounds :
+    (map silenceBound (2 ∷ 3 ∷ 16 ∷ []) ≡ 11 ∷ 24 ∷ 557 ∷ [])
+    × (map roundLimit (2 ∷ 3 ∷ 16 ∷ []) ≡ 80 ∷ 216 ∷ 19456 ∷ [])
 bounds = (refl, refl)
 
 -- all of two, and of three, come

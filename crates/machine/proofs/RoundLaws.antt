@@ -1,17 +1,17 @@
 -- Laws of rounds: the word that a round gives is accepted, and what it does to the table.
 --
---   Move t p u          <=>  the word that a round gives process p makes u of t: the steps of System.antt, but none that
---                            comes, flickers or cancels, and a look at the lowest member of lis alone.
+--   Move t p u          <=>  the word that a round gives process p makes u of t: a step of System.antt that neither
+--                            comes, flickers nor cancels, and of the looks the one at the lowest member of lis.
 --   move-step                a move is a step
 --   process-moves-on         every process of a sound table has a move, and the word of the round makes it
 --   round-word-accepted      so the word is accepted
 --   one-move                 and it has no other move
 --   by-moves                 what each move makes of what held before it, a round makes
---   round-sound, round-length, rounds-sound, rounds-length    rounds keep a table sound and its number of processes
---   rounds-add               rounds after rounds
+--   round-sound, round-length    a round keeps a table sound and its number of processes
+--   rounds-zero, rounds-suc      no round, and one round before the others
 --
 -- Assumes nothing.
-use Prim.Native.Nat.{ℕ, zero, suc, _+_, _-_, _^_, _≤_, _<_}
+use Prim.Native.Nat.{ℕ, zero, suc, _-_, _^_, _≤_, _<_}
 use mathlib.Core.Path.{_≡_, refl, sym, ap, _∙_, subst}
 use mathlib.Core.Bool.{Bool, true, false, cond, _&&_, not, false≢true}
 use mathlib.Core.List.{map}
@@ -53,7 +53,8 @@ pub data Move (t : Table) (p : ℕ) : Table → Type 0 where
       row t p .location ≡ 22 → has (row t p .lis) (lowest (row t p .lis)) ≡ true
       → row t (lowest (row t p .lis)) .act ≡ 0
       → Move t p
-      (assigned t p (λ r. withEst (without (r .est) (lowest (r .lis))) (withLis (without (r .lis) (lowest (r .lis))) r)))
+      (assigned t p
+      (λ r. withEst (without (r .est) (lowest (r .lis))) (withLis (without (r .lis) (lowest (r .lis))) r)))
   keeps :
       row t p .location ≡ 22 → has (row t p .lis) (lowest (row t p .lis)) ≡ true
       → (row t (lowest (row t p .lis)) .act ≡ 0 → ⊥)
@@ -259,16 +260,6 @@ module _ (t : Table) where
 
 -- ---- rounds
 
-pub rounds-length : (r : ℕ) (t : Table) → length (rounds r t) ≡ length t
-unfolding rounds
-rounds-length zero t = refl
-rounds-length (suc r) t = rounds-length r (round t) ∙ round-length t
-
-pub rounds-sound : (r : ℕ) (t : Table) → tableRefusal t ≡ 0 → tableRefusal (rounds r t) ≡ 0
-unfolding rounds
-rounds-sound zero t z = z
-rounds-sound (suc r) t z = rounds-sound r (round t) (round-sound t z)
-
 pub rounds-zero : (t : Table) → rounds 0 t ≡ t
 unfolding rounds
 rounds-zero t = refl
@@ -276,10 +267,3 @@ rounds-zero t = refl
 pub rounds-suc : (r : ℕ) (t : Table) → rounds (suc r) t ≡ rounds r (round t)
 unfolding rounds
 rounds-suc r t = refl
-
-pub rounds-add : (a b : ℕ) (t : Table) → rounds (a + b) t ≡ rounds b (rounds a t)
-unfolding rounds
-rounds-add zero b t = let e : 0 + b ≡ b = omega arith in ap (λ (r : ℕ). rounds r t) e
-rounds-add (suc a) b t =
-    let e : suc a + b ≡ suc (a + b) = omega arith in
-    ap (λ (r : ℕ). rounds r t) e ∙ rounds-suc (a + b) t ∙ rounds-add a b (round t)

@@ -1,19 +1,19 @@
--- What is proved of rounds and of the answer that they give (MANUAL, "Rounds"), beside how many there are at most, which
--- the crate `silence` proves.
+-- What is proved of rounds and of the answer that they give (MANUAL, "Rounds"). How many there are at most is proved in
+-- the crate `silence`.
 --
 -- Assumes nothing.
 use Prim.Native.Nat.{ℕ, zero, suc, _+_, _≤_, _<_}
 use mathlib.Core.Path.{_≡_, refl, sym, ap, _∙_, subst}
-use mathlib.Core.Bool.{Bool, true, false, cond}
+use mathlib.Core.Bool.{Bool, true, cond}
 use native.Mathlib.Decide.{ℕ-discrete}
 use native.Mathlib.Omega.{arith}
-use lib.Dec.{eqb, ltb}
+use lib.Dec.{eqb}
 use lib.ListN.{length}
-use borrow.Author.Tests.{eq-eqb, ne-eqb, lt-ltb}
+use borrow.Author.Tests.{eq-eqb, ne-eqb}
 use Rattle.machine.specs.Tables.{Table, sound, tableRefusal}
 use Rattle.machine.specs.Steps.{refusalOf}
 use Rattle.machine.specs.Census.{critical}
-use Rattle.machine.specs.Rounds.{roundWord, round, rounds, pending, roundLimit, Rounded, rounded, unrounded}
+use Rattle.machine.specs.Rounds.{roundWord, round, rounds, pending, roundLimit, Rounded, rounded}
 use Rattle.machine.specs.Rounds.{roundsFrom, roundsOf, Awaited}
 use Rattle.machine.proofs.SoundRows.{sound-accepted}
 use Rattle.machine.proofs.RoundLaws as laws
@@ -21,8 +21,8 @@ use Rattle.machine.proofs.RoundLaws.{rounds-zero, rounds-suc}
 use Rattle.machine.proofs.RoundAnswers.{from-used, from-next, from-here, rounds-none, rounds-some}
 
 -- The word that a round gives is accepted, from every sound table and of every process.
--- Excludes: a round that gives GO at 10, or at 22 while lis is not empty; a LOOK at no member of lis; a round in which a
--- process is passed over.
+-- Excludes: a round that gives GO at 10, or at 22 while lis is not empty; a LOOK at no member of lis; a round in which
+-- a process is passed over.
 -- Not empty: `fresh-exists` of exclusion; `rounds-of-two` in RoundExamples.antt.
 pub round-word-accepted : (t : Table) (p : ℕ) → sound t ≡ true → p < length t → refusalOf t (roundWord t p) ≡ 0
 round-word-accepted t p h l = laws.round-word-accepted t p (sound-accepted t h) l
@@ -80,8 +80,8 @@ from-done (suc b) r t = go (ℕ-discrete (critical t) 0) (from-done b (suc r) (r
 -- What the answer tells. The table left is the one after the rounds that are told. Somebody at 30 ends them, after a
 -- whole round: before each of them nobody was. Whether somebody is at 30 is told of the table left, and if nobody is,
 -- the limit is used up, or nobody was at 20 to 24 and no round was done.
--- Excludes: one round too many or too few, counted or done; a stop within a round; an answer about another table than the
--- one left; giving up before the limit, or going on past it; rounds where nobody is at 20 to 24.
+-- Excludes: one round too many or too few, counted or done; a stop within a round; an answer about another table than
+-- the one left; giving up before the limit, or going on past it; rounds where nobody is at 20 to 24.
 -- Not empty: `rounds-of-two`, `rounds-used-up` in RoundExamples.antt.
 pub rounds-answer : (t : Table)
     → sound t ≡ true
@@ -110,4 +110,5 @@ rounds-answer t h = go (ℕ-discrete (pending t) 0)
         (told 0 _ (none-done 0 0 t _ (rounds-none t z e) (λ i. refl)))
     go (no n) =
         subst (λ (b : Bool). Awaited (cond b 0 (roundLimit (length t))) t (roundsOf t)) (sym (ne-eqb _ _ n))
-        (subst (Awaited (roundLimit (length t)) t) (sym (rounds-some t z n)) (told _ _ (from-done (roundLimit (length t)) 0 t)))
+        (subst (Awaited (roundLimit (length t)) t) (sym (rounds-some t z n))
+        (told _ _ (from-done (roundLimit (length t)) 0 t)))

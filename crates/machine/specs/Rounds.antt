@@ -1,10 +1,10 @@
 -- Rounds: each process in turn is given the word with which it goes on (MANUAL, "Rounds").
 --
---   roundWord t p    ==  the word that a round gives process p: STAY at 10; at 22 LOOK at the lowest member of lis, where
---                        it has one; GO otherwise.
---   roundTo t p      ==  the table after the words of the processes below p, each given to the table that the one before
---                        left.
---   round t          ==  the table after a round, one word for each process in number order; rounds r t: after r rounds.
+--   roundWord t p    ==  the word that a round gives process p: STAY at 10; at 22 LOOK at the lowest member of lis,
+--                        where it has one; GO otherwise.
+--   roundTo t p      ==  the table after the words of the processes below p, each given to the table that the one
+--                        before left.
+--   round t          ==  the table after a round, one word for each process in number order; rounds r t: after r.
 --   pending t        ==  how many processes are at 20 to 24: they have come and are not yet in the critical section.
 --   occupied t       ==  1 where some process is at 30, in the critical section; else 0.
 --   Silent t         <=> nobody is at 30 and somebody is pending.

@@ -1,7 +1,7 @@
 -- The word of a round given to a process of cells, by the tests of the code.
 --
 -- Assumes nothing.
-use Prim.Native.Nat.{ℕ, _^_, _<_}
+use Prim.Native.Nat.{ℕ, _<_}
 use mathlib.Core.Path.{_≡_, refl, sym, ap, _∙_, subst}
 use mathlib.Core.Bool.{Bool, true, false, _&&_, not, and-eq-true-iff}
 use mathlib.Core.List.{List}
@@ -14,7 +14,7 @@ use borrow.Author.Tests.{eqb-true, eqb-false, ne-eqb, not-true}
 use Rattle.counting.specs.Sets.{has, lowest}
 use Rattle.counting.proofs.SetLaws.{member-below}
 use Rattle.counting.proofs.LowestLaws.{lowest-member}
-use Rattle.machine.specs.Tables.{Table, row, tableRefusal}
+use Rattle.machine.specs.Tables.{Table, row}
 use Rattle.machine.specs.Words.{GO, LOOK}
 use Rattle.machine.specs.Steps.{moved, afterWord}
 use Rattle.machine.specs.Census.{isCritical}

@@ -16,13 +16,13 @@ use native.Mathlib.Omega.{arith}
 use lib.Dec.{eqb, ltb}
 use lib.ListN.{length}
 use mir.Val.{boolByte}
-use borrow.Author.Tests.{ltb-true, ltb-false, eq-eqb, ne-eqb, lt-ltb}
+use borrow.Author.Tests.{ltb-true, ltb-false, ne-eqb, lt-ltb}
 use Rattle.counting.specs.Sums.{bit, count}
 use Rattle.counting.proofs.CountLaws.{count-zero}
 use Rattle.machine.specs.Tables.{Table, row, tableRefusal}
 use Rattle.machine.specs.Steps.{afterWord}
 use Rattle.machine.specs.Census.{isCritical, critical}
-use Rattle.machine.specs.Rounds.{roundWord, roundTo, round, roundLimit, pending, occupied, Rounded, rounded}
+use Rattle.machine.specs.Rounds.{roundWord, roundTo, round, occupied, Rounded, rounded}
 use Rattle.machine.specs.Rounds.{unrounded, roundsFrom, roundsOf}
 use Rattle.machine.proofs.RoundLaws.{Move, process-moves-on}
 use Rattle.machine.proofs.Arriving.{critical-next}

@@ -1,20 +1,20 @@
 -- What the word of a round does, kind by kind, and that it may be done.
 --
 --   stay-word, look-word, go-word     the word, by the tests of the code
---   given                             a word of kind k with argument a is allowed, its argument fits, and the table is moved
+--   given                             a word of kind k with argument a is allowed, its argument fits, the table is moved
 --   rest-given, look-given, go-given  so for each kind
 --
 -- Assumes nothing.
 use Prim.Native.Nat.{ℕ, _<_}
-use mathlib.Core.Path.{_≡_, refl, sym, ap, _∙_, subst}
-use mathlib.Core.Bool.{true, false, cond, _&&_, not}
+use mathlib.Core.Path.{_≡_, refl, sym, ap, _∙_}
+use mathlib.Core.Bool.{true, false, _&&_, not}
 use native.Mathlib.Omega.{arith}
 use lib.Dec.{eqb}
 use lib.ListN.{length}
-use borrow.Author.Tests.{eq-eqb, ne-eqb}
-use Rattle.counting.specs.Sets.{has, lowest}
+use borrow.Author.Tests.{ne-eqb}
+use Rattle.counting.specs.Sets.{lowest}
 use Rattle.machine.specs.Tables.{Table, row, tableRefusal}
-use Rattle.machine.specs.Words.{STAY, GO, LOOK, kindOf, processOf, argumentOf, wordOf}
+use Rattle.machine.specs.Words.{STAY, GO, LOOK, kindOf, processOf, wordOf}
 use Rattle.machine.specs.Steps.{moved, allowed, argumentFits, refusalOf, afterWord}
 use Rattle.machine.specs.Rounds.{roundWord}
 use Rattle.machine.proofs.Accepted.{accepted-moved, accepted-says}

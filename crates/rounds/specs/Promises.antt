@@ -1,7 +1,7 @@
 -- What rounds promise of cells.
 --
 --   Moving x p        <=>  process p of the cells x, a sound table, can move.
---   MovesOn x p y b   <=>  the word of a round given to process p made y of the cells x, and b tells whether p is at 30.
+--   MovesOn x p y b   <=>  the word of a round of process p made y of the cells x, and b tells whether p is at 30.
 --   GoesRound x y b   <=>  a round made y of x, and b tells whether somebody is at 30.
 --   Rounds x o y a    <=>  the cells x have become y, and a is the answer, by rounds with outcome o.
 --   RoundsTo a t u    <=>  rounds make the table u of t, with the answer a: what the function for C ensures.

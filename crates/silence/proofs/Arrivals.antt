@@ -6,27 +6,27 @@
 --   front-begins         the first round from there leaves a front with everything due
 --
 -- Assumes nothing.
-use Prim.Native.Nat.{ℕ, zero, suc, _+_, _*_, _-_, _≤_, _<_}
+use Prim.Native.Nat.{ℕ, zero, suc, _-_, _≤_, _<_}
 use mathlib.Core.Path.{_≡_, refl, sym, _∙_, subst}
 use mathlib.Core.Bool.{true}
 use mathlib.Core.List.{List}
 use native.Mathlib.Omega.{arith}
 use lib.ListN.{length}
-use Rattle.counting.specs.Sets.{others}
 use Rattle.counting.proofs.SizeLaws.{size-others}
-use Rattle.machine.specs.Rows.{withLocation, withAct, withLevel, withEst, withAhead}
+use Rattle.machine.specs.Rows.{withLocation}
 use Rattle.machine.specs.Tables.{Table, row, tableRefusal, fresh}
 use Rattle.machine.specs.Words.{COME, wordOf}
 use Rattle.machine.specs.Steps.{afterWord, afterWords}
 use Rattle.machine.specs.Census.{upTo}
 use Rattle.machine.specs.Rounds.{round, allCome}
-use Rattle.machine.specs.System.{assigned, Cp, Step}
+use Rattle.machine.specs.System.{assigned, Step}
 use Rattle.machine.specs.declared.Row.{Row}
 use Rattle.machine.proofs.SoundRows.{sound-few, sound-accepted, accepted-sound}
 use Rattle.machine.proofs.Accepted.{afterWords-snoc}
 use Rattle.machine.proofs.Soundness.{words-keep-sound, words-keep-length}
 use Rattle.machine.proofs.OneWord.{one-word}
 use Rattle.machine.proofs.FreshRows.{fresh-sound, fresh-at-10, fresh-rests}
+use Rattle.machine.proofs.StepRows.{enteredRow}
 use Rattle.machine.proofs.RoundLaws.{Move, one-move, by-moves, round-sound, round-length}
 use Rattle.silence.proofs.Due.{phase}
 use Rattle.silence.proofs.DueLaws.{due-unset}
@@ -75,23 +75,18 @@ module _ (t : Table) (h : fresh t ≡ true) where
 
 -- ---- the first round
 
--- the row of p after GO at 20
-abbrev enteredRow : Table → ℕ → Row → Row
-enteredRow t p r =
-    withLocation 21 (withEst (others (length t) p) (withLevel (length t - 1) (withAct 1 (withAhead (Cp t) r))))
-
 -- of k + 1 processes
 module _ (k : ℕ) where
   abbrev Entered : ℕ → Row → Type 0
   Entered = FrontRow (suc k) k (phase (suc k))
 
-  entered-row : (t : Table) (p : ℕ) (r : Row)
+  entered-row : (t : Table) (p : ℕ)
       → length t ≡ suc k
       → length t ≤ 16
       → p < suc k
-      → r .bb ≡ 0
-      → Entered p (enteredRow t p r)
-  entered-row t p r e few l z =
+      → row t p .bb ≡ 0
+      → Entered p (enteredRow t p)
+  entered-row t p e few l z =
       let all = size-others (length t) p few (omega arith) in
       record {
         act-shown = λ i. absurd (omega arith);
@@ -102,7 +97,7 @@ module _ (k : ℕ) where
               from-21 = omega arith;
               to-24 = omega arith;
               level-is = omega arith;
-              due-is = omega (arith, due-unset (enteredRow t p r) (suc k) z);
+              due-is = omega (arith, due-unset (enteredRow t p) (suc k) z);
             };
         high = λ i. absurd (omega arith);
       }
@@ -118,8 +113,8 @@ module _ (k : ℕ) where
       let in-t : p < length t = omega arith in
       let own = h p l .1 (omega arith) in
       subst (Swept Came Entered (suc k) (suc p)) (one-move z in-t (Move.enters (own .0)) m)
-      (swept-set Came Entered (suc k) t p (enteredRow t p (row t p)) in-t h
-      (entered-row t p (row t p) e (sound-few t z) l (own .1)))
+      (swept-set Came Entered (suc k) t p (enteredRow t p) in-t h
+      (entered-row t p e (sound-few t z) l (own .1)))
 
   pub front-begins : (t : Table)
       → tableRefusal t ≡ 0

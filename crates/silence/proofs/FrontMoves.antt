@@ -7,7 +7,7 @@
 --   stride-due              away from 24 it is some other number than n + 3
 --
 -- Assumes nothing.
-use Prim.Native.Nat.{ℕ, suc, _+_, _*_, _≤_, _<_}
+use Prim.Native.Nat.{ℕ, suc, _+_, _≤_, _<_}
 use mathlib.Core.Path.{_≡_, ap, _∙_}
 use mathlib.Core.Logic.{_≢_}
 use native.Mathlib.Decide.{ℕ-discrete}
@@ -18,10 +18,11 @@ use Rattle.counting.proofs.SizeLaws.{size-zero, size-without-in, size-others}
 use Rattle.machine.specs.Rows.{withLocation, withLis}
 use Rattle.machine.specs.Tables.{Table}
 use Rattle.machine.specs.declared.Row.{Row}
+use Rattle.machine.proofs.StepRows.{pushedRow}
 use Rattle.silence.proofs.Due.{left, due, phase}
 use Rattle.silence.proofs.DueLaws.{left-21, left-22, left-23, left-24, due-unset, due-set}
 use Rattle.silence.proofs.Front.{Low, FrontRow}
-use Rattle.silence.proofs.Strides.{Stride, pushedRow}
+use Rattle.silence.proofs.Strides.{Stride}
 use Rattle.silence.proofs.Strides.Stride.{begins, looks, ends, turns-up, falls, holds}
 
 -- ---- above the front

@@ -7,7 +7,7 @@
 --
 -- In the round that begins with n + 3 moves due everybody in the front pushes, l last, and nobody reads turn[l].
 -- Assumes nothing.
-use Prim.Native.Nat.{ℕ, suc, _+_, _*_, _^_, _≤_, _<_}
+use Prim.Native.Nat.{ℕ, suc, _+_, _^_, _≤_, _<_}
 use mathlib.Core.Path.{_≡_, refl, sym, ap, _∙_, subst}
 use native.Mathlib.Decide.{ℕ-discrete, decLe, decLt}
 use native.Mathlib.Omega.{arith}
@@ -21,12 +21,13 @@ use Rattle.machine.specs.declared.Row.{Row}
 use Rattle.machine.proofs.TableLaws.{turn-free}
 use Rattle.machine.proofs.SoundRows.{sound-row, sound-few}
 use Rattle.machine.proofs.Assignments.{set-keeps-turns, turn-set-is, turn-set-others}
+use Rattle.machine.proofs.StepRows.{pushedRow}
 use Rattle.machine.proofs.RoundLaws.{Move, round-sound, round-length, by-moves}
 use Rattle.silence.proofs.Due.{phase}
 use Rattle.silence.proofs.Sweeps.{Swept, swept-none, swept-all, swept-set}
 use Rattle.silence.proofs.Front.{FrontRow, Front, front-turn, front-inside}
-use Rattle.silence.proofs.Strides.{Stride, Goes, pushedRow, stride-turn, move-goes}
-use Rattle.silence.proofs.Strides.Goes.{strides, push}
+use Rattle.silence.proofs.Strides.{Stride, Advances, stride-turn, move-advances}
+use Rattle.silence.proofs.Strides.Advances.{strides, push}
 use Rattle.silence.proofs.FrontMoves.{high-stride, low-stride, last-stride, low-push, pushed-low, stride-due}
 
 pub data Next (n l c : ℕ) : ℕ → ℕ → Type 0 where
@@ -157,14 +158,14 @@ module _ (n l c j d : ℕ) (some : 1 ≤ l) (next : Next n l c j d) (p : ℕ) (t
             → FrontRow n i b q (row (turnAssigned t (row t p .level) p) q)
         free {i} {b} q = turn-free (FrontRow n i b q) t (row t p .level) p q (λ r g. front-turn g p)
 
-    during-goes : {u : Table} → Goes t p u → During n l c j d (suc p) u
-    during-goes (strides s x) = strode s x
-    during-goes (push e) = pushed e
+    during-advance : {u : Table} → Advances t p u → During n l c j d (suc p) u
+    during-advance (strides s x) = strode s x
+    during-advance (push e) = pushed e
 
     during-move : (u : Table) → Move t p u → During n l c j d (suc p) u
     during-move u m =
         let at = front-inside own in
-        during-goes (move-goes t p z in-t shown (at .0) (at .1) (high (decLe p l)) (own .est-full ∙ sym size) m)
+        during-advance (move-advances t p z in-t shown (at .0) (at .1) (high (decLe p l)) (own .est-full ∙ sym size) m)
 
 -- ---- one round
 

@@ -4,7 +4,7 @@
 --   come-first                   some process is at 30 after `silenceBound` rounds, and after fewer nobody is
 --
 -- Assumes nothing.
-use Prim.Native.Nat.{ℕ, suc, _+_, _*_, _-_, _≤_, _<_}
+use Prim.Native.Nat.{ℕ, suc, _-_, _≤_, _<_}
 use mathlib.Core.Path.{_≡_, sym, ap, _∙_, subst}
 use mathlib.Core.Bool.{true, _&&_}
 use native.Mathlib.Omega.{arith}

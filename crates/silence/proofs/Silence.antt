@@ -1,6 +1,6 @@
 -- From a steady table with nobody at 30 and somebody pending, the rounds of the bound bring some process to 30.
 --
---   within-bound    some process is at 30 within the bound: the first round, and those of the quiet table that it leaves
+--   within-bound    some process is at 30 within it: the first round, and those of the quiet table that it leaves
 --
 -- Assumes nothing.
 use Prim.Native.Nat.{ℕ, zero, suc, _+_, _*_, _≤_}

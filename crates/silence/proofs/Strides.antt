@@ -1,10 +1,10 @@
 -- The moves of a round between 21 and 24, where everybody shows its act and est has all others.
 --
 --   Stride p v r s    <=>  a move of p, for which turn[level] is v, makes row s of row r, and p was not at 24.
---   Goes t p u        <=>  a stride of p, or its push at 24, makes u of t.
+--   Advances t p u    <=>  a stride of p, or its push at 24, makes u of t.
 --   stride-turn       a stride keeps the turn cell of its row
---   move-goes         every move of such a process is one of these: it discards nobody, and its level is not lowered
---                     for want of members of est
+--   move-advances     every move of such a process is one of these: it discards nobody, and its level is not
+--                     lowered for want of members of est
 --
 -- Assumes nothing.
 use Prim.Native.Nat.{ℕ, _+_, _-_, _≤_, _<_}
@@ -12,13 +12,14 @@ use mathlib.Core.Path.{_≡_, refl}
 use mathlib.Core.Bool.{true}
 use native.Mathlib.Omega.{arith}
 use lib.ListN.{length, set}
-use Rattle.counting.specs.Sets.{has, size, without, others, lowest}
+use Rattle.counting.specs.Sets.{has, size, without, lowest}
 use Rattle.counting.proofs.SetLaws.{member-below}
-use Rattle.machine.specs.Rows.{withLocation, withBb, withLevel, withEst, withLis, withAhead}
+use Rattle.machine.specs.Rows.{withLocation, withBb, withLevel, withLis}
 use Rattle.machine.specs.Tables.{Table, row, tableRefusal}
-use Rattle.machine.specs.System.{assigned, turnAssigned, Cp}
+use Rattle.machine.specs.System.{assigned, turnAssigned}
 use Rattle.machine.specs.declared.Row.{Row}
 use Rattle.machine.proofs.SoundRows.{sound-row, sound-few}
+use Rattle.machine.proofs.StepRows.{pushedRow}
 use Rattle.machine.proofs.RoundLaws.{Move}
 use Rattle.machine.proofs.RoundLaws.Move.{rests, enters, starts-pass, wins, discards, keeps, ends-pass, lowers}
 use Rattle.machine.proofs.RoundLaws.Move.{to-push, waits, skips, pushes, exits, leaves}
@@ -33,13 +34,9 @@ pub data Stride (p v : ℕ) (r : Row) : Row → Type 0 where
       → Stride p v r (withLocation 21 (withBb 0 (withLevel (r .level - 1) r)))
   holds : r .location ≡ 23 → (r .bb ≡ 0 → ⊥) → v ≡ p → Stride p v r (withLocation 21 r)
 
--- to 21 with bb set and all others in est
-abbrev pub pushedRow : Table → ℕ → Row → Row
-pushedRow t p r = withLocation 21 (withAhead (without (Cp t) p) (withEst (others (length t) p) (withBb 1 r)))
-
-pub data Goes (t : Table) (p : ℕ) : Table → Type 0 where
-  strides : (s : Row) → Stride p (row t (row t p .level) .turn) (row t p) s → Goes t p (set t p s)
-  push : row t p .location ≡ 24 → Goes t p (assigned (turnAssigned t (row t p .level) p) p (pushedRow t p))
+pub data Advances (t : Table) (p : ℕ) : Table → Type 0 where
+  strides : (s : Row) → Stride p (row t (row t p .level) .turn) (row t p) s → Advances t p (set t p s)
+  push : row t p .location ≡ 24 → Advances t p (assigned (turnAssigned t (row t p .level) p) p (pushedRow t p))
 
 pub stride-turn : {p v : ℕ} {r s : Row} → Stride p v r s → s .turn ≡ r .turn
 stride-turn (begins e) = refl
@@ -57,19 +54,19 @@ module _ (t : Table) (p : ℕ) (z : tableRefusal t ≡ 0) (l : p < length t)
     member-in : (q : ℕ) → has (row t p .lis) q ≡ true → q < length t
     member-in q h = member-below (row t p .lis) (length t) q (sound-row t z p l .lis-low) h
 
-    pub move-goes : {u : Table} → Move t p u → Goes t p u
-    move-goes (rests e) = absurd (omega arith)
-    move-goes (enters e) = absurd (omega arith)
-    move-goes (starts-pass e h) = strides _ (begins e)
-    move-goes (wins e h) = absurd (omega arith)
-    move-goes (discards e h a) = absurd (shown _ (member-in _ h) a)
-    move-goes (keeps e h a) =
+    pub move-advances : {u : Table} → Move t p u → Advances t p u
+    move-advances (rests e) = absurd (omega arith)
+    move-advances (enters e) = absurd (omega arith)
+    move-advances (starts-pass e h) = strides _ (begins e)
+    move-advances (wins e h) = absurd (omega arith)
+    move-advances (discards e h a) = absurd (shown _ (member-in _ h) a)
+    move-advances (keeps e h a) =
         strides _ (looks (lowest (row t p .lis)) (omega (arith, member-in _ h, sound-few t z)) e h)
-    move-goes (ends-pass e h) = strides _ (ends e h)
-    move-goes (lowers e h) = absurd (omega (arith, sound-row t z p l .level-low))
-    move-goes (to-push e h b) = strides _ (turns-up e b)
-    move-goes (waits e h b v) = strides _ (falls e b v)
-    move-goes (skips e h b v) = strides _ (holds e b v)
-    move-goes (pushes e) = push e
-    move-goes (exits e) = absurd (omega arith)
-    move-goes (leaves e) = absurd (omega arith)
+    move-advances (ends-pass e h) = strides _ (ends e h)
+    move-advances (lowers e h) = absurd (omega (arith, sound-row t z p l .level-low))
+    move-advances (to-push e h b) = strides _ (turns-up e b)
+    move-advances (waits e h b v) = strides _ (falls e b v)
+    move-advances (skips e h b v) = strides _ (holds e b v)
+    move-advances (pushes e) = push e
+    move-advances (exits e) = absurd (omega arith)
+    move-advances (leaves e) = absurd (omega arith)

@@ -2,8 +2,8 @@
 -- the machine's definitions; the argument is in the other files.
 --
 -- A silence is a table with nobody at 30 and somebody at 20 to 24. Each theorem is about every number of processes at
--- once; no word of the rounds is refused (`round-word-accepted` in machine/proofs/RoundTheorems.antt). Nothing is said of words
--- in another order, nor of who comes to 30. Assumes nothing.
+-- once; no word of the rounds is refused (`round-word-accepted` in machine/proofs/RoundTheorems.antt). Nothing is said
+-- of words in another order, nor of who comes to 30. Assumes nothing.
 use Prim.Native.Nat.{ℕ, _+_, _*_, _≤_}
 use mathlib.Core.Path.{_≡_, subst}
 use mathlib.Core.Bool.{true}

@@ -32,7 +32,8 @@ abbrev μ-loop : tie.MeasureT-loop
 
 loop-holds : tie.Need-loop-holds Inv-loop μ-loop
 loop-holds c =
-    (search needs, refl, few-cells (c .args .cells .now) (c .pre), refl, c .pre, sym (to-start _), none-yet (rowsOf (c .args .cells .now)))
+    let x = c .args .cells .now in
+    (search needs, refl, few-cells x (c .pre), refl, c .pre, sym (to-start _), none-yet (rowsOf x))
 
 cast-move-on : tie.Need-cast-move-on Inv-loop μ-loop
 cast-move-on c = search needs

@@ -38,7 +38,7 @@ impl Rounds {
         let missing = (2..=MOST).filter(|&n| self.arrived[n] == 0);
         let mut unseen: Vec<String> = missing.map(|n| format!("no rounds to 30 with {n} processes")).collect();
         let others = [
-            (self.used_up.iter().sum(), "no bound of rounds that is used up"),
+            (self.used_up.iter().sum(), "no limit of rounds that is used up"),
             (self.occupied, "no rounds asked for with a process at 30"),
             (self.nobody, "no rounds asked for with nobody at 20 to 24 or 30"),
         ];

@@ -34,7 +34,7 @@ fn made_by_a_list(rng: &mut Random, n: usize) -> Vec<Row> {
     rows
 }
 
-/// Any sound table with nobody at 30. A process at 10 whose act is 1 stays in est for good, so that the bound is used
+/// Any sound table with nobody at 30. A process at 10 whose act is 1 stays in est for good, so that the limit is used
 /// up: among many processes, where that is long, such are rare.
 fn quiet(rng: &mut Random, n: usize) -> Vec<Row> {
     let stuck = rng.chance(1, if n <= 4 { 2 } else { 4 * n });

@@ -8,7 +8,7 @@ use crate::{Rounded, Row};
 const STAY: u32 = 1;
 const COME: u32 = 2;
 
-/// Rounds in the lent rows until somebody is at 30 after one, or the bound is used up; 6 or 7 and no round.
+/// Rounds in the lent rows until somebody is at 30 after one, or the limit is used up; 6 or 7 and no round.
 pub fn rounds(rows: &mut [Row], fault: Fault) -> Rounded {
     let mut system = match System::from_rows(rows, fault) {
         Ok(system) => system,
@@ -24,7 +24,7 @@ pub fn rounds(rows: &mut [Row], fault: Fault) -> Rounded {
         return Rounded { refusal: 0, rounds: 0, occupied };
     }
     let (mut counted, mut occupied) = (0, 0);
-    for _ in 0..bound(system.n(), fault) {
+    for _ in 0..limit(system.n(), fault) {
         let before = told_of(&system, fault);
         let whole = do_round(&mut system, fault);
         if whole || fault != Fault::RoundEndsAt30Uncounted {
@@ -59,11 +59,11 @@ fn somebody_at_30(system: &System, fault: Fault) -> bool {
 }
 
 /// The most rounds: 4 times N times N times N + 3.
-fn bound(n: usize, fault: Fault) -> usize {
+fn limit(n: usize, fault: Fault) -> usize {
     match fault {
-        Fault::BoundWithNAnd2 => 4 * n * n * (n + 2),
-        Fault::BoundOneLess => 4 * n * n * (n + 3) - 1,
-        Fault::BoundOneMore => 4 * n * n * (n + 3) + 1,
+        Fault::LimitWithNAnd2 => 4 * n * n * (n + 2),
+        Fault::LimitOneLess => 4 * n * n * (n + 3) - 1,
+        Fault::LimitOneMore => 4 * n * n * (n + 3) + 1,
         _ => 4 * n * n * (n + 3),
     }
 }

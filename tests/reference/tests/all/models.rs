@@ -129,7 +129,7 @@ fn a_comparison_without_every_end_of_rounds_is_blind() {
     let ends = [
         ("no rounds to 30 with 2 processes", vec![at(20, 0), at(10, 0)]),
         ("no rounds to 30 with 16 processes", vec![at(20, 0); 16]),
-        ("no bound of rounds that is used up", vec![at(20, 0), at(10, 1)]),
+        ("no limit of rounds that is used up", vec![at(20, 0), at(10, 1)]),
         ("no rounds asked for with a process at 30", vec![at(20, 0), at(30, 0)]),
         ("no rounds asked for with nobody at 20 to 24 or 30", vec![at(10, 0), at(40, 0)]),
         ("Rounds never met refusal 6", vec![at(20, 0)]),

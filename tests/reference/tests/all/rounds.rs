@@ -107,7 +107,7 @@ fn each_word_goes_to_the_table_that_the_word_before_left() {
 
 /// Sound tables that no list makes: process 1 rests with act 1, so that process 0 keeps it in est.
 #[test]
-fn a_bound_that_is_used_up() {
+fn a_limit_that_is_used_up() {
     on_both(|engine| {
         for loc in [21, 22] {
             let own = Row { loc, act: 1, bb: 1, level: 1, est: 0b10, ..Row::IDLE };

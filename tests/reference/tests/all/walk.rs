@@ -92,10 +92,10 @@ const UNSEEN: [Fault; 63] = [
     Fault::RoundsClearRefusedRows,
     // of two, lis has one member at most at 22; rounds of three are compared with the reference
     Fault::LooksAtHighest,
-    // rounds lead to 30 long before the bound, and one process alone
-    Fault::BoundWithNAnd2,
-    Fault::BoundOneLess,
-    Fault::BoundOneMore,
+    // rounds lead to 30 long before the limit, and one process alone
+    Fault::LimitWithNAnd2,
+    Fault::LimitOneLess,
+    Fault::LimitOneMore,
     Fault::OccupiedIsANumber,
     // the call on bytes is not made
     Fault::NoImageOnStop,
