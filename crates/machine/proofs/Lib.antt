@@ -18,7 +18,6 @@ pub mod WordLaws
 pub mod Choices
 pub mod OneWord
 pub mod SameOutcome
-pub mod Progress
 pub mod RoundLaws
 pub mod RoundAnswers
 pub mod OwnMoves

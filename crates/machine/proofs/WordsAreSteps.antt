@@ -24,7 +24,7 @@ use Rattle.machine.proofs.Accepted as Accepted
 use Rattle.machine.proofs.Soundness as Soundness
 use Rattle.machine.proofs.OneWord as OneWord
 use Rattle.machine.proofs.SameOutcome as SameOutcome
-use Rattle.machine.proofs.Progress as Progress
+use Rattle.machine.proofs.RoundLaws.{process-moves-on, move-step}
 use Rattle.machine.proofs.WordLaws as WordLaws
 
 -- ---- the step is the system
@@ -85,9 +85,9 @@ same-outcome = SameOutcome.same-outcome
 -- ---- nobody is stuck
 
 -- Every process of a sound table has a step.
--- Excludes: premises above that nothing meets. Proved in Progress.antt.
+-- Excludes: premises above that nothing meets. Proved in RoundLaws.antt: it has the step of a round.
 pub process-has-step : (t : Table) (p : ℕ) → sound t ≡ true → p < length t → (u : Table) × Step t p u
-process-has-step t p h = Progress.process-moves t p (sound-accepted t h)
+process-has-step t p h l = (_, move-step (process-moves-on t p (sound-accepted t h) l .1))
 
 -- So it has a word that is accepted.
 pub accepted-word-exists : (t : Table) (p : ℕ)
