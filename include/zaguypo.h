@@ -23,6 +23,8 @@
 #define ZAGUYPO_IMAGE_BYTES(n) (20 * (n))         /* and its bytes */
 #define ZAGUYPO_INPUT_BYTES 33088                 /* the most bytes of an input */
 #define ZAGUYPO_TEXT_BYTES 180260                 /* room for every printed text */
+#define ZAGUYPO_ROUND_LIMIT(n) (4 * (n) * (n) * ((n) + 3))     /* the most rounds of n processes; since version 2.1.0 */
+#define ZAGUYPO_SILENCE_BOUND(n) (2 * (n) * (n) + 3 * (n) - 3) /* the rounds within which one is at 30, if words made the table */
 
 #ifdef __cplusplus
 extern "C" {
@@ -122,21 +124,21 @@ struct zaguypo_figures {
    the difference is the number of processes at 20. Under either reading below[size] - critical is what waiting counts today. */
 struct zaguypo_figures zaguypo_census(const struct zaguypo_row *rows, size_t size);
 
-/* The answer of rounds, since version 2.1.0: the refusal or 0, the rounds done, and whether a process is at 30 in the
-   rows as left. Where the table is refused, the other two are 0. */
+/* The answer of rounds, since version 2.1.0: the refusal or 0, the rounds done, and whether a process is at 30 in the rows as
+   left. Where the table is refused, the other two are 0. */
 struct zaguypo_rounded {
     uint16_t refusal;  /* 0, 6 or 7 */
-    uint16_t rounds;   /* done; at most 4 * N * N * (N + 3), 19,456 for sixteen processes */
+    uint16_t rounds;   /* done; at most ZAGUYPO_ROUND_LIMIT(size), 19,456 for sixteen processes */
     uint16_t occupied; /* 1 where some process is at 30, else 0 */
 };
 
-/* Rounds, since version 2.1.0. A round gives each process in number order one word, and each word goes to the table
-   that the word before left: STAY at 10; at 22 with lis not empty LOOK at the lowest member of lis; GO otherwise.
-   Rounds are done in the lent rows until some process is at 30 after a whole one, or 4 * N * N * (N + 3) are done. With a
-   process at 30 beforehand, or with nobody at 20 to 24, none is done and no row changes; nor does one after 6 and 7.
-   From a table that words made from a fresh one, with nobody at 30 and somebody at 20 to 24, at most
-   2 * N * N + 3 * N - 3 are done and occupied is 1. Sound tables that no words lead to may use up the limit, with occupied
-   0 ("Rounds"). */
+/* Rounds, since version 2.1.0. A round gives each process in number order one word, and each word goes to the table that the word
+   before left: STAY at 10; at 22 with lis not empty LOOK at the lowest member of lis; GO otherwise. Rounds are done in the lent
+   rows until some process is at 30, which is asked before the first and after each whole one, or ZAGUYPO_ROUND_LIMIT(size), the
+   limit, are done: for sixteen processes 311,296 words. With nobody at 20 to 24 none is done. Where none is done, and after 6
+   and 7, no row changes. From a table that words made from a fresh one, with nobody at 30 and somebody at 20 to 24, at most
+   ZAGUYPO_SILENCE_BOUND(size) are done, and occupied is 1; for sixteen processes that is 557. Sound tables that no words lead to
+   may use up the limit, with occupied 0 ("Rounds"). */
 struct zaguypo_rounded zaguypo_rounds(struct zaguypo_row *rows, size_t size);
 
 /* ---- images: a table as 5N words ("Images") */

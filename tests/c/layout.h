@@ -69,6 +69,8 @@ HAS_AT(zaguypo_word, refusal, 0, 4);
 HAS_AT(zaguypo_word, word, 4, 4);
 
 static_assert(ZAGUYPO_MOST_PROCESSES == 16 && ZAGUYPO_RUN_LIMIT == 8192, "limits");
+static_assert(ZAGUYPO_ROUND_LIMIT(2) == 80 && ZAGUYPO_ROUND_LIMIT(16) == 19456, "limit of rounds");
+static_assert(ZAGUYPO_SILENCE_BOUND(2) == 11 && ZAGUYPO_SILENCE_BOUND(16) == 557, "bound on the silence");
 static_assert(ZAGUYPO_INPUT_BYTES == 33088, "bytes of an input");
 static_assert(ZAGUYPO_TEXT_BYTES == 180260, "bytes of a text");
 static_assert(ZAGUYPO_IMAGE_WORDS(2) == 10 && ZAGUYPO_IMAGE_WORDS(16) == 80, "words of an image");

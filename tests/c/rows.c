@@ -215,7 +215,7 @@ static int somebody(const struct zaguypo_row *rows, uint32_t n, unsigned first, 
 }
 
 /* nobody is at 30 and somebody at 20 to 24 */
-static int quiet(const struct zaguypo_row *rows, uint32_t n) {
+static int silent(const struct zaguypo_row *rows, uint32_t n) {
     return !somebody(rows, n, 30, 30) && somebody(rows, n, 20, 24);
 }
 
@@ -234,7 +234,7 @@ static void rounds_and_steps(const struct zaguypo_row *table, uint32_t n) {
     struct zaguypo_rounded by_steps = {0, 0, 0};
     int refused = 0;
     memcpy(after, table, n * sizeof *table);
-    for (; quiet(after, n) && by_steps.rounds < 4 * n * n * (n + 3); by_steps.rounds++)
+    for (; silent(after, n) && by_steps.rounds < ZAGUYPO_ROUND_LIMIT(n); by_steps.rounds++)
         for (uint32_t p = 0; p < n; p++) refused |= zaguypo_step(after, n, word_of_round(after, p)).refusal;
     by_steps.occupied = (uint16_t)somebody(after, n, 30, 30);
     struct lent rows = lend(table, n * sizeof *table);
@@ -260,11 +260,11 @@ static void rounds(uint32_t n) {
     for (int i = 0; i < 6; i++) {
         const uint32_t least = 2 * n + draw(20 * n), most = 1000 * n;
         idle_rows(table, n);
-        for (uint32_t words = 0; words < least || (words < most && !quiet(table, n)); words++)
+        for (uint32_t words = 0; words < least || (words < most && !silent(table, n)); words++)
             zaguypo_step(table, n, drawn_word(table, n));
         rounds_and_steps(table, n);
         const struct zaguypo_rounded r = zaguypo_rounds(table, n);
-        check("rounds, in time", r.occupied == 1 && r.rounds > 0 && r.rounds <= 2 * n * n + 3 * n - 3);
+        check("rounds, in time", r.occupied == 1 && r.rounds > 0 && r.rounds <= ZAGUYPO_SILENCE_BOUND(n));
     }
     for (int i = 0; i < 20 && n <= 5; i++) sound_rows(table, n), rounds_and_steps(table, n);
 }

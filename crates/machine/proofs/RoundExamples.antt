@@ -1,12 +1,12 @@
 -- Rounds, evaluated: the word of each location, the order within a round, what rounds answer, and a sound table that no
--- list of words makes, from which nobody ever enters. Assumes nothing.
+-- list of words makes, from which nobody comes to 30. Assumes nothing.
 use Prim.Native.Nat.{ℕ}
 use mathlib.Core.Path.{_≡_, refl}
 use mathlib.Core.Bool.{true}
 use mathlib.Core.List.{List, [], _∷_, map}
 use Rattle.counting.specs.Sets.{lowest, lowestFrom}
 use Rattle.machine.specs.Rows.{idle, withLocation, withAct, withBb, withLevel, withEst, withLis}
-use Rattle.machine.specs.Tables.{Table, sound, freshTable}
+use Rattle.machine.specs.Tables.{Table, locations, sound, freshTable}
 use Rattle.machine.specs.Steps.{afterWords}
 use Rattle.machine.specs.Census.{critical, upTo}
 use Rattle.machine.specs.Rounds.{roundWord, roundTo, round, pending, roundLimit, silenceBound, allCome}
@@ -43,15 +43,15 @@ pub word-at-each :
 unfolding completed
 word-at-each = (refl, refl)
 
--- process 0 at 20 shows act before process 1 looks at it, and process 2 looks after both: est keeps 0 in either
+-- process 0 looks at process 1 before it shows act, and discards it; process 2 looks after that, and keeps it
 pub in-number-order :
     map (λ r. r .est)
     (round
-    (withLocation 20 idle
-    ∷ withLocation 22 (withAct 1 (withLevel 2 (withEst 5 (withLis 1 idle))))
-    ∷ withLocation 22 (withAct 1 (withLevel 2 (withEst 3 (withLis 1 idle))))
+    (withLocation 22 (withAct 1 (withLevel 2 (withEst 6 (withLis 2 idle))))
+    ∷ withLocation 20 idle
+    ∷ withLocation 22 (withAct 1 (withLevel 2 (withEst 3 (withLis 2 idle))))
     ∷ []))
-    ≡ 6 ∷ 5 ∷ 3 ∷ []
+    ≡ 4 ∷ 5 ∷ 3 ∷ []
 unfolding completed
 in-number-order = refl
 
@@ -74,17 +74,31 @@ pub no-round :
 unfolding locationsOf completed
 no-round = (refl, refl, refl, refl, refl)
 
+-- two at 30 are told as one is
+pub two-at-30-occupy : roundsOf (withLocation 30 idle ∷ withLocation 30 idle ∷ []) .answer ≡ answers 0 0 1
+unfolding completed
+two-at-30-occupy = refl
+
+-- one of two processes at each location in turn, 10, 20, 21, 22, 23, 24, 30, 40, the other at 10: whether it is pending
+pub who-is-pending :
+    map (λ l. pending (withLocation l idle ∷ idle ∷ [])) locations ≡ 0 ∷ 1 ∷ 1 ∷ 1 ∷ 1 ∷ 1 ∷ 0 ∷ 0 ∷ []
+unfolding completed
+who-is-pending = refl
+
 -- who is at 20 counts, though the census does not yet count it as waiting
 pub alone-from-20 : roundsOf (withLocation 20 idle ∷ idle ∷ []) .answer ≡ answers 0 6 1
 unfolding completed
 alone-from-20 = refl
 
--- one row, and act 2
+-- one row, and act 2, with nobody at 30 and with somebody; the rows stay
 pub rounds-refused :
     (roundsOf (withLocation 20 idle ∷ []) .answer ≡ answers 6 0 0)
+    × (roundsOf (withLocation 30 idle ∷ []) .answer ≡ answers 6 0 0)
     × (roundsOf (withLocation 20 (withAct 2 idle) ∷ idle ∷ []) .answer ≡ answers 7 0 0)
+    × (roundsOf (withLocation 30 idle ∷ withAct 2 idle ∷ []) .answer ≡ answers 7 0 0)
+    × (roundsOf (withLocation 20 (withAct 2 idle) ∷ idle ∷ []) .table ≡ withLocation 20 (withAct 2 idle) ∷ idle ∷ [])
 unfolding completed
-rounds-refused = (refl, refl)
+rounds-refused = (refl, refl, refl, refl, refl)
 
 -- ---- the longest silence
 

@@ -21,8 +21,8 @@ use Rattle.machine.proofs.RoundLaws.{rounds-zero, rounds-suc}
 use Rattle.machine.proofs.RoundAnswers.{from-used, from-next, from-here, rounds-none, rounds-some}
 
 -- The word that a round gives is accepted, from every sound table and of every process.
--- Excludes: a round that gives GO at 10, or at 22 while lis is not empty; a LOOK at no member of lis; a round in which
--- a process is passed over.
+-- Excludes: a word of a round that is refused, so that its process stands still: GO at 10, or at 22 while lis is not
+-- empty; LOOK at no member of lis.
 -- Not empty: `fresh-exists` of exclusion; `rounds-of-two` in RoundExamples.antt.
 pub round-word-accepted : (t : Table) (p : ℕ) → sound t ≡ true → p < length t → refusalOf t (roundWord t p) ≡ 0
 round-word-accepted t p h l = laws.round-word-accepted t p (sound-accepted t h) l

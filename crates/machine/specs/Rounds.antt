@@ -12,7 +12,8 @@
 --   silenceBound n   ==  the rounds within which some process is at 30, if a list of words made a silent table from a
 --                        fresh one: a bound that is attained.
 --   allCome n        ==  COME of each of n processes in order; from a fresh table they lead to the longest silence.
---   roundsOf t       ==  rounds until some process is at 30, or the limit is used up.
+--   roundsOf t       ==  6 or 7; no round, where nobody is pending; else rounds until some process is at 30, or the
+--                        limit is used up.
 --   Awaited b t o    <=> what the outcome o of at most b rounds says of the table t.
 --
 -- Assumes nothing.

@@ -31,7 +31,7 @@ use Rattle.rounds.specs.Promises.{RoundsTo}
 -- at most r rounds were done, and somebody is at 30 after them
 record Ended (r : ℕ) (o : Rounded) : Type 0 where
   few : o .answer .rounds ≤ r
-  entered : 1 ≤ critical (o .table)
+  there : 1 ≤ critical (o .table)
 
 -- where somebody is at 30 after r rounds
 ended-by : (b r : ℕ) (t : Table) (o : Rounded)
@@ -39,7 +39,7 @@ ended-by : (b r : ℕ) (t : Table) (o : Rounded)
     → r ≤ b
     → 1 ≤ critical (rounds r t)
     → Ended r o
-ended-by b r t o w l h = record { few = few; entered = go (ℕ-discrete (critical (o .table)) 0) }
+ended-by b r t o w l h = record { few = few; there = go (ℕ-discrete (critical (o .table)) 0) }
   where
     few : o .answer .rounds ≤ r
     few = at-most (decLt r (o .answer .rounds))
@@ -70,16 +70,16 @@ module _ (t : Table) (ws : List ℕ) (h : fresh t ≡ true) (some : 1 ≤ pendin
 
   ends-within : critical (afterWords t ws) ≡ 0 → Ended (silenceBound (length t)) (roundsOf (afterWords t ws))
   ends-within none =
-      let (r, few, there) = silence-ends t ws h (none, some) in
-      let e = ended-by _ r _ _ awaited (omega (arith, few, bound-fits (length t))) there in
-      record { few = omega (arith, e .few, few); entered = e .entered }
+      let (r, few, arrived) = silence-ends t ws h (none, some) in
+      let e = ended-by _ r _ _ awaited (omega (arith, few, bound-fits (length t))) arrived in
+      record { few = omega (arith, e .few, few); there = e .there }
 
 -- ---- the theorems
 
 -- From rows that any list of words made of fresh ones, with nobody at 30 and somebody at 20 to 24, the call is not
 -- refused and answers yes; it does at most 2 n n + 3 n - 3 rounds, and somebody is at 30 in the rows that it leaves.
 -- Excludes: a call that gives up, or does more rounds than the bound, or answers yes for rows with nobody at 30.
--- Not empty: `longest-answer`.
+-- Not empty: `silence-there` of silence, with the answer and the table of `roundsOf`.
 pub rounds-end-silence : (t u : Table) (ws : List ℕ) (a : RoundsAnswer)
     → fresh t ≡ true
     → Silent (afterWords t ws)
@@ -89,9 +89,9 @@ rounds-end-silence t u ws a h (none, some) (answer, left) =
     let w = awaited t ws h some in
     let e = ends-within t ws h some none in (
       ap (λ (k : RoundsAnswer). k .refusal) answer ∙ w .not-refused,
-      ap (λ (k : RoundsAnswer). k .occupied) answer ∙ w .occupied-is ∙ ap bit (lt-ltb _ _ (e .entered)),
+      ap (λ (k : RoundsAnswer). k .occupied) answer ∙ w .occupied-is ∙ ap bit (lt-ltb _ _ (e .there)),
       subst (λ (k : RoundsAnswer). k .rounds ≤ silenceBound (length t)) (sym answer) (e .few),
-      subst (λ (v : Table). 1 ≤ critical v) (sym left) (e .entered),
+      subst (λ (v : Table). 1 ≤ critical v) (sym left) (e .there),
     )
 
 -- And from fresh rows in which each process has come, it does just so many.

@@ -1,6 +1,6 @@
 -- Theorems.antt and ExactTheorems.antt say what is proved; the others prove it, each from those above it.
 pub mod Steady
-pub mod Entering
+pub mod ArrivalLaws
 pub mod Kept
 pub mod Due
 pub mod DueLaws
@@ -23,7 +23,7 @@ pub mod Front
 pub mod Strides
 pub mod FrontMoves
 pub mod FrontRounds
-pub mod Arrivals
+pub mod AllCome
 pub mod FrontEnds
 pub mod LongestSilence
 pub mod Theorems

@@ -20,8 +20,8 @@ use Rattle.machine.proofs.SoundRows.{sound-rows, sound-accepted}
 use Rattle.machine.proofs.Soundness.{words-keep-sound, words-keep-length}
 use Rattle.machine.proofs.FreshRows.{fresh-sound}
 use Rattle.silence.proofs.PhaseLaws.{bound-is}
-use Rattle.silence.proofs.Arrivals.{all-come, front-begins}
-use Rattle.silence.proofs.FrontEnds.{First, first-later, front-enters}
+use Rattle.silence.proofs.AllCome.{all-come, front-begins}
+use Rattle.silence.proofs.FrontEnds.{First, first-later, front-arrives}
 
 module _ (t : Table) (h : fresh t ≡ true) where
   abbrev come : Table
@@ -53,4 +53,4 @@ module _ (t : Table) (h : fresh t ≡ true) where
       let e : length t ≡ suc k = omega (arith, same-size, sound-rows come come-sound .0) in
       let begins = front-begins k come come-sound (same-size ∙ e) (λ q l. all-come t h q (omega arith)) in
       subst (λ (x : ℕ). First x come) (bound-is k ∙ ap silenceBound (sym e))
-      (first-later _ come come-silent (front-enters (suc k) k (round come) begins))
+      (first-later _ come come-silent (front-arrives (suc k) k (round come) begins))

@@ -12,10 +12,10 @@ use Rattle.machine.specs.Tables.{Table}
 use Rattle.machine.specs.Census.{critical}
 use Rattle.machine.specs.Rounds.{round, pending, silenceBound}
 use Rattle.machine.proofs.SoundRows.{sound-rows}
-use Rattle.silence.proofs.Steady.{Steady, Quiet, Enters}
+use Rattle.silence.proofs.Steady.{Steady, Quiet, Arrives}
 use Rattle.silence.proofs.Due.{phase}
 use Rattle.silence.proofs.PhaseLaws.{bound-is}
-use Rattle.silence.proofs.Entering.{enters-now, enters-next}
+use Rattle.silence.proofs.ArrivalLaws.{arrives-now, arrives-next}
 use Rattle.silence.proofs.FirstRound.{first-round}
 use Rattle.silence.proofs.Bound.{quiet-ends}
 
@@ -23,17 +23,17 @@ pub within-bound : (t : Table)
     → Steady t
     → critical t ≡ 0
     → 1 ≤ pending t
-    → Enters t (silenceBound (length t))
+    → Arrives t (silenceBound (length t))
 within-bound t s none some = sized (length t) refl (first-round t s none some)
   where
     -- the first round leads to 30 or to a quiet table
-    rest : (k : ℕ) → (1 ≤ critical (round t)) ⊎ Quiet (suc k) (round t) → Enters t (suc (phase (suc k) * k + 1))
-    rest k (inl c) = enters-now t (phase (suc k) * k + 1) c
-    rest k (inr q) = enters-next t (phase (suc k) * k + 1) (quiet-ends k (round t) q)
+    rest : (k : ℕ) → (1 ≤ critical (round t)) ⊎ Quiet (suc k) (round t) → Arrives t (suc (phase (suc k) * k + 1))
+    rest k (inl c) = arrives-now t (phase (suc k) * k + 1) c
+    rest k (inr q) = arrives-next t (phase (suc k) * k + 1) (quiet-ends k (round t) q)
 
     sized : (n : ℕ)
         → length t ≡ n
         → (1 ≤ critical (round t)) ⊎ Quiet n (round t)
-        → Enters t (silenceBound n)
+        → Arrives t (silenceBound n)
     sized zero e h = absurd (omega (arith, sound-rows t (s .sound) .0))
-    sized (suc k) e h = subst (Enters t) (bound-is k) (rest k h)
+    sized (suc k) e h = subst (Arrives t) (bound-is k) (rest k h)

@@ -3,7 +3,7 @@
 --   SteadyRow q r   <=>  bb is set only where it may be; who rests shows no act; who competes is not in its own est.
 --   Steady t        <=>  t is sound, and each row has these.
 --   Quiet n t       <=>  t is steady, has n processes, each at 10 or at 21 to 24, and somebody competes.
---   Enters t b      <=>  some process is at 30 after at most b rounds.
+--   Arrives t b      <=>  some process is at 30 after at most b rounds.
 --
 -- Each clause speaks of every number q: past the end of the table the rows are blank, and all clauses hold there.
 -- Assumes nothing.
@@ -41,5 +41,5 @@ pub record Quiet (n : ℕ) (t : Table) : Type 0 where
   pub places : (q : ℕ) → q < n → oneOf (row t q .location) quietPlaces ≡ true
   pub somebody : (q : ℕ) × (competes (row t q) ≡ true)
 
-abbrev pub Enters : Table → ℕ → Type 0
-Enters t b = (r : ℕ) × (r ≤ b) × (1 ≤ critical (rounds r t))
+abbrev pub Arrives : Table → ℕ → Type 0
+Arrives t b = (r : ℕ) × (r ≤ b) × (1 ≤ critical (rounds r t))

@@ -14,8 +14,8 @@ use Rattle.machine.specs.Steps.{afterWords}
 use Rattle.machine.specs.Census.{critical}
 use Rattle.machine.specs.Rounds.{rounds, Silent, roundLimit, silenceBound}
 use Rattle.machine.proofs.Soundness.{words-keep-length}
-use Rattle.silence.proofs.Steady.{Enters}
-use Rattle.silence.proofs.Entering.{enters-mono}
+use Rattle.silence.proofs.Steady.{Arrives}
+use Rattle.silence.proofs.ArrivalLaws.{arrives-mono}
 use Rattle.silence.proofs.Kept.{steady-after}
 use Rattle.silence.proofs.PhaseLaws.{bound-fits}
 use Rattle.silence.proofs.Silence.{within-bound}
@@ -28,15 +28,14 @@ use Rattle.silence.proofs.Silence.{within-bound}
 pub silence-ends : (t : Table) (ws : List ℕ) → fresh t ≡ true → Silent (afterWords t ws)
     → (r : ℕ) × (r ≤ silenceBound (length t)) × (1 ≤ critical (rounds r (afterWords t ws)))
 silence-ends t ws h s =
-    subst (λ (n : ℕ). Enters (afterWords t ws) (silenceBound n)) (words-keep-length t ws)
+    subst (λ (n : ℕ). Arrives (afterWords t ws) (silenceBound n)) (words-keep-length t ws)
     (within-bound (afterWords t ws) (steady-after t ws h) (s .0) (s .1))
 
--- The same with the bound that was asked for, 4 n n (n + 3), which is `roundLimit`: the rounds after which the engine
--- gives up.
--- Excludes: as above; and an engine that gives up before some process is at 30, from a table that a list of words made.
+-- The same with the limit of the engine, 4 n n (n + 3), which is `roundLimit`: it is not used up without an arrival.
+-- Excludes: as above; and a limit that is below the longest silence.
 -- Not empty: as above.
 pub silence-ends-as-asked : (t : Table) (ws : List ℕ) → fresh t ≡ true → Silent (afterWords t ws)
     → (r : ℕ) × (r ≤ 4 * length t * length t * (length t + 3)) × (1 ≤ critical (rounds r (afterWords t ws)))
 silence-ends-as-asked t ws h s =
-    enters-mono (afterWords t ws) (silenceBound (length t)) (roundLimit (length t)) (bound-fits (length t))
+    arrives-mono (afterWords t ws) (silenceBound (length t)) (roundLimit (length t)) (bound-fits (length t))
     (silence-ends t ws h s)

@@ -9,7 +9,7 @@ use crate::Tally;
 /// A sound table of n processes.
 pub fn table_for_rounds(rng: &mut Random, n: usize) -> Vec<Row> {
     match rng.below(16) {
-        0..=5 => quiet(rng, n),
+        0..=5 => nobody_at_30(rng, n),
         6..=9 => made_by_a_list(rng, n),
         10 | 11 => after_every_come(rng, n),
         12 => placed(rng, n, &[10, 20, 40], Some(20)),
@@ -36,7 +36,7 @@ fn made_by_a_list(rng: &mut Random, n: usize) -> Vec<Row> {
 
 /// Any sound table with nobody at 30. A process at 10 whose act is 1 stays in est for good, so that the limit is used
 /// up: among many processes, where that is long, such are rare.
-fn quiet(rng: &mut Random, n: usize) -> Vec<Row> {
+fn nobody_at_30(rng: &mut Random, n: usize) -> Vec<Row> {
     let stuck = rng.chance(1, if n <= 4 { 2 } else { 4 * n });
     let mut rows = sound_table(rng, n);
     for row in &mut rows {

@@ -1,5 +1,5 @@
 //! Rounds from a table that a list of words made: with nobody at 30 and somebody at 20 to 24, some process is at 30
-//! after at most 2N * N + 3N - 3 of them.
+//! after at most 2 * N * N + 3 * N - 3 of them.
 
 use crate::{Rounded, Row};
 

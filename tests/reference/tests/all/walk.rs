@@ -301,7 +301,7 @@ fn a_fault_on_both_sides_breaks_the_bound() {
     }
 }
 
-/// The most rounds that a walk meets are as many as its processes can need.
+/// The most rounds that a walk must meet are as many as its processes can need; that it meets them is its own check.
 #[test]
 fn the_bound_is_met() {
     for (walk, n) in [(ZEROS_OF_2, 2), (EVERY_OF_2, 2), (ZEROS_OF_3, 3)] {
