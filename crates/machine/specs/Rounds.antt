@@ -74,7 +74,7 @@ occupied t = bit (ltb 0 (critical t))
 abbrev pub Silent : Table → Type 0
 Silent t = (critical t ≡ 0) × (1 ≤ pending t)
 
--- after so many rounds the engine gives up
+-- so many rounds are done, and no more
 abbrev pub roundLimit : ℕ → ℕ
 roundLimit n = 4 * n * n * (n + 3)
 
