@@ -1,4 +1,4 @@
--- Rounds: each process in turn is given the word with which it goes on (MANUAL, "Rounds").
+-- Rounds: each process in number order is given one word, again and again (MANUAL, "Rounds").
 --
 --   roundWord t p    ==  the word that a round gives process p: STAY at 10; at 22 LOOK at the lowest member of lis,
 --                        where it has one; GO otherwise.
@@ -49,7 +49,7 @@ unfolding afterWord roundWord
 roundTo t zero = t
 roundTo t (suc p) = let u = roundTo t p in afterWord u (roundWord u p)
 
--- one word for each process
+-- a round: one word for each process, a round-robin schedule without choices
 unfoldable pub round : Table → Table
 unfolding roundTo
 round t = roundTo t (length t)
@@ -71,6 +71,7 @@ pending t = countRows isPending t
 abbrev pub occupied : Table → ℕ
 occupied t = bit (ltb 0 (critical t))
 
+-- a silence: the critical section is free, and somebody is on the way to it
 abbrev pub Silent : Table → Type 0
 Silent t = (critical t ≡ 0) × (1 ≤ pending t)
 

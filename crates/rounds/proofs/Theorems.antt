@@ -78,7 +78,7 @@ module _ (t : Table) (ws : List ℕ) (h : fresh t ≡ true) (some : 1 ≤ pendin
 
 -- From rows that any list of words made of fresh ones, with nobody at 30 and somebody at 20 to 24, the call is not
 -- refused and answers yes; it does at most 2 n n + 3 n - 3 rounds, and somebody is at 30 in the rows that it leaves.
--- Excludes: a call that ends with nobody at 30, or does more rounds than the bound, or tells of an arrival that is none.
+-- Excludes: a call that ends with nobody at 30, does more rounds than the bound, or tells of an arrival that is none.
 -- Not empty: `silence-there` of silence, with the answer and the table of `roundsOf`.
 pub rounds-end-silence : (t u : Table) (ws : List ℕ) (a : RoundsAnswer)
     → fresh t ≡ true

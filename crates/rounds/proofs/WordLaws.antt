@@ -1,7 +1,7 @@
 -- What the word of a round does, kind by kind, and that it may be done.
 --
 --   stay-word, look-word, go-word     the word, by the tests of the code
---   given                             a word of kind k with argument a is allowed, its argument fits, the table is moved
+--   given                             a word of kind k with argument a is allowed, and moves the table
 --   rest-given, look-given, go-given  so for each kind
 --
 -- Assumes nothing.
@@ -15,7 +15,7 @@ use borrow.Author.Tests.{ne-eqb}
 use Rattle.counting.specs.Sets.{lowest}
 use Rattle.machine.specs.Tables.{Table, row, tableRefusal}
 use Rattle.machine.specs.Words.{STAY, GO, LOOK, kindOf, processOf, wordOf}
-use Rattle.machine.specs.Steps.{moved, allowed, argumentFits, refusalOf, afterWord}
+use Rattle.machine.specs.Steps.{moved, allowed, refusalOf, afterWord}
 use Rattle.machine.specs.Rounds.{roundWord}
 use Rattle.machine.proofs.Accepted.{accepted-moved, accepted-says}
 use Rattle.machine.proofs.WordLaws.{kind-wordOf, process-wordOf, argument-wordOf}
@@ -47,7 +47,6 @@ module _ (t : Table) (p : ℕ) where
 
   pub record Given (k a : ℕ) : Type 0 where
     pub may : allowed k (row t p) ≡ true
-    pub fits : argumentFits (length t) k (row t p) a ≡ true
     pub table-is : afterWord t (roundWord t p) ≡ moved t k p a
 
   module _ (z : tableRefusal t ≡ 0) (in-t : p < length t) where
@@ -64,10 +63,6 @@ module _ (t : Table) (p : ℕ) where
           may = sym (ap (λ (x : ℕ). allowed x (row t p)) i)
               ∙ sym (ap (λ (y : ℕ). allowed (kindOf (wordOf k p a)) (row t y)) j)
               ∙ said .allowed-there;
-          fits = sym (ap (λ (x : ℕ). argumentFits (length t) x (row t p) a) i)
-              ∙ sym (ap (λ (y : ℕ). argumentFits (length t) (kindOf (wordOf k p a)) (row t y) a) j)
-              ∙ sym (ap (argumentFits (length t) (kindOf (wordOf k p a)) (row t (processOf (wordOf k p a)))) m)
-              ∙ said .argument-fits;
           table-is = ap (afterWord t) e
               ∙ accepted-moved t (wordOf k p a) ok
               ∙ ap (moved t (kindOf (wordOf k p a)) (processOf (wordOf k p a))) m
