@@ -12,19 +12,19 @@
 
 /* The first number rises with a change that a host compiled before would not survive, the second with any other change of
    an answer or of the interface. CHANGELOG.md says what each version changed. */
-#define ZAGUYPO_VERSION "2.1.0"
-#define ZAGUYPO_VERSION_MAJOR 2
-#define ZAGUYPO_VERSION_MINOR 1
+#define ZAGUYPO_VERSION "3.0.0"
+#define ZAGUYPO_VERSION_MAJOR 3
+#define ZAGUYPO_VERSION_MINOR 0
 #define ZAGUYPO_VERSION_PATCH 0
 
 #define ZAGUYPO_MOST_PROCESSES 16
-#define ZAGUYPO_RUN_LIMIT 8192                    /* the most words of a run */
-#define ZAGUYPO_IMAGE_WORDS(n) (5 * (n))          /* the words of an image of n processes */
-#define ZAGUYPO_IMAGE_BYTES(n) (20 * (n))         /* and its bytes */
-#define ZAGUYPO_INPUT_BYTES 33088                 /* the most bytes of an input */
-#define ZAGUYPO_TEXT_BYTES 180260                 /* room for every printed text */
+#define ZAGUYPO_RUN_LIMIT 8192                              /* the most words of a run */
+#define ZAGUYPO_IMAGE_WORDS(n) (5 * (n) + (n) * (n))        /* the words of an image of n processes, as it is written */
+#define ZAGUYPO_IMAGE_BYTES(n) (4 * ZAGUYPO_IMAGE_WORDS(n)) /* and its bytes */
+#define ZAGUYPO_INPUT_BYTES 34112                           /* the most bytes of an input */
+#define ZAGUYPO_TEXT_BYTES 180260                           /* room for every printed text */
 #define ZAGUYPO_ROUND_LIMIT(n) (4 * (n) * (n) * ((n) + 3))     /* the most rounds of n processes; since version 2.1.0 */
-#define ZAGUYPO_SILENCE_BOUND(n) (2 * (n) * (n) + 3 * (n) - 3) /* the rounds within which one is at 30, if words made the table */
+#define ZAGUYPO_SILENCE_BOUND(n) (2 * (n) * (n) + 3 * (n) - 3) /* the longest silence, in rounds: see zaguypo_rounds */
 
 #ifdef __cplusplus
 extern "C" {
@@ -32,11 +32,11 @@ extern "C" {
 
 /* ---- refusals, in the order of checking; 0 is an accepted answer ("Refusals")
 
-     14  bytes in: no multiple of 4, or above 33,088
-     1   an image: no words, or the first is not 80000000 plus 2 to 16
-     2   an image: not 5N words, N being the number in the first word
-     3   a word of an image: kind, number or spare bits wrong
-     4   the same word: location code, level, set or turn out of range
+     14  bytes in: no multiple of 4, or above 34,112
+     1   an image: no words, or the first is neither 80000000 nor 81000000 plus 2 to 16
+     2   an image: not 5N words after 80000000 plus N, not 5N + N x N after 81000000 plus N
+     3   a word of an image: kind, number (process, k, q or r) or spare bits wrong
+     4   the same word: location code, level, set or turn out of range, or a count of a process over itself that is not 0
      5   the same word: level against location
      6   a table: not 2 to 16 rows
      7   a table: a row is unsound
@@ -45,14 +45,16 @@ extern "C" {
      8   an event word: kind not 1 to 6, or a spare bit set
      9   the same word: no such process
      10  the same word: kind not allowed where the process is
-     11  the same word: argument not as listed */
+     11  the same word: argument not as listed
+     15  the same word, since version 3.0.0: it would carry a count of passes past 65,535, which only GO at 20 can */
 
 /* ---- inputs: bytes that are words of 4 bytes, lowest byte first, an image and then event words ("Bytes and inputs", "The call
    on bytes", "The printed text") */
 
 /* The run that an input holds. Answers 256 times the number of words taken, plus the refusal or 0. After 14, 1 to 5, 12 and
-   13 (image_len is below 20N) the count is 0 and the lent bytes are as given. Otherwise, also where a word stopped the run with
-   8 to 11, the image of the table after the words taken fills the first 20N lent bytes, and no others change. */
+   13 (image_len is below ZAGUYPO_IMAGE_BYTES(N)) the count is 0 and the lent bytes are as given. Otherwise, also where a word
+   stopped the run with 8 to 11 or 15, the image of the table after the words taken fills the first ZAGUYPO_IMAGE_BYTES(N) lent
+   bytes, and no others change. That image is headed 81000000 plus N, whichever header the input has. */
 uint64_t zaguypo_run(const uint8_t *input, size_t input_len, uint8_t *image, size_t image_len);
 
 /* The text that the printing program, zaguypo-replay, prints for an input. Answers the length of the text, which is at most
@@ -60,11 +62,15 @@ uint64_t zaguypo_run(const uint8_t *input, size_t input_len, uint8_t *image, siz
    others change; where text_len is less, every lent byte is as given. */
 size_t zaguypo_print(const uint8_t *input, size_t input_len, char *text, size_t text_len);
 
-/* ---- tables of rows ("Tables", "Steps", "Ahead sets", "Runs", "Census", "Rounds") */
+/* ---- tables of rows ("Tables", "Steps", "Ahead sets", "Passes", "Runs", "Census", "Rounds") */
 
-/* One process; process q is row q. The sets have bit q for process q. Row k holds the cell turn[k]; row 0 holds 0 there. */
+/* One process; process q is row q. The sets have bit q for process q. Row k holds the cell turn[k]; row 0 holds 0 there.
+   passes[r] of row q, since version 3.0.0, counts how often q entered while r competed, in the competing period that r is in: GO
+   at 20 of q adds one for each r at 21 to 30, GO at 30 of r clears passes[r] of every row. passes[q] of row q is 0, and so is
+   passes[r] for every r that is no process of the table; otherwise the row is unsound. */
 struct zaguypo_row {
     uint16_t location, act, bb, level, est, lis, ahead, turn;
+    uint16_t passes[16];
 };
 
 /* The lent rows become the fresh table of that many processes, everything 0 but the locations, which are 10. Answers 0; or 6
@@ -87,7 +93,7 @@ struct zaguypo_stepped {
     struct zaguypo_cell cell;
 };
 
-/* One step by one word. The refusal is 0 and the rows are moved; or it is 6, 7 or 8 to 11, no row changes, and the cell is
+/* One step by one word. The refusal is 0 and the rows are moved; or it is 6, 7, 8 to 11 or 15, no row changes, and the cell is
    none. */
 struct zaguypo_stepped zaguypo_step(struct zaguypo_row *rows, size_t size, uint32_t word);
 
@@ -125,23 +131,25 @@ struct zaguypo_figures {
 struct zaguypo_figures zaguypo_census(const struct zaguypo_row *rows, size_t size);
 
 /* The answer of rounds, since version 2.1.0: the refusal or 0, the rounds done, and whether a process is at 30 in the rows as
-   left. Where the table is refused, the other two are 0. */
+   left. Where the table is refused with 6 or 7, the other two are 0. */
 struct zaguypo_rounded {
-    uint16_t refusal;  /* 0, 6 or 7 */
-    uint16_t rounds;   /* done; at most ZAGUYPO_ROUND_LIMIT(size), 19,456 for sixteen processes */
+    uint16_t refusal;  /* 0, 6, 7 or, since version 3.0.0, 15 */
+    uint16_t rounds;   /* done whole; at most ZAGUYPO_ROUND_LIMIT(size), 19,456 for sixteen processes */
     uint16_t occupied; /* 1 where some process is at 30, else 0 */
 };
 
 /* Rounds, since version 2.1.0. A round gives each process in number order one word, and each word goes to the table that the word
    before left: STAY at 10; at 22 with lis not empty LOOK at the lowest member of lis; GO otherwise. Rounds are done in the lent
    rows until some process is at 30, which is asked before the first and after each whole one, or ZAGUYPO_ROUND_LIMIT(size), the
-   limit, are done: for sixteen processes 311,296 words. With nobody at 20 to 24 none is done. Where none is done, and after 6
-   and 7, no row changes. From a table that words made from a fresh one, with nobody at 30 and somebody at 20 to 24, at most
-   ZAGUYPO_SILENCE_BOUND(size) are done, and occupied is 1; for sixteen processes that is 557. Sound tables that no words lead to
-   may use up the limit, with occupied 0 ("Rounds"). */
+   limit, are done: for sixteen processes 311,296 words. With nobody at 20 to 24 none is begun. Where none is begun, and after 6
+   and 7, no row changes. Before a word that the step refuses with 15 the rounds end with 15: the round that it breaks is not
+   counted, and the words before it in that round are kept; only the first can be broken, so rounds is 0 then. From a table that words made from a fresh one, with nobody at 30 and
+   somebody at 20 to 24, and where 15 is not met, at most ZAGUYPO_SILENCE_BOUND(size) are done, and occupied is 1; for sixteen
+   processes that is 557. Sound tables that no words lead to may use up the limit, with occupied 0 ("Rounds"). */
 struct zaguypo_rounded zaguypo_rounds(struct zaguypo_row *rows, size_t size);
 
-/* ---- images: a table as 5N words ("Images") */
+/* ---- images: a table as 5N + N x N words, headed 81000000 plus N, which they are since version 3.0.0; or bare as 5N words,
+   headed 80000000 plus N, which versions before wrote: these are read too, with counts of passes that are 0 ("Images") */
 
 /* The answer to an image: the refusal or 0, the place of the word that it is about, and the number of processes. Place and size
    are 0 where they say nothing: the place of an accepted image and of 13, the size of a refused one. */
@@ -149,12 +157,12 @@ struct zaguypo_reading {
     uint16_t refusal, place, size;
 };
 
-/* Reads an image. The first rows, as many as it has processes, become its table, and no others change; or the refusal is 1 to 5,
-   or 13 where fewer rows are lent, and no row changes. 16 lent rows are room for every image. */
+/* Reads an image of either form. The first rows, as many as it has processes, become its table, and no others change; or the
+   refusal is 1 to 5, or 13 where fewer rows are lent, and no row changes. 16 lent rows are room for every image. */
 struct zaguypo_reading zaguypo_read(const uint32_t *words, size_t count, struct zaguypo_row *rows, size_t size);
 
-/* Writes the image of a table into the first 5N lent words, and no others. Answers 0; or 6, 7, or 13 where fewer words are
-   lent, and no word changes. */
+/* Writes the image of a table, headed 81000000 plus N, into the first ZAGUYPO_IMAGE_WORDS(N) lent words, and no others. Answers
+   0; or 6, 7, or 13 where fewer words are lent, and no word changes. */
 uint16_t zaguypo_write(const struct zaguypo_row *rows, size_t size, uint32_t *words, size_t count);
 
 /* ---- event words, without a table ("Event words"). The kinds are 1 STAY, 2 COME, 3 FLICKER, 4 GO, 5 LOOK and, since version

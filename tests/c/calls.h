@@ -100,10 +100,12 @@ static void give(struct given *g, uint32_t n, size_t count) {
     g->size = n, g->count = count, g->text_len = ZAGUYPO_TEXT_BYTES;
     for (uint32_t q = 0; q < n; q++) g->rows[q].location = 10;
     for (size_t i = 0, p = 0; i < count; p = (p + 1) % n) i += give_circuit(g->words + i, count - i, (uint32_t)p, n);
-    g->image[g->image_count++] = 0x80000000 + n;
+    g->image[g->image_count++] = 0x81000000 + n;
     for (uint32_t q = 0; q < n; q++)
         for (uint32_t kind = 9; kind <= 12; kind++) g->image[g->image_count++] = kind << 28 | q << 16;
     for (uint32_t k = 1; k < n; k++) g->image[g->image_count++] = 0xD0000000 | k << 16;
+    for (uint32_t q = 0; q < n; q++)
+        for (uint32_t r = 0; r < n; r++) g->image[g->image_count++] = 0xE0000000 | q << 24 | r << 16;
     for (size_t i = 0; i < g->image_count + count; i++)
         for (int b = 0; b < 4; b++)
             g->input[g->input_len++] = (uint8_t)((i < g->image_count ? g->image[i] : g->words[i - g->image_count]) >> 8 * b);

@@ -47,13 +47,26 @@ void step_rows(const Words &words) {
     check("no more rounds", again.refusal == 0 && again.rounds == 0 && again.occupied == 1 && rows[1].location == 30);
 }
 
+// passes of processes 2 and 0 over those that compete, and 15
+void count_passes(const Words &words) {
+    Table rows{};
+    zaguypo_fresh(rows.data(), rows.size());
+    for (uint32_t word : {words.come, words.go, words.come + 0x10000, words.go + 0x10000})
+        check("accepted", zaguypo_step(rows.data(), rows.size(), word).refusal == 0);
+    check("passes", rows[2].passes[1] == 1 && rows[2].passes[0] == 0 && rows[1].passes[2] == 0);
+    rows[0].location = 20, rows[0].passes[2] = 65535;
+    const zaguypo_stepped stepped = zaguypo_step(rows.data(), rows.size(), words.go - 0x10000);
+    check("15", stepped.refusal == 15 && stepped.cell.access == 0);
+    check("15, rows", rows[0].location == 20 && rows[0].passes[1] == 0 && rows[0].passes[2] == 65535);
+}
+
 // write, read
 Image images() {
     Table rows{}, again{};
     Image image{};
     zaguypo_fresh(rows.data(), rows.size());
     check("write", zaguypo_write(rows.data(), rows.size(), image.data(), image.size()) == 0);
-    check("image", image[0] == 0x80000003 && image[5] == 0x90010000 && image[14] == 0xD0020000);
+    check("image", image[0] == 0x81000003 && image[5] == 0x90010000 && image[14] == 0xD0020000 && image[23] == 0xE2020000);
     const zaguypo_reading reading = zaguypo_read(image.data(), image.size(), again.data(), again.size());
     check("read", reading.refusal == 0 && reading.place == 0 && reading.size == 3 && again[2].location == 10);
     return image;
@@ -79,6 +92,7 @@ void run_bytes(const Image &image, const Words &words) {
 int main() {
     const Words words = put_together();
     step_rows(words);
+    count_passes(words);
     run_bytes(images(), words);
     return done("every.cc");
 }

@@ -6,8 +6,8 @@ int main(void) {
     uint32_t image[ZAGUYPO_IMAGE_WORDS(ZAGUYPO_MOST_PROCESSES)];
     size_t size = last_table(rows);
     struct zaguypo_rounded answer = zaguypo_rounds(rows, size);
-    if (answer.refusal || zaguypo_write(rows, size, image, ZAGUYPO_IMAGE_WORDS(size))) return 1;
-    printf("rounds %u occupied %u", answer.rounds, answer.occupied);
+    if (zaguypo_write(rows, size, image, ZAGUYPO_IMAGE_WORDS(size))) return 1;
+    printf("refusal %u rounds %u occupied %u", answer.refusal, answer.rounds, answer.occupied);
     for (size_t i = 0; i < ZAGUYPO_IMAGE_WORDS(size); i++) printf(" %08X", (unsigned)image[i]);
     printf("\n");
     return 0;

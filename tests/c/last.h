@@ -11,7 +11,8 @@ static size_t last_table(struct zaguypo_row *rows) {
     size_t length = fread(input, 1, sizeof input, stdin);
     for (size_t i = 0; i < length; i++) words[i / 4] |= (uint32_t)input[i] << 8 * (i % 4);
 
-    size_t first = ZAGUYPO_IMAGE_WORDS((size_t)input[0]), size = zaguypo_read(words, first, rows, 16).size;
+    size_t number = input[0], first = input[3] == 0x80 ? 5 * number : ZAGUYPO_IMAGE_WORDS(number);
+    size_t size = first <= length / 4 ? zaguypo_read(words, first, rows, 16).size : 0;
     if (size == 0 || zaguypo_run_rows(rows, size, words + first, length / 4 - first, &tally).refusal) return 0;
     return size;
 }

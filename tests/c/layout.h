@@ -11,7 +11,7 @@
 #define HAS_AT(type, field, at, bytes) \
     static_assert(offsetof(struct type, field) == (at) && sizeof(((struct type *)0)->field) == (bytes), #type "." #field)
 
-HAS_SIZE(zaguypo_row, 16);
+HAS_SIZE(zaguypo_row, 48);
 HAS_AT(zaguypo_row, location, 0, 2);
 HAS_AT(zaguypo_row, act, 2, 2);
 HAS_AT(zaguypo_row, bb, 4, 2);
@@ -20,6 +20,8 @@ HAS_AT(zaguypo_row, est, 8, 2);
 HAS_AT(zaguypo_row, lis, 10, 2);
 HAS_AT(zaguypo_row, ahead, 12, 2);
 HAS_AT(zaguypo_row, turn, 14, 2);
+HAS_AT(zaguypo_row, passes, 16, 32);
+HAS_AT(zaguypo_row, passes[15], 46, 2);
 
 HAS_SIZE(zaguypo_cell, 6);
 HAS_AT(zaguypo_cell, access, 0, 2);
@@ -71,10 +73,10 @@ HAS_AT(zaguypo_word, word, 4, 4);
 static_assert(ZAGUYPO_MOST_PROCESSES == 16 && ZAGUYPO_RUN_LIMIT == 8192, "limits");
 static_assert(ZAGUYPO_ROUND_LIMIT(2) == 80 && ZAGUYPO_ROUND_LIMIT(16) == 19456, "limit of rounds");
 static_assert(ZAGUYPO_SILENCE_BOUND(2) == 11 && ZAGUYPO_SILENCE_BOUND(16) == 557, "bound on the silence");
-static_assert(ZAGUYPO_INPUT_BYTES == 33088, "bytes of an input");
+static_assert(ZAGUYPO_INPUT_BYTES == 34112, "bytes of an input");
 static_assert(ZAGUYPO_TEXT_BYTES == 180260, "bytes of a text");
-static_assert(ZAGUYPO_IMAGE_WORDS(2) == 10 && ZAGUYPO_IMAGE_WORDS(16) == 80, "words of an image");
-static_assert(ZAGUYPO_IMAGE_BYTES(2) == 40 && ZAGUYPO_IMAGE_BYTES(16) == 320, "bytes of an image");
+static_assert(ZAGUYPO_IMAGE_WORDS(2) == 14 && ZAGUYPO_IMAGE_WORDS(16) == 336, "words of an image");
+static_assert(ZAGUYPO_IMAGE_BYTES(2) == 56 && ZAGUYPO_IMAGE_BYTES(16) == 1344, "bytes of an image");
 
 #undef HAS_SIZE
 #undef HAS_AT

@@ -96,6 +96,13 @@ static void give_location(struct given *g, uint16_t location) {
     g->word = 0x400F0000;
 }
 
+/* 16 processes, the last at 20, which has passed the others as often as can be counted, and GO of it */
+static void give_full(struct given *g) {
+    give_location(g, 21);
+    g->rows[15].location = 20;
+    for (int r = 0; r < 15; r++) g->rows[15].passes[r] = 65535;
+}
+
 /* 16 processes that use up the limit of rounds: all but the first rest with act 1, and the first waits for them */
 static void give_rounds(struct given *g) {
     give(g, 16, 0);
@@ -104,10 +111,10 @@ static void give_rounds(struct given *g) {
 }
 
 /* the longest run, with room for its text and without, and short ones, a step at each location, the most rounds, and
-   bytes and tables that are refused */
+   bytes, tables and a step that are refused */
 int main(void) {
     static const uint16_t locations[] = {10, 20, 21, 22, 23, 24, 30, 40};
-    static struct given given[15];
+    static struct given given[16];
     give(&given[0], 16, ZAGUYPO_RUN_LIMIT);
     give(&given[13], 16, ZAGUYPO_RUN_LIMIT);
     given[13].text_len = 100;
@@ -117,6 +124,7 @@ int main(void) {
     given[4].input_len = 3;
     for (int i = 0; i < 8; i++) give_location(&given[5 + i], locations[i]);
     give_rounds(&given[14]);
-    for (int c = 0; c < CALLS; c++) measure(calls[c].name, calls[c].call, given, 15);
+    give_full(&given[15]);
+    for (int c = 0; c < CALLS; c++) measure(calls[c].name, calls[c].call, given, 16);
     return done("stack");
 }

@@ -36,11 +36,13 @@ static void give_any(struct given *g, uint32_t seed, int longest) {
     g->word = g->kind << 28 | q << 16 | draw(&seed, 2);
     if (!longest) g->text_len = draw(&seed, 6000);
     if (draw(&seed, 2)) g->input[draw(&seed, (uint32_t)g->input_len)] ^= 1;
-    if (draw(&seed, 2)) g->image[draw(&seed, 5 * n)] ^= 1u << draw(&seed, 32);
+    if (draw(&seed, 2)) g->image[draw(&seed, (uint32_t)g->image_count)] ^= 1u << draw(&seed, 32);
     for (uint32_t r = 0, all = draw(&seed, 2); all && r < n; r++) g->rows[r].location = 20;
     if (draw(&seed, 2)) g->rows[q].location = (uint16_t)(20 + draw(&seed, 6));
     g->rows[q].level = (uint16_t)draw(&seed, n);
     g->rows[q].ahead = (uint16_t)draw(&seed, 1u << n);
+    for (uint32_t r = 0; r < n; r++)
+        if (r != q || draw(&seed, 4) == 0) g->rows[q].passes[r] = draw(&seed, 4) ? (uint16_t)draw(&seed, 65536) : 65535;
 }
 
 /* the bytes of the answers that a function can touch: of them all, the text only where it prints */

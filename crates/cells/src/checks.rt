@@ -1,4 +1,5 @@
 // Whether a table in place is sound.
+use crate::access::pass_at;
 use crate::access::row_at;
 ghost use mathlib.Core.Path.{_≡_};
 ghost use Rattle.machine.specs.Tables.{tableRefusal};
@@ -7,7 +8,7 @@ ghost use Rattle.cells.specs.View.{rowsOf};
 // 0 for a sound table, else the number of its refusal: 6 or 7. A row is judged without a branch, and
 // the first that is not sound ends the loop: without that return the compiler turns the loop into
 // vector code that gathers single cells, and is slower.
-pub fn check(cells: &[[u16; 8]]) -> u16
+pub fn check(cells: &[[u16; 24]]) -> u16
     ensures { λ r. ⌜ r ≡ tableRefusal (rowsOf (now (cells .entry))) ⌝ }
 {
     let n = cells.len();
@@ -20,7 +21,8 @@ pub fn check(cells: &[[u16; 8]]) -> u16
     let full = rows::sound::full_set(n as u16);
     let mut q = 0;
     while q < n {
-        if !rows::sound::sound_row(n as u16, full, q as u16, row_at(cells, q)) {
+        let own = pass_at(cells, q, q as u16);
+        if !rows::sound::sound_row(n as u16, full, q as u16, own, row_at(cells, q)) {
             return machine::UNSOUND_ROW;
         }
         q += 1;

@@ -44,7 +44,7 @@ pub fn fresh(n: u32) -> NewTable
 }
 
 // Every process rests, with every variable 0.
-pub fn make_fresh(cells: &mut [[u16; 8]])
+pub fn make_fresh(cells: &mut [[u16; 24]])
     ensures { λ _. ⌜ Becomes (now (cells .entry)) (freshTable (length (now (cells .entry))))
         (now (cells .exit)) ⌝ }
 {

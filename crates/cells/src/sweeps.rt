@@ -1,16 +1,17 @@
 // Sweeps over every row of a table in place.
+use crate::access::clear_pass;
 use crate::access::put_row;
 use crate::access::row_at;
 ghost use mathlib.Core.Path.{_≡_};
 ghost use mathlib.Core.List.{map};
 ghost use Prim.Native.Nat.{_<_, _≤_};
-ghost use lib.ListN.{length};
-ghost use Rattle.machine.specs.Tables.{competitors};
+ghost use lib.ListN.{length, set};
+ghost use Rattle.machine.specs.Tables.{row, competitors};
 ghost use Rattle.machine.specs.Steps.{forgets};
 ghost use Rattle.cells.specs.View.{rowsOf, Becomes};
 
 // The set of the processes that compete.
-pub fn competitors(cells: &[[u16; 8]]) -> u16
+pub fn competitors(cells: &[[u16; 24]]) -> u16
     requires { ⌜ length (now cells) ≤ 16 ⌝ }
     ensures { λ s. ⌜ s ≡ competitors (rowsOf (now (cells .entry))) ⌝ }
 {
@@ -26,8 +27,20 @@ pub fn competitors(cells: &[[u16; 8]]) -> u16
     s
 }
 
-// Process p leaves every ahead set.
-pub fn forget(cells: &mut [[u16; 8]], p: u16)
+// Process p leaves the ahead set of process q, which has no passes over it any more.
+fn forget_in(cells: &mut [[u16; 24]], q: usize, p: u16)
+    requires { ⌜ (q < length (now cells)) × (p < 16) ⌝ }
+    ensures { λ _. ⌜ Becomes (now (cells .entry))
+        (set (rowsOf (now (cells .entry))) q (forgets p (row (rowsOf (now (cells .entry))) q)))
+        (now (cells .exit)) ⌝ }
+{
+    let r = rows::moves::outrun(p, row_at(cells, q));
+    put_row(cells, q, r);
+    clear_pass(cells, q, p);
+}
+
+// Process p leaves every ahead set, and the passes over it are forgotten.
+pub fn forget(cells: &mut [[u16; 24]], p: u16)
     requires { ⌜ p < 16 ⌝ }
     ensures { λ _. ⌜ Becomes (now (cells .entry)) (map (forgets p) (rowsOf (now (cells .entry))))
         (now (cells .exit)) ⌝ }
@@ -35,8 +48,7 @@ pub fn forget(cells: &mut [[u16; 8]], p: u16)
     let n = cells.len();
     let mut q = 0;
     while q < n {
-        let r = rows::moves::forgets(p, row_at(cells, q));
-        put_row(cells, q, r);
+        forget_in(cells, q, p);
         q += 1;
     }
 }

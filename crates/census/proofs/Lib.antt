@@ -1,5 +1,4 @@
 -- Laws of the census.
-pub mod ArrayLaws
 pub mod TestLaws
 pub mod ThresholdLaws
 pub mod SeriesLaws

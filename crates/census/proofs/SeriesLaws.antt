@@ -14,12 +14,13 @@ use lib.Dec.{leb}
 use lib.ListN.{length, getD, replicate}
 use Rattle.counting.specs.Sums.{bit, sum, count}
 use Rattle.counting.proofs.CountLaws.{count-next, count-le, count-cong, count-none}
+use Rattle.counting.specs.Ranges.{upTo}
 use Rattle.machine.specs.Tables.{Table, row, tableRefusal}
-use Rattle.machine.specs.Census.{countRows, isBelow, isHeld, below, held, upTo, figures}
+use Rattle.machine.specs.Census.{countRows, isBelow, isHeld, below, held, figures}
 use Rattle.machine.specs.declared.Row.{Row}
 use Rattle.machine.proofs.SoundRows.{sound-few, sound-row}
 use Rattle.census.specs.Series.{belowFrom, heldFrom, Small, moreAt, oneMore, figureAt, figuresIn}
-use Rattle.census.proofs.ArrayLaws.{upTo-cong, upTo-at}
+use Rattle.counting.proofs.RangeLaws.{upTo-cong, upTo-at}
 use Rattle.census.proofs.ThresholdLaws.{below-none, below-reached, below-from-le}
 use Rattle.census.proofs.ThresholdLaws.{held-none, held-reached, held-from-le}
 

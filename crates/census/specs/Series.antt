@@ -18,8 +18,8 @@ use lib.Dec.{eqb, leb, ltb}
 use lib.ListN.{getD}
 use Rattle.counting.specs.Sums.{bit}
 use Rattle.counting.specs.Sets.{size}
+use Rattle.counting.specs.Ranges.{upTo}
 use Rattle.machine.specs.Tables.{competes}
-use Rattle.machine.specs.Census.{upTo}
 use Rattle.machine.specs.declared.Row.{Row}
 
 abbrev pub isAt : ℕ → ℕ → Row → Bool

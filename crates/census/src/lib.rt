@@ -18,7 +18,7 @@ ghost use Rattle.census.specs.Series.{Near, Small, oneMore, figuresIn};
 // ---- processes at some locations
 
 // How many processes are at the locations from `low` to `high`.
-pub fn count_at(cells: &[[u16; 8]], low: u16, high: u16) -> u16
+pub fn count_at(cells: &[[u16; 24]], low: u16, high: u16) -> u16
     requires { ⌜ length (now cells) ≤ 16 ⌝ }
     ensures { λ s. ⌜ s ≡ countRows (isAt low high) (rowsOf (now (cells .entry))) ⌝ }
 {
@@ -36,7 +36,7 @@ pub fn count_at(cells: &[[u16; 8]], low: u16, high: u16) -> u16
 }
 
 // How many processes are in the critical section, at 30.
-pub fn critical(cells: &[[u16; 8]]) -> u16
+pub fn critical(cells: &[[u16; 24]]) -> u16
     requires { ⌜ length (now cells) ≤ 16 ⌝ }
     ensures { λ s. ⌜ s ≡ critical (rowsOf (now (cells .entry))) ⌝ }
 {
@@ -44,7 +44,7 @@ pub fn critical(cells: &[[u16; 8]]) -> u16
 }
 
 // How many processes wait, at 21 to 24.
-fn waiting(cells: &[[u16; 8]]) -> u16
+fn waiting(cells: &[[u16; 24]]) -> u16
     requires { ⌜ length (now cells) ≤ 16 ⌝ }
     ensures { λ s. ⌜ s ≡ waiting (rowsOf (now (cells .entry))) ⌝ }
 {
@@ -122,7 +122,7 @@ fn figures_in(n: u16, a: [u16; 16]) -> [u16; 17]
 // ---- the census
 
 // The census of a sound table.
-fn counted(cells: &[[u16; 8]]) -> Census
+fn counted(cells: &[[u16; 24]]) -> Census
     requires { ⌜ tableRefusal (rowsOf (now cells)) ≡ 0 ⌝ }
     ensures { λ r. ⌜ r ≡ censusOf (rowsOf (now (cells .entry))) ⌝ }
 {
@@ -149,7 +149,7 @@ fn counted(cells: &[[u16; 8]]) -> Census
 
 // The census of a table of any size and content: its figures, or the number of the refusal, 6 or 7,
 // and no figures.
-pub fn census(cells: &[[u16; 8]]) -> Census
+pub fn census(cells: &[[u16; 24]]) -> Census
     ensures { λ r. ⌜ r ≡ censusOf (rowsOf (now (cells .entry))) ⌝ }
 {
     let refusal = check(cells);
@@ -167,7 +167,7 @@ pub fn census(cells: &[[u16; 8]]) -> Census
 
 // The census for C (include/zaguypo.h). Its waiting figure counts 21 to 24; up to version 1.1.0 it counted 20 to 24.
 #[no_mangle]
-pub extern "C" fn zaguypo_census(rows: &[[u16; 8]]) -> Census
+pub extern "C" fn zaguypo_census(rows: &[[u16; 24]]) -> Census
     ensures { λ r. ⌜ r ≡ censusOf (rowsOf (now (rows .entry))) ⌝ }
 {
     census(rows)

@@ -1,4 +1,4 @@
--- Laws of tests, sums, counts and sets.
+-- Laws of tests, sums, counts, sets, lists by their places and lists put into others.
 pub mod TestLaws
 pub mod SumLaws
 pub mod CountLaws
@@ -8,3 +8,4 @@ pub mod SizeLaws
 pub mod BitLaws
 pub mod LowestLaws
 pub mod PlacingLaws
+pub mod RangeLaws

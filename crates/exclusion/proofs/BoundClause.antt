@@ -17,11 +17,12 @@ use Rattle.counting.proofs.SizeLaws.{size-setOf, size-mono, size-le-without}
 use Rattle.machine.specs.Rows.{withLocation}
 use Rattle.machine.specs.Tables.{Table, row, competes}
 use Rattle.machine.specs.Census.{countRows}
+use Rattle.machine.specs.System as system
 use Rattle.machine.specs.System.{Cp}
 use Rattle.machine.specs.declared.Row.{Row}
 use Rattle.machine.proofs.SoundRows.{sound-row, sound-few}
 use Rattle.machine.proofs.Assignments.{Becomes, other-rows-keep, TurnsKept, TurnsKeptBut, competes-at}
-use Rattle.machine.proofs.StepRows.{enteredRow, loweredRow, pushedRow, forgotten}
+use Rattle.machine.proofs.StepRows.{enteredRow, loweredRow, pushedRow}
 use Rattle.exclusion.proofs.Reaching.{Held, Reaches, Stops, reaches-competes, reaches-held}
 use Rattle.exclusion.proofs.Bounded.{Bounded, Stopper, countRows-mono, bounded-few, bounded-stop, bounded-leave}
 use Rattle.exclusion.proofs.Bounded.{stopper-kept, stopper-own, bounded-row}
@@ -197,17 +198,17 @@ module _ (t u : Table) (p : ℕ) (l : p < length t) (i : Invariant t) (k : ℕ) 
   -- ---- p leaves
 
   exited-bounded : row t p .location ≡ 30
-      → Becomes t p (forgotten p) (withLocation 40 (forgotten p (row t p))) u
+      → Becomes t p (system.exited p) (withLocation 40 (system.exited p (row t p))) u
       → Bounded u k
   exited-bounded e b =
       bounded-leave t u k (b .same-size) p
       (other-rows-keep (λ q r. Reaches k r → (q ≡ p → ⊥) × Held (k + 1) (row t q)) b
-      (λ m. absurd (false≢true (reaches-competes k (withLocation 40 (forgotten p (row t p))) m)))
+      (λ m. absurd (false≢true (reaches-competes k (withLocation 40 (system.exited p (row t p))) m)))
       (λ q ne m. (ne, before (row t q) m)))
       (competes-at (row t p) 30 e, inl (omega (arith, sound-row t (i .sound) p l .level-none e)))
       (i .bounded (k + 1))
     where
-      before : (r : Row) → Reaches k (forgotten p r) → Held (k + 1) r
+      before : (r : Row) → Reaches k (system.exited p r) → Held (k + 1) r
       before r (inl (c, inl m)) = (c, inl (omega arith))
       before r (inl (c, inr (n, m))) = (c, inr (n, omega (arith, size-le-without (r .ahead) p)))
       before r (inr (c, d, z)) = (c, inl (omega arith))

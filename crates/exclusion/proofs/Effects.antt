@@ -18,6 +18,7 @@ use Rattle.counting.specs.Sets.{has, size, without}
 use Rattle.counting.proofs.SetLaws.{without-other}
 use Rattle.machine.specs.Rows.{withLocation, withEst, withLis}
 use Rattle.machine.specs.Tables.{Table, row, competes}
+use Rattle.machine.specs.System as system
 use Rattle.machine.specs.System.{Step}
 use Rattle.machine.specs.System.Step.{rests, comes, flickers-20, enters, starts-pass, wins, discards, keeps, ends-pass}
 use Rattle.machine.specs.System.Step.{lowers, to-push, waits, skips, flickers-24, pushes, exits, flickers-40, leaves}
@@ -25,7 +26,7 @@ use Rattle.machine.specs.System.Step.{cancels}
 use Rattle.machine.specs.declared.Row.{Row}
 use Rattle.machine.proofs.Assignments.{bare, Becomes, TurnsKept, TurnsKeptBut, set-becomes, set-keeps-turns}
 use Rattle.machine.proofs.Assignments.{other-turns-keep, turn-set-is, turn-set-others, competes-at}
-use Rattle.machine.proofs.StepRows.{enteredRow, loweredRow, pushedRow, forgotten, step-becomes}
+use Rattle.machine.proofs.StepRows.{enteredRow, loweredRow, pushedRow, step-becomes}
 
 pub record Idles (r s : Row) : Type 0 where
   pub idle-before : competes r ≡ false
@@ -72,7 +73,9 @@ pub data Effect (t : Table) (p : ℕ) (u : Table) : Type 0 where
       row t p .location ≡ 24 → Alone t p (pushedRow t p (row t p)) u
       → TurnsKeptBut (row t p .level) t u → row u (row t p .level) .turn ≡ p
       → Effect t p u
-  exited : row t p .location ≡ 30 → Becomes t p (forgotten p) (withLocation 40 (forgotten p (row t p))) u → Effect t p u
+  exited :
+      row t p .location ≡ 30 → Becomes t p (system.exited p) (withLocation 40 (system.exited p (row t p))) u
+      → Effect t p u
 
 -- ---- every step has one
 

@@ -15,8 +15,7 @@ use Rattle.machine.specs.Steps.{afterWords}
 use Rattle.machine.specs.System.{Step}
 use Rattle.machine.specs.Census.{isCritical, isHeld, held, critical}
 use Rattle.machine.proofs.SoundRows.{sound-row}
-use Rattle.machine.proofs.Soundness.{step-keeps-sound}
-use Rattle.machine.proofs.Accepted.{always}
+use Rattle.machine.proofs.Soundness.{always}
 use Rattle.machine.proofs.Assignments.{competes-at, competes-within}
 use Rattle.machine.proofs.BbInside.{step-keeps-bb-inside}
 use Rattle.exclusion.proofs.Reaching.{isHeld-of-held}
@@ -30,14 +29,15 @@ use Rattle.exclusion.proofs.Fresh.{fresh-invariant}
 
 pub step-keeps-invariant : (t u : Table) (p : ℕ)
     → tableRefusal t ≡ 0
+    → tableRefusal u ≡ 0
     → p < length t
     → Step t p u
     → Invariant t
     → Invariant u
-step-keeps-invariant t u p z l x i =
+step-keeps-invariant t u p z y l x i =
     let e = effect-of t p l (sound-row t z p l .level-low) x in
     record {
-      sound = step-keeps-sound t u p z l x;
+      sound = y;
       bb-inside = step-keeps-bb-inside t p z l (i .bb-inside) x;
       ahead-in-est = effect-keeps-ahead-in-est t u p l i e;
       act-shown = effect-keeps-act-shown t u p l i e;

@@ -17,6 +17,7 @@ use Rattle.counting.proofs.SetLaws.{has-zero}
 use Rattle.counting.proofs.CountLaws.{count-none}
 use Rattle.machine.specs.Rows.{idle, blank}
 use Rattle.machine.specs.Tables.{Table, row, sound, allResting, fresh, freshTable, competes}
+use Rattle.machine.proofs.PassLaws.{none-sound}
 use Rattle.machine.proofs.SoundRows.{SoundRow, sound-accepted, accepted-sound, rows-sound}
 use Rattle.machine.proofs.FreshRows.{fresh-sound, fresh-rests}
 use Rattle.exclusion.proofs.Reaching.{isReaching, reaches-of-isReaching, reaches-competes}
@@ -70,6 +71,7 @@ made-row n q l =
       turn-none = λ e. refl;
       level-some = λ a b. absurd (omega arith);
       level-none = λ e. refl;
+      passes-fit = none-sound n q;
     }
 
 pub freshTable-fresh : (n : ℕ) → 2 ≤ n → n ≤ 16 → fresh (freshTable n) ≡ true

@@ -1,6 +1,6 @@
-// What C calls beside step, run and census: event words, fresh tables, images, the printed run
-// (include/zaguypo.h). Each is a thin function over the one that does the work. A row is eight cells,
-// which have the layout of the row struct that the header declares.
+// What C calls beside step, run, census, rounds and the call on bytes: event words, fresh tables, images,
+// the printed run (include/zaguypo.h). Each is a thin function over the one that does the work. A row is
+// 24 numbers, which have the layout of the row struct that the header declares.
 use cells::making::make_fresh;
 use images::decoding::read_cells;
 use machine::Apart;
@@ -62,7 +62,7 @@ pub extern "C" fn zaguypo_together(kind: u32, process: u32, argument: u32) -> Wo
 // The lent rows become the fresh table of that many processes; 6 for other than 2 to 16, which are
 // left as they are.
 #[no_mangle]
-pub extern "C" fn zaguypo_fresh(rows: &mut [[u16; 8]]) -> u16
+pub extern "C" fn zaguypo_fresh(rows: &mut [[u16; 24]]) -> u16
     ensures { λ r. ⌜ (r ≡ freshIn (rowsOf (now (rows .entry))) .refusal)
         × (rowsOf (now (rows .exit)) ≡ freshIn (rowsOf (now (rows .entry))) .rows) ⌝ }
 {
@@ -77,7 +77,7 @@ pub extern "C" fn zaguypo_fresh(rows: &mut [[u16; 8]]) -> u16
 // ---- images
 
 // The rows of a table written over the first of others.
-fn copy_rows(table: &[[u16; 8]], rows: &mut [[u16; 8]])
+fn copy_rows(table: &[[u16; 24]], rows: &mut [[u16; 24]])
     requires { ⌜ length (now table) ≤ length (now rows) ⌝ }
     ensures { λ _. ⌜
         rowsOf (now (rows .exit)) ≡ placed (rowsOf (now (rows .entry))) 0 (rowsOf (now (table .entry)))
@@ -92,7 +92,7 @@ fn copy_rows(table: &[[u16; 8]], rows: &mut [[u16; 8]])
 }
 
 // A table handed over in lent rows: 13 where they are too few.
-fn load_rows(table: &[[u16; 8]], rows: &mut [[u16; 8]]) -> ReadAnswer
+fn load_rows(table: &[[u16; 24]], rows: &mut [[u16; 24]]) -> ReadAnswer
     requires { ⌜ length (now table) ≤ 16 ⌝ }
     ensures { λ r. ⌜
         Loads (loaded (rowsOf (now (table .entry))) (rowsOf (now (rows .entry)))) (now (rows .exit)) r
@@ -117,11 +117,11 @@ fn load_rows(table: &[[u16; 8]], rows: &mut [[u16; 8]]) -> ReadAnswer
 // Reads an image into the first of the lent rows: its table, or the refusal 1 to 5 with its place, then
 // 13 where the rows are too few; a refusal leaves them.
 #[no_mangle]
-pub extern "C" fn zaguypo_read(words: &[u32], rows: &mut [[u16; 8]]) -> ReadAnswer
+pub extern "C" fn zaguypo_read(words: &[u32], rows: &mut [[u16; 24]]) -> ReadAnswer
     ensures { λ r. ⌜ (r ≡ readIn (now (words .entry)) (rowsOf (now (rows .entry))) .answer)
         × (rowsOf (now (rows .exit)) ≡ readIn (now (words .entry)) (rowsOf (now (rows .entry))) .rows) ⌝ }
 {
-    let mut cells = [[0u16; 8]; machine::MOST_PROCESSES];
+    let mut cells = [[0u16; 24]; machine::MOST_PROCESSES];
     match read_cells(words, &mut cells) {
         Reading::Table(n) => {
             let size = n as usize;
@@ -137,7 +137,7 @@ pub extern "C" fn zaguypo_read(words: &[u32], rows: &mut [[u16; 8]]) -> ReadAnsw
 
 // Writes the image of a table into the first of the lent words: 6, 7, then 13, which leave them.
 #[no_mangle]
-pub extern "C" fn zaguypo_write(rows: &[[u16; 8]], words: &mut [u32]) -> u16
+pub extern "C" fn zaguypo_write(rows: &[[u16; 24]], words: &mut [u32]) -> u16
     ensures { λ r. ⌜
         Writes (rowsOf (now (rows .entry))) (now (words .entry)) (now (words .exit)) r
         ⌝ }

@@ -1,27 +1,28 @@
 -- Fields: what the lower half of a word of each kind holds, both ways.
 --
---   made       the word of a sound row passes its slot's check
---   row-back   the row whose words an image has is read from it
---   kept       a word that passes is made again of the row that is read
---   row-sound  the row that is read is sound where its words pass
+--   state-passes, set-passes, turn-passes, count-passes    a word that was put together passes
+--   state-fields, set-back, turn-back, count-back          and holds what it was put together of
+--   state-kept, set-kept, turn-kept, own-kept              what a word that passes holds
 --
--- Packing is the same for each kind; only this file and Slots know the kinds. Assumes nothing.
+-- Packing is the same for each kind; only this file, Slots and RowWords know the kinds. Assumes nothing.
 use Prim.Native.Nat.{ℕ, _+_, _*_, _/_, _%_, _^_, _≤_, _<_}
 use mathlib.Core.Path.{_≡_, refl, sym, ap, ap₂, _∙_, subst}
-use mathlib.Core.Bool.{Bool, true, false, cond, not, and-eq-true-iff}
-use mathlib.Core.List.{List}
+use mathlib.Core.Bool.{true, false, not, and-eq-true-iff}
 use native.Mathlib.Nat.{lt-of-lt-of-le}
 use native.Mathlib.Omega.{arith}
 use lib.Dec.{eqb, ltb}
 use lib.ListN.{getD}
 use lib.Pow.{pow-mono, mod-pow-add}
-use borrow.Author.Tests.{ltb-true, eqb-true, eqb-false, eq-eqb, ne-eqb, lt-ltb, not-false}
+use borrow.Author.Tests.{ltb-true, eqb-true, eq-eqb, lt-ltb, not-false}
 use Rattle.machine.specs.Images.{
+  slot,
+  passSlot,
   STATE,
   EST,
   LIS,
   AHEAD,
   TURN,
+  PASSES,
   codeOf,
   codeIn,
   actIn,
@@ -30,27 +31,20 @@ use Rattle.machine.specs.Images.{
   locationIn,
   setIn,
   turnIn,
-  bodyOf,
+  countIn,
   spareBody,
   inRange,
-  rowIn,
-  rowPlace,
-  turnPlace,
 }
 use Rattle.machine.specs.Tables.{locations, levelFits}
-use Rattle.machine.specs.declared.Row.{Row}
-use Rattle.counting.proofs.TestLaws.{split}
-use Rattle.machine.proofs.LevelLaws.{fits-true, fits-some, fits-none}
-use Rattle.machine.proofs.SoundRows.{SoundRow}
+use Rattle.counting.proofs.TestLaws.{implied, implies}
 use Rattle.image_theorems.proofs.Packing.{wordOf}
-use Rattle.image_theorems.proofs.Locations.{code-location, at-place, place-below, known-at}
+use Rattle.image_theorems.proofs.Locations.{code-location}
 use Rattle.image_theorems.proofs.WordChecks.{Passes, parts-made}
-use Rattle.image_theorems.proofs.Slots.{Placed, state, est, lis, ahead, turn}
 
 -- ---- kind STATE
 
 -- the lower half of a word of kind STATE
-abbrev stateBody : ℕ → ℕ → ℕ → ℕ → ℕ
+abbrev pub stateBody : ℕ → ℕ → ℕ → ℕ → ℕ
 stateBody c a x v = c * 2 ^ 12 + a * 2 ^ 9 + x * 2 ^ 8 + v
 
 -- the fields of a word of kind STATE, and that the bits between them are 0
@@ -61,8 +55,8 @@ pub record StateFields (c a x v w : ℕ) : Type 0 where
   pub bb-is : bbIn w ≡ x
   pub level-is : levelIn w ≡ v
 
-state-fields : (q c a x v : ℕ) → c < 8 → a < 2 → x < 2 → v < 2 ^ 8 → StateFields c a x v
-    (wordOf STATE q (stateBody c a x v))
+pub state-fields : (q c a x v : ℕ) → c < 8 → a < 2 → x < 2 → v < 2 ^ 8 → StateFields c a x v
+    (wordOf (slot STATE q) (stateBody c a x v))
 state-fields q c a x v h i j l =
     record {
       code-is = omega arith;
@@ -85,16 +79,17 @@ state-body w z =
     (levelIn w)
     (mod-pow-add w 4 12) (mod-pow-add w 2 10) z (mod-pow-add w 1 9) (mod-pow-add w 1 8)
 
-state-passes : (n q c a x v : ℕ) → c < 8 → a < 2 → x < 2 → v < n → n ≤ 16 → q < n → levelFits (getD locations c 0) v
+pub state-passes : (n q c a x v : ℕ) → c < 8 → a < 2 → x < 2 → v < n → n ≤ 16 → q < n → levelFits (getD locations c 0) v
     ≡ true
-    → Passes n STATE q (wordOf STATE q (stateBody c a x v))
+    → Passes n (slot STATE q) (wordOf (slot STATE q) (stateBody c a x v))
 unfolding spareBody inRange
 state-passes n q c a x v h i j l few m fits =
-    let w = wordOf STATE q (stateBody c a x v) in
+    let w = wordOf (slot STATE q) (stateBody c a x v) in
     let f = state-fields q c a x v h i j (omega arith) in
     record {
-      parts = parts-made STATE q (stateBody c a x v) (omega arith) (omega arith);
+      parts = parts-made (slot STATE q) (stateBody c a x v) (omega arith) (omega arith) (omega arith);
       body-spare = eq-eqb _ _ (f .spare-is);
+      off-diagonal = refl;
       in-range =
           and-eq-true-iff (ltb (codeIn w) 8) (ltb (levelIn w) n) .1 (
             lt-ltb _ _ (subst (λ (y : ℕ). y < 8) (sym (f .code-is)) h),
@@ -111,7 +106,7 @@ pub record StateKept (n w : ℕ) : Type 0 where
   pub level-low : levelIn w < n
   pub fits : levelFits (locationIn w) (levelIn w) ≡ true
 
-pub state-kept : (n q w : ℕ) → Passes n STATE q w → StateKept n w
+pub state-kept : (n q w : ℕ) → Passes n (slot STATE q) w → StateKept n w
 unfolding spareBody inRange
 state-kept n q w p =
     let range = and-eq-true-iff (ltb (codeIn w) 8) (ltb (levelIn w) n) .0 (p .in-range) in
@@ -128,159 +123,87 @@ state-kept n q w p =
 -- ---- kinds EST, LIS and AHEAD
 
 -- a kind whose lower half is a set
-record SetKind (k : ℕ) : Type 0 where
-  no-level : eqb k STATE ≡ false
-  no-spare : (w : ℕ) → spareBody k w ≡ true
-  range-is : (n w : ℕ) → inRange n k w ≡ ltb (setIn w) (2 ^ n)
+pub record SetKind (k : ℕ) : Type 0 where
+  pub no-level : eqb k STATE ≡ false
+  pub no-count : eqb k PASSES ≡ false
+  pub no-spare : (w : ℕ) → spareBody k w ≡ true
+  pub range-is : (n w : ℕ) → inRange n k w ≡ ltb (setIn w) (2 ^ n)
 
-est-set : SetKind EST
+pub est-set : SetKind EST
 unfolding spareBody inRange
-est-set = record { no-level = refl; no-spare = λ w. refl; range-is = λ n w. refl }
+est-set = record { no-level = refl; no-count = refl; no-spare = λ w. refl; range-is = λ n w. refl }
 
-lis-set : SetKind LIS
+pub lis-set : SetKind LIS
 unfolding spareBody inRange
-lis-set = record { no-level = refl; no-spare = λ w. refl; range-is = λ n w. refl }
+lis-set = record { no-level = refl; no-count = refl; no-spare = λ w. refl; range-is = λ n w. refl }
 
-ahead-set : SetKind AHEAD
+pub ahead-set : SetKind AHEAD
 unfolding spareBody inRange
-ahead-set = record { no-level = refl; no-spare = λ w. refl; range-is = λ n w. refl }
+ahead-set = record { no-level = refl; no-count = refl; no-spare = λ w. refl; range-is = λ n w. refl }
 
 -- a set of n processes fits the lower half
-set-low : {n s : ℕ} → n ≤ 16 → s < 2 ^ n → s < 2 ^ 16
+pub set-low : {n s : ℕ} → n ≤ 16 → s < 2 ^ n → s < 2 ^ 16
 set-low few h = lt-of-lt-of-le h (pow-mono few)
 
-set-back : (k q s : ℕ) → s < 2 ^ 16 → setIn (wordOf k q s) ≡ s
+pub set-back : (k q s : ℕ) → s < 2 ^ 16 → setIn (wordOf (slot k q) s) ≡ s
 set-back k q s h = omega arith
 
-set-passes : (n k q s : ℕ) → SetKind k → s < 2 ^ n → n ≤ 16 → q < n → Passes n k q (wordOf k q s)
+pub set-passes : (n k q s : ℕ) → SetKind k → s < 2 ^ n → n ≤ 16 → q < n → Passes n (slot k q) (wordOf (slot k q) s)
 set-passes n k q s kind h few l =
     record {
-      parts = parts-made k q s (omega arith) (set-low few h);
-      body-spare = kind .no-spare (wordOf k q s);
+      parts = parts-made (slot k q) s (omega arith) (omega arith) (set-low few h);
+      body-spare = kind .no-spare (wordOf (slot k q) s);
+      off-diagonal = rw (kind .no-count);
       in-range =
-          kind .range-is n (wordOf k q s) ∙ lt-ltb _ _
+          kind .range-is n (wordOf (slot k q) s) ∙ lt-ltb _ _
           (subst (λ (y : ℕ). y < 2 ^ n) (sym (set-back k q s (set-low few h))) h);
       level-fits = rw (kind .no-level);
     }
 
-set-kept : (n k q w : ℕ) → SetKind k → Passes n k q w → setIn w < 2 ^ n
+pub set-kept : (n k q w : ℕ) → SetKind k → Passes n (slot k q) w → setIn w < 2 ^ n
 set-kept n k q w kind p = ltb-true _ _ (sym (kind .range-is n w) ∙ p .in-range)
 
 -- ---- kind TURN
 
-turn-back : (q v : ℕ) → v < 2 ^ 8 → turnIn (wordOf TURN q v) ≡ v
+pub turn-back : (q v : ℕ) → v < 2 ^ 8 → turnIn (wordOf (slot TURN q) v) ≡ v
 turn-back q v h = omega arith
 
-turn-passes : (n q v : ℕ) → v < n → n ≤ 16 → q < n → Passes n TURN q (wordOf TURN q v)
+pub turn-passes : (n q v : ℕ) → v < n → n ≤ 16 → q < n → Passes n (slot TURN q) (wordOf (slot TURN q) v)
 unfolding spareBody inRange
 turn-passes n q v h few l =
     record {
-      parts = parts-made TURN q v (omega arith) (omega arith);
-      body-spare = eq-eqb (wordOf TURN q v / 2 ^ 8 % 2 ^ 8) 0 (omega arith);
+      parts = parts-made (slot TURN q) v (omega arith) (omega arith) (omega arith);
+      body-spare = eq-eqb (wordOf (slot TURN q) v / 2 ^ 8 % 2 ^ 8) 0 (omega arith);
+      off-diagonal = refl;
       in-range = lt-ltb _ _ (subst (λ (y : ℕ). y < n) (sym (turn-back q v (omega arith))) h);
       level-fits = refl;
     }
 
-turn-kept : (n q w : ℕ) → Passes n TURN q w → (turnIn w < n) × (turnIn w ≡ w % 2 ^ 16)
+pub turn-kept : (n q w : ℕ) → Passes n (slot TURN q) w → (turnIn w < n) × (turnIn w ≡ w % 2 ^ 16)
 unfolding spareBody inRange
 turn-kept n q w p = (ltb-true _ _ (p .in-range), omega (arith, eqb-true (w / 2 ^ 8 % 2 ^ 8) 0 (p .body-spare)))
 
--- ---- every kind
+-- ---- kind PASSES
 
--- the word of a sound row passes where it stands
-pub made : (n : ℕ) (r : Row) {i k q : ℕ} → Placed n i k q → SoundRow n q r → n ≤ 16 → Passes n k q
-    (wordOf k q (bodyOf k r))
-unfolding bodyOf
-made n r (state q h) s few =
-    state-passes n q (codeOf (r .location)) (r .act) (r .bb) (r .level)
-    (place-below (r .location) locations (s .location-known)) (s .act-low)
-    (s .bb-low) (s .level-low) few h
-    (ap (λ (l : ℕ). levelFits l (r .level)) (at-place (r .location) locations (s .location-known))
-    ∙ fits-true (r .location) (r .level) (s .level-some) (s .level-none))
-made n r (est q h) s few = set-passes n EST q (r .est) est-set (s .est-low) few h
-made n r (lis q h) s few = set-passes n LIS q (r .lis) lis-set (s .lis-low) few h
-made n r (ahead q h) s few = set-passes n AHEAD q (r .ahead) ahead-set (s .ahead-low) few h
-made n r (turn q g h) s few = turn-passes n q (r .turn) (s .turn-low) few h
+pub count-back : (q r c : ℕ) → c < 2 ^ 16 → countIn (wordOf (passSlot q r) c) ≡ c
+count-back q r c h = omega arith
 
--- a word that passes has the lower half of the row that is read
-pub kept : (n : ℕ) (ws : List ℕ) {i k q : ℕ}
-    → Placed n i k q
-    → Passes n k q (getD ws i 0)
-    → bodyOf k (rowIn n ws q) ≡ getD ws i 0 % 2 ^ 16
-unfolding bodyOf
-kept n ws (state q h) p = state-kept n q (getD ws (rowPlace q) 0) p .body-is
-kept n ws (est q h) p = refl
-kept n ws (lis q h) p = refl
-kept n ws (ahead q h) p = refl
-kept n ws (turn q g h) p =
-    ap (λ (b : Bool). cond b 0 (turnIn (getD ws (turnPlace n q) 0))) (ne-eqb q 0 (λ e. omega arith))
-    ∙ turn-kept n q (getD ws (turnPlace n q) 0) p .1
+pub count-passes : (n q r c : ℕ) → c < 2 ^ 16 → (q ≡ r → c ≡ 0) → n ≤ 16 → q < n → r < n
+    → Passes n (passSlot q r) (wordOf (passSlot q r) c)
+unfolding spareBody inRange
+count-passes n q r c h own few k l =
+    let w = wordOf (passSlot q r) c in
+    record {
+      parts = parts-made (passSlot q r) c (omega arith) (omega arith) h;
+      body-spare = refl;
+      off-diagonal =
+          implies (eqb q r) (eqb (countIn w) 0)
+          (λ e. eq-eqb (countIn w) 0 (count-back q r c h ∙ own (eqb-true q r e)));
+      in-range = refl;
+      level-fits = refl;
+    }
 
-module _ (n : ℕ) (ws : List ℕ) (q : ℕ) (l : q < n) where
-  -- the cell of turn[q] is 0 for q = 0, which no word holds, or what its word holds
-  turn-cases : (P : ℕ → Type 0)
-      → (q ≡ 0 → P 0)
-      → (0 < q → P (turnIn (getD ws (turnPlace n q) 0)))
-      → P (rowIn n ws q .turn)
-  turn-cases P f g =
-      split (λ b. P (cond b 0 (turnIn (getD ws (turnPlace n q) 0)))) (eqb q 0) (λ e. f (eqb-true q 0 e))
-      (λ e. g (omega (arith, eqb-false q 0 e)))
-
-  -- a row whose words an image has is read from it
-  pub row-back : (r : Row)
-      → SoundRow n q r
-      → n ≤ 16
-      → ((i k : ℕ) → Placed n i k q → getD ws i 0 ≡ wordOf k q (bodyOf k r))
-      → rowIn n ws q ≡ r
-  unfolding bodyOf
-  row-back r s few has =
-      let e = has (rowPlace q) STATE (state q l) in
-      let known = s .location-known in
-      let f =
-      state-fields q (codeOf (r .location)) (r .act) (r .bb) (r .level) (place-below (r .location) locations known)
-      (s .act-low) (s .bb-low)
-      (omega (arith, s .level-low)) in
-      let location-is = ap locationIn e ∙ ap (λ (c : ℕ). getD locations c 0) (f .code-is) ∙ at-place
-      (r .location) locations known in
-      let act-is = ap actIn e ∙ f .act-is in
-      let bb-is = ap bbIn e ∙ f .bb-is in
-      let level-is = ap levelIn e ∙ f .level-is in
-      let est-is = ap setIn (has (rowPlace q + 1) EST (est q l)) ∙ set-back EST q (r .est) (set-low few (s .est-low)) in
-      let lis-is = ap setIn (has (rowPlace q + 2) LIS (lis q l)) ∙ set-back LIS q (r .lis) (set-low few (s .lis-low)) in
-      let ahead-is = ap setIn (has (rowPlace q + 3) AHEAD (ahead q l)) ∙ set-back AHEAD q (r .ahead)
-      (set-low few (s .ahead-low)) in
-      let turn-is =
-      turn-cases (λ v. v ≡ r .turn) (λ z. sym (s .turn-none z))
-      (λ g. ap turnIn (has (turnPlace n q) TURN (turn q g l)) ∙ turn-back q (r .turn) (omega (arith, s .turn-low))) in
-      λ x.
-      record {
-        location = location-is x;
-        act = act-is x;
-        bb = bb-is x;
-        level = level-is x;
-        est = est-is x;
-        lis = lis-is x;
-        ahead = ahead-is x;
-        turn = turn-is x;
-      }
-
-  -- a row is sound where its words pass
-  pub row-sound : ((i k : ℕ) → Placed n i k q → Passes n k q (getD ws i 0)) → SoundRow n q (rowIn n ws q)
-  row-sound passed =
-      let f = state-kept n q (getD ws (rowPlace q) 0) (passed (rowPlace q) STATE (state q l)) in
-      record {
-        location-known = known-at locations (codeIn (getD ws (rowPlace q) 0)) (f .code-low);
-        act-low = omega arith;
-        bb-low = omega arith;
-        level-low = f .level-low;
-        est-low = set-kept n EST q (getD ws (rowPlace q + 1) 0) est-set (passed (rowPlace q + 1) EST (est q l));
-        lis-low = set-kept n LIS q (getD ws (rowPlace q + 2) 0) lis-set (passed (rowPlace q + 2) LIS (lis q l));
-        ahead-low =
-            set-kept n AHEAD q (getD ws (rowPlace q + 3) 0) ahead-set (passed (rowPlace q + 3) AHEAD (ahead q l));
-        turn-low =
-            turn-cases (λ v. v < n) (λ z. omega arith)
-            (λ g. turn-kept n q (getD ws (turnPlace n q) 0) (passed (turnPlace n q) TURN (turn q g l)) .0);
-        turn-none = λ z. turn-cases (λ v. v ≡ 0) (λ e. refl) (λ g. absurd (omega arith));
-        level-some = fits-some _ _ (f .fits);
-        level-none = fits-none _ _ (f .fits);
-      }
+-- what a word of a process's passes over itself holds
+pub own-kept : (n q w : ℕ) → Passes n (passSlot q q) w → countIn w ≡ 0
+own-kept n q w p =
+    eqb-true (countIn w) 0 (implied (eqb q q) (eqb (countIn w) 0) (p .off-diagonal) (eq-eqb q q refl))

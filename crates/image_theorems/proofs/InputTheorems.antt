@@ -28,7 +28,7 @@ use Rattle.image_theorems.proofs.RoundTrip.{table-sound}
 pub never-refused : (ws : List ℕ) → imageRefusal ws .refusal ≡ accepted
     → (vs : List ℕ) → tableRefusal (afterWords (tableIn ws) vs) ≡ accepted
 never-refused ws z vs =
-    let s = accepted-sound (tableIn ws) (table-sound ws _ (accepted-facts ws z)) in
+    let s = accepted-sound (tableIn ws) (table-sound ws _ _ (accepted-facts ws z)) in
     sound-accepted (afterWords (tableIn ws) vs) (words-keep-sound (tableIn ws) vs s .0)
 
 -- what a run answers, as one number
@@ -47,7 +47,7 @@ module _ (bs : List ℕ) (fit : bytesFit bs ≡ true)
   words = eventPart (wordsIn bs)
 
   pub table-fits : tableRefusal table ≡ accepted
-  table-fits = table-sound (imagePart (wordsIn bs)) _ (accepted-facts (imagePart (wordsIn bs)) read)
+  table-fits = table-sound (imagePart (wordsIn bs)) _ _ (accepted-facts (imagePart (wordsIn bs)) read)
 
   pub holds-ready : length words ≤ limit → inputOf bs ≡ Input.Ready table words
   holds-ready h = bytes-words bs fit ∙ words-ready (wordsIn bs) read h

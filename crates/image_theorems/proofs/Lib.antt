@@ -4,6 +4,8 @@ pub mod Slots
 pub mod WordChecks
 pub mod Locations
 pub mod Fields
+pub mod RowWords
+pub mod Headers
 pub mod Reading
 pub mod RoundTrip
 pub mod Theorems

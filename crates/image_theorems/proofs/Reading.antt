@@ -1,26 +1,25 @@
 -- Reading: an image is accepted just where its header and length are right and each word passes where it stands.
 --
---   Accepted ws  <=>  the facts of an accepted image.
+--   Accepted ws n b  <=>  the facts of an accepted image of n processes, which is bare where b is false.
 --   accepted-facts, facts-accepted    just where there is no refusal
 --
 -- The slots are gone through once, for all kinds. Assumes nothing.
 use Prim.Native.Nat.{ℕ, zero, suc, _+_, _≤_, _<_, min}
-use mathlib.Core.Path.{_≡_, refl, sym, ap, ap₂, _∙_, subst}
-use mathlib.Core.Bool.{Bool, true, false, and-eq-true-iff}
+use mathlib.Core.Path.{_≡_, refl, sym, ap, ap₂, _∙_}
+use mathlib.Core.Bool.{Bool, true, false}
 use mathlib.Core.List.{List, [], _∷_, _++_}
 use native.Mathlib.Decide.{ℕ-discrete}
 use native.Mathlib.Omega.{arith}
-use lib.Dec.{eqb, leb}
+use lib.Dec.{eqb}
 use lib.ListN.{length, getD, drop, length-drop}
 use lib.Seq.{getD-drop}
-use borrow.Author.Tests.{eqb-true, eq-eqb, ne-eqb, leb-true, le-leb}
+use borrow.Author.Tests.{eqb-true, eq-eqb, ne-eqb}
 use Rattle.machine.specs.Images.{
   Slot,
-  slot,
-  slots,
-  imageLength,
-  headerOf,
+  slotsIn,
+  saysPasses,
   sizeIn,
+  lengthIn,
   isHeader,
   slotRefusal,
   firstRefusal,
@@ -31,7 +30,9 @@ use Rattle.machine.specs.Images.{
 use Rattle.machine.specs.Tables.{handed}
 use Rattle.machine.specs.declared.Found.{Found}
 use Rattle.machine.specs.declared.NewTable.{NewTable}
-use Rattle.image_theorems.proofs.Slots.{Placed, noSlot, slot-at, length-slots, placed-at}
+use Rattle.image_theorems.proofs.Slots.{lengthFor, slotsFor, Placed, noSlot, slot-at}
+use Rattle.image_theorems.proofs.Slots.{length-slots, placed-at}
+use Rattle.image_theorems.proofs.Headers.{Header, header-facts, header-known}
 use Rattle.image_theorems.proofs.WordChecks.{Passes, passes, refused-none}
 
 -- ---- one word after the other
@@ -110,7 +111,9 @@ first-none n i (s ∷ ss) us (w ∷ ws) l z =
     ∙ ap (λ (x : ℕ). firstRefusal n x us (drop (length ss) ws)) {x = suc i + length ss} {y = i + suc (length ss)}
     (omega arith)
 
-each-passes : (n i : ℕ) (ss : List Slot) (ws : List ℕ) → length ws ≡ length ss → firstRefusal n i ss ws .refusal ≡ 0
+-- no slot refuses just where each word passes at its own
+pub each-passes : (n i : ℕ) (ss : List Slot) (ws : List ℕ) → length ss ≤ length ws
+    → firstRefusal n i ss ws .refusal ≡ 0
     → (j : ℕ) → j < length ss → slotRefusal n (getD ss j noSlot) (getD ws j 0) ≡ 0
 each-passes n i [] ws e h j l = absurd (omega arith)
 each-passes n i (s ∷ ss) [] e h j l = absurd (omega arith)
@@ -119,7 +122,7 @@ each-passes n i (s ∷ ss) (w ∷ ws) e h (suc j) l =
     each-passes n (suc i) ss ws (omega arith)
     (sym (ap (λ (f : Found). f .refusal) (first-next n i s ss w ws (first-zero n i s ss w ws h))) ∙ h) j (omega arith)
 
-none-refused : (n i : ℕ) (ss : List Slot) (ws : List ℕ) → length ws ≡ length ss
+pub none-refused : (n i : ℕ) (ss : List Slot) (ws : List ℕ) → length ss ≤ length ws
     → ((j : ℕ) → j < length ss → slotRefusal n (getD ss j noSlot) (getD ws j 0) ≡ 0)
     → firstRefusal n i ss ws ≡ none
 unfolding firstRefusal
@@ -131,12 +134,10 @@ none-refused n i (s ∷ ss) (w ∷ ws) e f =
 
 -- ---- an image
 
-pub record Accepted (ws : List ℕ) (n : ℕ) : Type 0 where
-  pub header-is : getD ws 0 0 ≡ headerOf n
-  pub some : 2 ≤ n
-  pub few : n ≤ 16
-  pub length-is : length ws ≡ imageLength n
-  pub passed : (i k q : ℕ) → Placed n i k q → Passes n k q (getD ws i 0)
+pub record Accepted (ws : List ℕ) (n : ℕ) (b : Bool) : Type 0 where
+  pub header : Header b n (getD ws 0 0)
+  pub length-is : length ws ≡ lengthFor b n
+  pub passed : (i : ℕ) (s : Slot) → Placed n b i s → Passes n s (getD ws i 0)
 
 -- the order of the checks: header, length, words
 abbrev pub checked : Bool → Bool → ℕ → Found → Found
@@ -152,98 +153,95 @@ checked-zero true true p x h = (refl, refl, h)
 checked-zero true false p x h = absurd (omega arith)
 checked-zero false b p x h = absurd (omega arith)
 
-checked-on : (a b : Bool) (p : ℕ) (x : Found) → a ≡ true → b ≡ true → checked a b p x ≡ x
-checked-on a b p x h k = ap₂ (λ (c d : Bool). checked c d p x) h k
+-- the words of an image, by n and by whether passes follow
+module _ (ws : List ℕ) (n : ℕ) (b : Bool) (long : length ws ≡ lengthFor b n) (some : 0 < n) where
+  -- a word past the header for each slot
+  enough : length (slotsFor b n) ≤ length (drop 1 ws)
+  enough = omega (arith, length-drop 1 ws, length-slots b n some, long)
 
-module _ (ws : List ℕ) where
-  abbrev size : ℕ
-  size = sizeIn (getD ws 0 0)
+  each-passed : firstRefusal n 1 (slotsFor b n) (drop 1 ws) .refusal ≡ 0
+      → (i : ℕ) (s : Slot) → Placed n b i s → Passes n s (getD ws i 0)
+  each-passed z i s p =
+      let a = slot-at n b p in
+      let e : getD (drop 1 ws) (a .index) 0 ≡ getD ws i 0 =
+      getD-drop 1 ws (a .index) 0 ∙ ap (λ (x : ℕ). getD ws x 0) {x = 1 + a .index} {y = i}
+      (omega (arith, a .place-is)) in
+      passes n s (getD ws i 0)
+      (ap₂ (λ (x : Slot) (w : ℕ). slotRefusal n x w) (sym (a .slot-is)) (sym e)
+      ∙ each-passes n 1 (slotsFor b n) (drop 1 ws) enough z (a .index) (a .within))
 
-  pub accepted-facts : imageRefusal ws .refusal ≡ 0 → Accepted ws size
-  unfolding imageRefusal
-  accepted-facts z =
-      let all = imageLength size in
-      let h = checked-zero (isHeader (getD ws 0 0)) (eqb (length ws) all) (min (length ws) all)
-      (firstRefusal size 1 (slots size) (drop 1 ws)) z in
-      let low : headerOf 2 ≤ getD ws 0 0 = leb-true _ _
-      (and-eq-true-iff (leb (headerOf 2) (getD ws 0 0)) (leb (getD ws 0 0) (headerOf 16)) .0 (h .0) .0) in
-      let high : getD ws 0 0 ≤ headerOf 16 = leb-true _ _
-      (and-eq-true-iff (leb (headerOf 2) (getD ws 0 0)) (leb (getD ws 0 0) (headerOf 16)) .0 (h .0) .1) in
-      let long : length ws ≡ imageLength size = eqb-true _ _ (h .1) in
-      let each = each-passes size 1 (slots size) (drop 1 ws)
-      (omega (arith, length-drop 1 ws, length-slots size (omega arith))) (h .2) in
-      record {
-        header-is = omega arith;
-        some = omega arith;
-        few = omega arith;
-        length-is = long;
-        passed = λ i k q p.
-            let a = slot-at p in
-            let e : getD (drop 1 ws) (a .index) 0 ≡ getD ws i 0 =
-            getD-drop 1 ws (a .index) 0 ∙ ap (λ (x : ℕ). getD ws x 0) {x = 1 + a .index} {y = i}
-            (omega (arith, a .place-is)) in
-            passes size k q (getD ws i 0)
-            (ap₂ (λ (s : Slot) (w : ℕ). slotRefusal size s w) (sym (a .slot-is)) (sym e) ∙ each (a .index) (a .within));
-      }
-
-  none-of-facts : Accepted ws size → imageRefusal ws ≡ none
-  unfolding imageRefusal
-  none-of-facts a =
-      checked-on (isHeader (getD ws 0 0)) (eqb (length ws) (imageLength size)) (min (length ws) (imageLength size))
-      (firstRefusal size 1 (slots size) (drop 1 ws))
-      (and-eq-true-iff (leb (headerOf 2) (getD ws 0 0)) (leb (getD ws 0 0) (headerOf 16)) .1 (
-        le-leb (headerOf 2) (getD ws 0 0) (omega (arith, a .header-is)),
-        le-leb (getD ws 0 0) (headerOf 16) (omega (arith, a .header-is)),
-      ))
-      (eq-eqb _ _ (a .length-is))
-      ∙ none-refused size 1 (slots size) (drop 1 ws) (omega (arith, length-drop 1 ws, length-slots size (omega arith)))
+  passed-none : ((i : ℕ) (s : Slot) → Placed n b i s → Passes n s (getD ws i 0))
+      → firstRefusal n 1 (slotsFor b n) (drop 1 ws) ≡ none
+  passed-none passed =
+      none-refused n 1 (slotsFor b n) (drop 1 ws) enough
       (λ j l.
-      let p = placed-at size j (omega (arith, length-slots size (omega arith))) in
-      let b = slot-at (p .placed) in
+      let p = placed-at n b j (omega (arith, length-slots b n some, l)) in
+      let a = slot-at n b (p .placed) in
       let e : getD (drop 1 ws) j 0 ≡ getD ws (suc j) 0 =
       getD-drop 1 ws j 0 ∙ ap (λ (x : ℕ). getD ws x 0) {x = 1 + j} {y = suc j} (omega arith) in
-      let same : getD (slots size) j noSlot ≡ slot (p .kind) (p .number) =
-      ap (λ (x : ℕ). getD (slots size) x noSlot) {x = j} {y = b .index} (omega (arith, b .place-is)) ∙ b .slot-is in
-      ap₂ (λ (s : Slot) (w : ℕ). slotRefusal size s w) same e
-      ∙ refused-none size (p .kind) (p .number) (getD ws (suc j) 0)
-      (a .passed (suc j) (p .kind) (p .number) (p .placed)))
+      let same : getD (slotsFor b n) j noSlot ≡ p .here =
+      ap (λ (x : ℕ). getD (slotsFor b n) x noSlot) {x = j} {y = a .index} (omega (arith, a .place-is))
+      ∙ a .slot-is in
+      ap₂ (λ (x : Slot) (w : ℕ). slotRefusal n x w) same e
+      ∙ refused-none n (p .here) (getD ws (suc j) 0) (passed (suc j) (p .here) (p .placed)))
 
-pub size-is : (ws : List ℕ) (n : ℕ) → Accepted ws n → sizeIn (getD ws 0 0) ≡ n
-size-is ws n a = omega (arith, a .header-is)
+module _ (ws : List ℕ) where
+  abbrev head : ℕ
+  head = getD ws 0 0
 
-pub facts-accepted : (ws : List ℕ) (n : ℕ) → Accepted ws n → imageRefusal ws ≡ none
-facts-accepted ws n a = none-of-facts ws (subst (Accepted ws) (sym (size-is ws n a)) a)
-
--- ---- the refusals by their tests
-
-module _ (ws : List ℕ) (n : ℕ) (is : sizeIn (getD ws 0 0) ≡ n) where
   -- the refusal by the tests of header and length
   byChecks : Bool → Bool → Found
-  byChecks a b = checked a b (min (length ws) (imageLength n)) (firstRefusal n 1 (slots n) (drop 1 ws))
+  byChecks a b =
+      checked a b (min (length ws) (lengthIn head)) (firstRefusal (sizeIn head) 1 (slotsIn head) (drop 1 ws))
 
-  by-checks : imageRefusal ws ≡ byChecks (isHeader (getD ws 0 0)) (eqb (length ws) (imageLength n))
+  by-checks : imageRefusal ws ≡ byChecks (isHeader head) (eqb (length ws) (lengthIn head))
   unfolding imageRefusal byChecks
-  by-checks =
-      ap
-      (λ (m : ℕ). checked (isHeader (getD ws 0 0)) (eqb (length ws) (imageLength m)) (min (length ws) (imageLength m))
-      (firstRefusal m 1 (slots m) (drop 1 ws)))
-      is
+  by-checks = refl
 
-  pub refused-header : isHeader (getD ws 0 0) ≡ false → imageRefusal ws ≡ record { refusal = 1; place = 0 }
+  -- ---- the refusals by their tests
+
+  pub refused-header : isHeader head ≡ false → imageRefusal ws ≡ record { refusal = 1; place = 0 }
   unfolding byChecks
-  refused-header e = by-checks ∙ ap (λ (a : Bool). byChecks a (eqb (length ws) (imageLength n))) e
+  refused-header e = by-checks ∙ ap (λ (a : Bool). byChecks a (eqb (length ws) (lengthIn head))) e
 
-  pub refused-length : isHeader (getD ws 0 0) ≡ true
-      → (length ws ≡ imageLength n → ⊥)
-      → imageRefusal ws ≡ record { refusal = 2; place = min (length ws) (imageLength n) }
+  pub refused-length : isHeader head ≡ true
+      → (length ws ≡ lengthIn head → ⊥)
+      → imageRefusal ws ≡ record { refusal = 2; place = min (length ws) (lengthIn head) }
   unfolding byChecks
   refused-length e ne = by-checks ∙ ap₂ byChecks e (ne-eqb _ _ ne)
 
-  pub refused-words : isHeader (getD ws 0 0) ≡ true
-      → length ws ≡ imageLength n
-      → imageRefusal ws ≡ firstRefusal n 1 (slots n) (drop 1 ws)
+  pub refused-words : isHeader head ≡ true
+      → length ws ≡ lengthIn head
+      → imageRefusal ws ≡ firstRefusal (sizeIn head) 1 (slotsIn head) (drop 1 ws)
   unfolding byChecks
   refused-words e l = by-checks ∙ ap₂ byChecks e (eq-eqb _ _ l)
+
+  -- ---- no refusal
+
+  pub accepted-facts : imageRefusal ws .refusal ≡ 0 → Accepted ws (sizeIn head) (saysPasses head)
+  unfolding imageRefusal
+  accepted-facts z =
+      let h = checked-zero (isHeader head) (eqb (length ws) (lengthIn head)) (min (length ws) (lengthIn head))
+      (firstRefusal (sizeIn head) 1 (slotsIn head) (drop 1 ws)) z in
+      let header = header-facts head (h .0) in
+      let long : length ws ≡ lengthIn head = eqb-true _ _ (h .1) in
+      record {
+        header = header;
+        length-is = long;
+        passed = each-passed ws (sizeIn head) (saysPasses head) long (omega (arith, header .some)) (h .2);
+      }
+
+  pub facts-accepted : (n : ℕ) (b : Bool) → Accepted ws n b → imageRefusal ws ≡ none
+  facts-accepted n b a =
+      let known = header-known head b n (a .header) in
+      let says = known .1 in
+      let size = known .2 in
+      refused-words (known .0) (a .length-is ∙ sym (ap₂ lengthFor says size))
+      ∙ ap₂ (λ (c : Bool) (m : ℕ). firstRefusal m 1 (slotsFor c m) (drop 1 ws)) says size
+      ∙ passed-none ws n b (a .length-is) (omega (arith, a .header .some)) (a .passed)
+
+  pub size-is : (n : ℕ) (b : Bool) → Accepted ws n b → sizeIn head ≡ n
+  size-is n b a = header-known head b n (a .header) .2
 
 -- ---- what reading hands back
 

@@ -1,27 +1,29 @@
--- The answer to an image, by its refusal; the header; and its words as rows and turn cells.
+-- The answer to an image, by its refusal; the header; and its words as rows, turn cells and passes.
 --
 --   header-none, header-some    what the size that a first word names says of it
 --   reading-refused, reading-accepted    the answer
 --   into-refused, into-accepted   the cells with it
---   image-rows, image-turns     all words: the rows decide where they refuse, else the turn cells
+--   image-rows, image-turns, image-bare, image-counts    all words: the rows decide where they refuse, else the turn
+--                               cells, else the passes, where there are such words
 --
 -- Assumes nothing.
 use Prim.Native.Nat.{ℕ, _-_, _≤_}
 use mathlib.Core.Path.{_≡_, refl, sym, ap, _∙_, subst}
-use mathlib.Core.Bool.{Bool, true, false, cond, and-eq-true-iff}
+use mathlib.Core.Bool.{Bool, true, false, cond}
 use mathlib.Core.List.{List}
 use native.Mathlib.Omega.{arith}
-use lib.Dec.{eqb, leb}
+use lib.Dec.{eqb}
 use lib.ListN.{length, getD, take, drop, List·getD-eq-default}
-use borrow.Author.Tests.{leb-true, eq-eqb, ne-eqb}
+use borrow.Author.Tests.{eq-eqb, ne-eqb}
 use Rattle.machine.specs.Images.{
-  imageLength,
+  bareLength,
   turnPlace,
-  headerOf,
   sizeIn,
   isHeader,
   rowSlots,
   turnSlots,
+  passSlots,
+  bareSlots,
   slots,
   firstRefusal,
   rowsIn,
@@ -30,12 +32,14 @@ use Rattle.machine.specs.Images.{
 }
 use Rattle.machine.specs.declared.Found.{Found}
 use Rattle.counting.proofs.TestLaws.{split}
-use Rattle.image_theorems.proofs.Slots.{length-rowSlots}
+use Rattle.image_theorems.proofs.Slots.{length-rowSlots, length-bareSlots}
+use Rattle.image_theorems.proofs.Headers.{header-facts}
 use Rattle.image_theorems.proofs.Reading.{first-some}
 use Rattle.cells.specs.View.{rowsOf}
 use Rattle.image_theorems.proofs.RoundTrip.{length-tableIn}
 use Rattle.images.specs.Answers.{readingOf, ReadInto}
 use Rattle.images.proofs.ReadingLaws.{reading-by}
+use Rattle.images.proofs.SlotLaws.{none-found}
 use Rattle.images.proofs.WalkLaws.{part-on}
 use Rattle.machine.specs.declared.Reading.{Reading}
 
@@ -49,9 +53,8 @@ pub record Header (w n : ℕ) : Type 0 where
 
 header-true : (w : ℕ) → isHeader w ≡ true → Header w (sizeIn w)
 header-true w h =
-    let low : headerOf 2 ≤ w = leb-true _ _ (and-eq-true-iff (leb (headerOf 2) w) (leb w (headerOf 16)) .0 h .0) in
-    let high : w ≤ headerOf 16 = leb-true _ _ (and-eq-true-iff (leb (headerOf 2) w) (leb w (headerOf 16)) .0 h .1) in
-    record { is-header = h; size-is = refl; some = omega arith; few = omega arith }
+    let f = header-facts w h in
+    record { is-header = h; size-is = refl; some = f .some; few = f .few }
 
 module _ (w n : ℕ) (is : n ≡ cond (isHeader w) (sizeIn w) 0) where
   pub header-none : n ≡ 0 → isHeader w ≡ false
@@ -112,19 +115,52 @@ empty-header ws e = ap isHeader (List·getD-eq-default ws 0 (omega arith))
 
 -- ---- the words
 
-module _ (n : ℕ) (ws : List ℕ) (long : length ws ≡ imageLength n) where
+module _ (n : ℕ) (ws : List ℕ) where
+  -- the first refusal of each part, of the words of a bare image, and of all words
   abbrev ofRows : Found
   ofRows = firstRefusal n 1 (rowSlots 0 n) (drop 1 ws)
 
-  pub image-rows : (ofRows .refusal ≡ 0 → ⊥) → firstRefusal n 1 (slots n) (drop 1 ws) ≡ ofRows
-  unfolding slots
-  image-rows some = first-some n 1 (rowSlots 0 n) (turnSlots 1 (n - 1)) (drop 1 ws) some
+  abbrev ofTurns : Found
+  ofTurns = firstRefusal n (turnPlace n 1) (turnSlots 1 (n - 1)) (drop (turnPlace n 1) ws)
 
-  pub image-turns : 2 ≤ n
-      → ofRows .refusal ≡ 0
-      → firstRefusal n 1 (slots n) (drop 1 ws)
-      ≡ firstRefusal n (turnPlace n 1) (turnSlots 1 (n - 1)) (drop (turnPlace n 1) ws)
-  unfolding slots
-  image-turns some none =
+  abbrev ofCounts : Found
+  ofCounts = firstRefusal n (bareLength n) (passSlots n 0 n) (drop (bareLength n) ws)
+
+  abbrev ofBare : Found
+  ofBare = firstRefusal n 1 (bareSlots n) (drop 1 ws)
+
+  abbrev pub ofAll : Bool → Found
+  ofAll b = firstRefusal n 1 (cond b (slots n) (bareSlots n)) (drop 1 ws)
+
+  bare-rows : (ofRows .refusal ≡ 0 → ⊥) → ofBare ≡ ofRows
+  unfolding bareSlots
+  bare-rows some = first-some n 1 (rowSlots 0 n) (turnSlots 1 (n - 1)) (drop 1 ws) some
+
+  bare-turns : 2 ≤ n → bareLength n ≤ length ws → ofRows .refusal ≡ 0 → ofBare ≡ ofTurns
+  unfolding bareSlots
+  bare-turns some long none =
       part-on n 1 (turnPlace n 1) (rowSlots 0 n) (turnSlots 1 (n - 1)) ws (omega (arith, length-rowSlots 0 n))
       (omega arith) none
+
+  all-bare : (b : Bool) → (ofBare .refusal ≡ 0 → ⊥) → ofAll b ≡ ofBare
+  unfolding slots
+  all-bare false some = refl
+  all-bare true some = first-some n 1 (bareSlots n) (passSlots n 0 n) (drop 1 ws) some
+
+  pub image-rows : (b : Bool) → (ofRows .refusal ≡ 0 → ⊥) → ofAll b ≡ ofRows
+  image-rows b some = all-bare b (λ z. some (none-found (bare-rows some) z)) ∙ bare-rows some
+
+  module _ (some : 2 ≤ n) (long : bareLength n ≤ length ws) (none : ofRows .refusal ≡ 0) where
+    pub image-turns : (b : Bool) → (ofTurns .refusal ≡ 0 → ⊥) → ofAll b ≡ ofTurns
+    image-turns b bad =
+        let turns = bare-turns some long none in
+        all-bare b (λ z. bad (none-found turns z)) ∙ turns
+
+    pub image-bare : ofAll false ≡ ofTurns
+    image-bare = bare-turns some long none
+
+    pub image-counts : ofTurns .refusal ≡ 0 → ofAll true ≡ ofCounts
+    unfolding slots
+    image-counts good =
+        part-on n 1 (bareLength n) (bareSlots n) (passSlots n 0 n) ws
+        (omega (arith, length-bareSlots n (omega arith))) long (none-found (sym (bare-turns some long none)) good)

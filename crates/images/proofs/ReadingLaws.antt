@@ -8,7 +8,7 @@ use borrow.Author.Tests.{eqb-true, eqb-false}
 use lib.Dec.{eqb}
 use lib.ListN.{length, getD, take}
 use Rattle.machine.specs.Tables.{tableRefusal}
-use Rattle.machine.specs.Images.{sizeIn, imageRefusal, tableIn}
+use Rattle.machine.specs.Images.{saysPasses, sizeIn, imageRefusal, tableIn}
 use Rattle.cells.specs.View.{rowsOf}
 use Rattle.image_theorems.proofs.Reading.{accepted-facts}
 use Rattle.image_theorems.proofs.RoundTrip.{length-tableIn, table-sound}
@@ -81,7 +81,7 @@ loaded ws x y r n read is =
     record {
       accepted = ok;
       rows-are = rows;
-      sound = ap tableRefusal rows ∙ table-sound ws (sizeIn (getD ws 0 0)) facts;
+      sound = ap tableRefusal rows ∙ table-sound ws (sizeIn (getD ws 0 0)) (saysPasses (getD ws 0 0)) facts;
       size-is = size;
-      few = omega (arith, facts .few, length-tableIn ws (sizeIn (getD ws 0 0)) refl, size);
+      few = omega (arith, facts .header .few, length-tableIn ws (sizeIn (getD ws 0 0)) refl, size);
     }

@@ -1,13 +1,13 @@
 -- The check of a word where it stands, as the code makes it: the upper half at once, then the fields.
 --
---   upper-half                         kind, spare bits and number are one comparison
---   state-slot, set-slot, turn-slot    the refusal of a word of each kind
---   none-found, stop-at, pass-at                   the first refusal of several words, by that of the first of them
+--   upper-half                         kind, passer and number are one comparison
+--   state-slot, set-slot, turn-slot, count-slot    the refusal of a word of each kind
+--   none-found, stop-at, pass-at       the first refusal of several words, by that of the first of them
 --
 -- Assumes nothing.
 use Prim.Native.Nat.{ℕ, suc, _+_, _*_, _/_, _%_, _^_, _<_}
 use mathlib.Core.Path.{_≡_, refl, sym, ap, _∙_}
-use mathlib.Core.Bool.{Bool, true, false, cond, _&&_, not, and-eq-true-iff}
+use mathlib.Core.Bool.{Bool, true, false, cond, _&&_, _||_, not, and-eq-true-iff}
 use mathlib.Core.List.{List, _∷_}
 use native.Mathlib.Omega.{arith}
 use lib.Dec.{eqb, leb, ltb, leb·suc-suc}
@@ -16,13 +16,16 @@ use Rattle.counting.proofs.TestLaws.{same-test}
 use Rattle.machine.specs.Images.{
   Slot,
   slot,
+  passSlot,
   STATE,
   TURN,
+  PASSES,
   codeIn,
   levelIn,
   locationIn,
   spareBody,
   inRange,
+  offDiagonal,
   slotRefusal,
   firstRefusal,
 }
@@ -33,37 +36,40 @@ use Rattle.images.specs.Inner.{SetKind}
 
 -- ---- the upper half
 
-module _ (k q w : ℕ) (low : q < 16) where
+module _ (s : Slot) (w u : ℕ) (first : s .passer < 16) (second : s .number < 16)
+    (is : u ≡ s .kind * 4096 + s .passer * 256 + s .number) where
   abbrev isKind : Bool
-  isKind = eqb (w / 2 ^ 28) k
+  isKind = eqb (w / 2 ^ 28) (s .kind)
 
-  abbrev isSpare : Bool
-  isSpare = eqb (w / 2 ^ 24 % 2 ^ 4) 0
+  abbrev isPasser : Bool
+  isPasser = eqb (w / 2 ^ 24 % 2 ^ 4) (s .passer)
 
   abbrev isNumber : Bool
-  isNumber = eqb (w / 2 ^ 16 % 2 ^ 8) q
+  isNumber = eqb (w / 2 ^ 16 % 2 ^ 8) (s .number)
 
   abbrev isUpper : Bool
-  isUpper = eqb (w / 2 ^ 16) (k * 4096 + q)
+  isUpper = eqb (w / 2 ^ 16) u
 
-  whole-of-parts : w / 2 ^ 28 ≡ k → w / 2 ^ 24 % 2 ^ 4 ≡ 0 → w / 2 ^ 16 % 2 ^ 8 ≡ q → w / 2 ^ 16 ≡ k * 4096 + q
+  whole-of-parts : w / 2 ^ 28 ≡ s .kind → w / 2 ^ 24 % 2 ^ 4 ≡ s .passer → w / 2 ^ 16 % 2 ^ 8 ≡ s .number
+      → w / 2 ^ 16 ≡ u
   whole-of-parts a b c = omega arith
 
-  parts-of-whole : w / 2 ^ 16 ≡ k * 4096 + q → (w / 2 ^ 28 ≡ k) × (w / 2 ^ 24 % 2 ^ 4 ≡ 0) × (w / 2 ^ 16 % 2 ^ 8 ≡ q)
+  parts-of-whole : w / 2 ^ 16 ≡ u
+      → (w / 2 ^ 28 ≡ s .kind) × (w / 2 ^ 24 % 2 ^ 4 ≡ s .passer) × (w / 2 ^ 16 % 2 ^ 8 ≡ s .number)
   parts-of-whole e = (omega arith, omega arith, omega arith)
 
-  pub upper-half : (isKind && isSpare && isNumber) ≡ isUpper
+  pub upper-half : (isKind && isPasser && isNumber) ≡ isUpper
   upper-half =
-      same-test (isKind && isSpare && isNumber) isUpper
+      same-test (isKind && isPasser && isNumber) isUpper
       (λ h.
-      let last = and-eq-true-iff (isKind && isSpare) isNumber .0 h in
-      let first = and-eq-true-iff isKind isSpare .0 (last .0) in
-      eq-eqb (w / 2 ^ 16) (k * 4096 + q)
-      (whole-of-parts (eqb-true _ _ (first .0)) (eqb-true _ _ (first .1)) (eqb-true _ _ (last .1))))
+      let last = and-eq-true-iff (isKind && isPasser) isNumber .0 h in
+      let both = and-eq-true-iff isKind isPasser .0 (last .0) in
+      eq-eqb (w / 2 ^ 16) u
+      (whole-of-parts (eqb-true _ _ (both .0)) (eqb-true _ _ (both .1)) (eqb-true _ _ (last .1))))
       (λ h.
       let p = parts-of-whole (eqb-true _ _ h) in
-      and-eq-true-iff (isKind && isSpare) isNumber .1 (
-        and-eq-true-iff isKind isSpare .1 (eq-eqb _ _ (p .0), eq-eqb _ _ (p .1)),
+      and-eq-true-iff (isKind && isPasser) isNumber .1 (
+        and-eq-true-iff isKind isPasser .1 (eq-eqb _ _ (p .0), eq-eqb _ _ (p .1)),
         eq-eqb _ _ (p .2),
       ))
 
@@ -80,28 +86,31 @@ pub state-slot : (n q w : ℕ) → q < 16
 unfolding slotRefusal
 state-slot n q w low =
     ap (λ (u : Bool). byTests (u && spareBody STATE w) (inRange n STATE w)
-    (not (levelFits (locationIn w) (levelIn w)))) (upper-half STATE q w low)
+    (not (levelFits (locationIn w) (levelIn w))))
+    (upper-half (slot STATE q) w (36864 + q) (omega arith) low (omega arith))
 
 pub turn-slot : (n q w : ℕ) → q < 16
     → slotRefusal n (slot TURN q) w ≡ byTests (eqb (w / 65536) (53248 + q) && eqb (w / 256 % 256) 0)
     (ltb (w % 256) n) false
 unfolding slotRefusal
-turn-slot n q w low = ap (λ (u : Bool). byTests (u && spareBody TURN w) (inRange n TURN w) false)
-    (upper-half TURN q w low)
+turn-slot n q w low =
+    ap (λ (u : Bool). byTests (u && spareBody TURN w) (inRange n TURN w) false)
+    (upper-half (slot TURN q) w (53248 + q) (omega arith) low (omega arith))
 
--- a set kind has no spare bits below, no level, and the range of a set
-record SetTests (n k w full : ℕ) : Type 0 where
+-- a set kind has no spare bits below, no level, no passes, and the range of a set
+record SetTests (n k q w full : ℕ) : Type 0 where
   no-level : eqb k STATE ≡ false
   no-spare : spareBody k w ≡ true
-  range-is : inRange n k w ≡ leb (w % 65536) full
+  range-is : (offDiagonal (slot k q) w && inRange n k w) ≡ leb (w % 65536) full
 
-set-tests : (n k w full : ℕ) → SetKind k → full + 1 ≡ 2 ^ n → SetTests n k w full
+set-tests : (n k q w full : ℕ) → SetKind k → full + 1 ≡ 2 ^ n → SetTests n k q w full
 unfolding spareBody inRange
-set-tests n k w full kind is =
+set-tests n k q w full kind is =
     let a = ne-eqb k STATE (λ e. omega arith) in
     let b = ne-eqb k TURN (λ e. omega arith) in
+    let d = ne-eqb k PASSES (λ e. omega arith) in
     let c : 2 ^ n ≡ suc full = omega arith in
-    record { no-level = a; no-spare = rw (a, b); range-is = rw (a, b, c) (leb·suc-suc (w % 65536) full) }
+    record { no-level = a; no-spare = rw (a, b); range-is = rw (a, b, d, c) (leb·suc-suc (w % 65536) full) }
 
 and-true : (a b : Bool) → b ≡ true → (a && b) ≡ a
 and-true true b e = e
@@ -111,11 +120,21 @@ pub set-slot : (n k q w full : ℕ) → SetKind k → full + 1 ≡ 2 ^ n → q <
     → slotRefusal n (slot k q) w ≡ byTests (eqb (w / 65536) (k * 4096 + q)) (leb (w % 65536) full) false
 unfolding slotRefusal
 set-slot n k q w full kind is low =
-    let t = set-tests n k w full kind is in
-    let fits = and-true (isKind k q w low && isSpare k q w low && isNumber k q w low) (spareBody k w) (t .no-spare)
-    ∙ upper-half k q w low in
+    let t = set-tests n k q w full kind is in
+    let none : 0 < 16 = omega arith in
+    let whole : k * 4096 + q ≡ k * 4096 + 0 * 256 + q = omega arith in
+    let upper = upper-half (slot k q) w (k * 4096 + q) none low whole in
+    let fits = and-true _ (spareBody k w) (t .no-spare) ∙ upper in
     let level = ap (λ (b : Bool). b && not (levelFits (locationIn w) (levelIn w))) (t .no-level) in
     λ i. byTests (fits i) (t .range-is i) (level i)
+
+pub count-slot : (n q r w u : ℕ) → q < 16 → r < 16 → u ≡ PASSES * 4096 + q * 256 + r
+    → slotRefusal n (passSlot q r) w ≡ byTests (eqb (w / 65536) u) (not (eqb q r) || eqb (w % 65536) 0) false
+unfolding slotRefusal
+count-slot n q r w u h l is =
+    let fits = and-true _ true refl ∙ upper-half (passSlot q r) w u h l is in
+    let own = and-true (not (eqb q r) || eqb (w % 65536) 0) true refl in
+    λ i. byTests (fits i) (own i) false
 
 -- ---- the first refusal
 

@@ -1,31 +1,39 @@
--- Writing an image: the words of its rows and of its turn cells where they stand, and what writing leaves.
+-- Writing an image: the words of its rows, turn cells and passes where they stand, and what writing leaves.
 --
---   length-rowsPart, length-turnsPart, row-words, turn-word    the words of the rows and of the turn cells
---   image-placed           header, rows and turn cells put one after the other are the image
+--   length-rowsPart, length-turnsPart, length-passesPart    how many words of the rows, turn cells and passes there are
+--   row-words, turn-word, pass-words    which
+--   passes-start, passes-next, passes-end    the loop that puts the passes, process by process
+--   image-placed           header, rows, turn cells and passes put one after the other are the image
 --   take-image             the image out of the words that it was written into
 --   packable               the rows of a sound table fit their words
 --   written-sound, written-few, written-image    the three outcomes
 --
 -- Assumes nothing.
 use Prim.Native.Nat.{ℕ, zero, suc, _+_, _-_, _*_, _≤_, _<_}
-use mathlib.Core.Path.{_≡_, refl, sym, ap, ap₂, _∙_}
+use mathlib.Core.Path.{_≡_, refl, sym, ap, ap₂, _∙_, subst}
 use mathlib.Core.Bool.{Bool, cond, not}
 use mathlib.Core.List.{List, [], _∷_, _++_, map-append}
+use native.Mathlib.Nat.{mul-zero, mul-suc}
+use native.Mathlib.Numerals.{add-one}
 use native.Mathlib.Omega.{arith}
 use lib.Dec.{leb}
-use lib.ListN.{length, getD, take, set, length-map}
+use lib.ListN.{length, getD, take, set, length-map, length-append}
 use borrow.Author.Tests.{eq-eqb, ne-eqb, le-leb, lt-leb}
 use Rattle.counting.specs.Placing.{placed}
 use Rattle.counting.proofs.PlacingLaws.{placed-one, placed-then, take-first}
+use Rattle.counting.proofs.PlacingLaws.{begun, begun-start, begun-more, begun-end}
 use Rattle.machine.specs.Tables.{Table, row, locations, tableRefusal}
-use Rattle.machine.specs.Images.{slot, STATE, TURN, rowSlots, turnSlots, slots}
-use Rattle.machine.specs.Images.{imageLength, turnPlace, headerOf, wordIn, imageOf, Written, writtenOf}
+use Rattle.machine.specs.Images.{slot, STATE, TURN, rowSlots, turnSlots, passSlots, bareSlots, slots}
+use Rattle.machine.specs.Images.{bareLength, imageLength, turnPlace, passPlace, headerOf, wordIn, imageOf}
+use Rattle.machine.specs.Images.{Written, writtenOf}
 use Rattle.machine.proofs.SoundRows.{sound-rows}
 use Rattle.image_theorems.proofs.Locations.{place-below}
-use Rattle.image_theorems.proofs.Slots.{noSlot, length-rowSlots, length-turnSlots, slot-of-row, slot-of-turn}
+use Rattle.image_theorems.proofs.Slots.{noSlot, length-rowSlots, length-turnSlots, length-passSlots}
+use Rattle.image_theorems.proofs.Slots.{slot-of-row, slot-of-turn, slot-of-count, pair-low}
 use Rattle.image_theorems.proofs.RoundTrip.{length-image, getD-map-within}
 use Rattle.images.specs.Answers.{Writes}
-use Rattle.images.specs.Inner.{Packable, wordFor, rowWords, rowsPart, turnsPart}
+use Rattle.images.specs.Inner.{Packable, wordFor, rowWords, passWords, rowsPart, turnsPart, passesPart}
+use Rattle.images.proofs.CountLaws.{passes-within, length-passWords, pass-word}
 
 -- ---- the parts of an image
 
@@ -35,6 +43,10 @@ module _ (t : Table) where
 
   pub length-turnsPart : length (turnsPart t) ≡ length t - 1
   length-turnsPart = length-map (turnSlots 1 (length t - 1)) (wordIn t) ∙ length-turnSlots 1 (length t - 1)
+
+  pub length-passesPart : length (passesPart t) ≡ length t * length t
+  length-passesPart =
+      length-map (passSlots (length t) 0 (length t)) (wordIn t) ∙ length-passSlots (length t) 0 (length t)
 
   -- word k of the four of process q
   pub row-words : (q k : ℕ) → q < length t → k < 4
@@ -62,26 +74,94 @@ module _ (t : Table) where
       (omega (arith, length-turnSlots 1 (length t - 1)))
       ∙ ap (wordIn t) (slot-of-turn (length t) k g h))
 
-  image-parts : imageOf t ≡ (headerOf (length t) ∷ rowsPart t) ++ turnsPart t
-  unfolding imageOf slots
+  -- the word with the passes of q over r
+  pub pass-words : (q r : ℕ) → q < length t → r < length t
+      → getD (passWords (length t) q (row t q .passes)) r 0 ≡ getD (passesPart t) (length t * q + r) 0
+  unfolding wordIn
+  pass-words q r h l =
+      pass-word (length t) q (row t q .passes) r l
+      ∙ sym
+      (getD-map-within (wordIn t) (passSlots (length t) 0 (length t)) (length t * q + r) noSlot
+      (omega (arith, length-passSlots (length t) 0 (length t), pair-low (length t) q r h l))
+      ∙ ap (wordIn t) (slot-of-count (length t) q r h l))
+
+  -- those of process q, after those of the processes before it
+  next-passes : (o : List ℕ) (q : ℕ) → q < length t → imageLength (length t) ≤ length o
+      → placed (begun o (bareLength (length t)) (passesPart t) (length t * q)) (passPlace (length t) q 0)
+      (passWords (length t) q (row t q .passes))
+      ≡ begun o (bareLength (length t)) (passesPart t) (length t * (q + 1))
+  next-passes o q h long =
+      let n = length t in
+      let words = passWords n q (row t q .passes) in
+      let count = length-passWords n q (row t q .passes) in
+      let next : n * (q + 1) ≡ n * q + n = ap (λ (x : ℕ). n * x) (add-one q) ∙ mul-suc n q in
+      begun-more o (bareLength n) (passesPart t) (omega (arith, length-passesPart, long)) (n * q) (n * (q + 1))
+      (passPlace n q 0) words 0 (omega arith) (omega (arith, next, count))
+      (omega (arith, length-passesPart, next, passes-within n q h))
+      (λ r l. pass-words q r h (omega (arith, count, l)))
+
+  -- the words before the passes
+  abbrev firstPart : List ℕ
+  firstPart = (headerOf (length t) ∷ rowsPart t) ++ turnsPart t
+
+  image-parts : imageOf t ≡ firstPart ++ passesPart t
+  unfolding imageOf slots bareSlots
   image-parts =
-      ap (λ (l : List ℕ). headerOf (length t) ∷ l)
-      (map-append (wordIn t) (rowSlots 0 (length t)) (turnSlots 1 (length t - 1)))
+      let n = length t in
+      ap (λ (l : List ℕ). headerOf n ∷ l)
+      (map-append (wordIn t) (rowSlots 0 n ++ turnSlots 1 (n - 1)) (passSlots n 0 n)
+      ∙ ap (λ (l : List ℕ). l ++ passesPart t) (map-append (wordIn t) (rowSlots 0 n) (turnSlots 1 (n - 1))))
 
   module _ (l : List ℕ) (some : 0 < length t) (long : imageLength (length t) ≤ length l) where
-    pub image-placed : (k : ℕ) → k ≡ turnPlace (length t) 1
-        → placed (placed (set l 0 (headerOf (length t))) 1 (rowsPart t)) k (turnsPart t) ≡ placed l 0 (imageOf t)
-    image-placed k here =
+    first-placed : (k : ℕ) → k ≡ turnPlace (length t) 1
+        → placed (placed (set l 0 (headerOf (length t))) 1 (rowsPart t)) k (turnsPart t) ≡ placed l 0 firstPart
+    first-placed k here =
         let h = headerOf (length t) in
         ap (λ (v : List ℕ). placed (placed v 1 (rowsPart t)) k (turnsPart t)) (placed-one l 0 h (omega arith))
         ∙ ap (λ (v : List ℕ). placed v k (turnsPart t)) (placed-then l 0 (h ∷ []) (rowsPart t) (omega arith))
         ∙ ap (λ (i : ℕ). placed (placed l 0 (h ∷ rowsPart t)) i (turnsPart t)) {x = k}
         {y = 0 + suc (length (rowsPart t))} (omega (arith, length-rowsPart))
         ∙ placed-then l 0 (h ∷ rowsPart t) (turnsPart t) (omega arith)
+
+    pub image-placed : (k i : ℕ) → k ≡ turnPlace (length t) 1 → i ≡ bareLength (length t)
+        → placed (placed (placed (set l 0 (headerOf (length t))) 1 (rowsPart t)) k (turnsPart t)) i (passesPart t)
+        ≡ placed l 0 (imageOf t)
+    image-placed k i here there =
+        let whole = length-append (headerOf (length t) ∷ rowsPart t) (turnsPart t) in
+        ap (λ (v : List ℕ). placed v i (passesPart t)) (first-placed k here)
+        ∙ ap (λ (x : ℕ). placed (placed l 0 firstPart) x (passesPart t)) {x = i} {y = 0 + length firstPart}
+        (omega (arith, whole, length-rowsPart, length-turnsPart))
+        ∙ placed-then l 0 firstPart (passesPart t) (omega arith)
         ∙ ap (placed l 0) (sym image-parts)
 
   pub take-image : (l : List ℕ) → 0 < length t → take (imageLength (length t)) (placed l 0 (imageOf t)) ≡ imageOf t
   take-image l some = take-first l (imageOf t) (imageLength (length t)) (length-image t some)
+
+-- ---- the loop over processes, of which there are n
+
+module _ (t : Table) (o : List ℕ) (n : ℕ) where
+  -- after the passes of q processes
+  abbrev pub passesPut : ℕ → List ℕ
+  passesPut q = begun o (bareLength n) (passesPart t) (n * q)
+
+  pub passes-start : o ≡ passesPut 0
+  passes-start =
+      begun-start o (bareLength n) (passesPart t)
+      ∙ ap (begun o (bareLength n) (passesPart t)) (sym (mul-zero n))
+
+  module _ (is : n ≡ length t) (q : ℕ) where
+    pub passes-next : q < n → imageLength (length t) ≤ length o
+        → placed (passesPut q) (passPlace n q 0) (passWords n q (row t q .passes)) ≡ passesPut (q + 1)
+    passes-next =
+        subst (λ (m : ℕ). q < m
+        → imageLength (length t) ≤ length o
+        → placed (begun o (bareLength m) (passesPart t) (m * q)) (passPlace m q 0) (passWords m q (row t q .passes))
+        ≡ begun o (bareLength m) (passesPart t) (m * (q + 1))) (sym is) (next-passes t o q)
+
+    pub passes-end : q ≡ n → passesPut q ≡ placed o (bareLength n) (passesPart t)
+    passes-end end =
+        let whole : n * q ≡ length t * length t = ap₂ (λ (a b : ℕ). a * b) is (end ∙ is) in
+        begun-end o (bareLength n) (passesPart t) (n * q) (omega (arith, whole, length-passesPart t))
 
 -- ---- the fields of a sound row
 

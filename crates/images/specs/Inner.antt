@@ -2,31 +2,42 @@
 --
 --   Numbered n q      <=>  q is one of n processes, at most 16.
 --   SetKind k         <=>  the words of kind k hold a set: EST, LIS, AHEAD.
---   Sized ws n        <=>  as many words as an image of n processes has.
---   rowOfWords ..     ==   the row that four words and a turn cell hold; turnOfWords ws n q is that cell.
+--   Long ws n         <=>  at least as many words as a bare image of n processes has.
+--   Counted ws n      <=>  at least as many as an image has.
+--   Sized ws n b      <=>  as many as an image has, which is bare where b is false.
+--   rowOfWords ..     ==   the row that four words, a turn cell and passes hold; turnOfWords ws n q is that cell.
+--   passesRefusal ..  ==   the first refusal of the words with the passes of process q.
 --   RowRead, WordsRead   what reading a row, and the words of all rows or all words, does to the cells.
 --   Packable r        <=>  the fields of a row fit the word with location, act, bb and level.
 --   rowWords q r      ==   the four words of process q.
---   rowsPart t, turnsPart t   ==   the words of t's image after the header: those of all rows, then of the turn cells.
+--   passWords n q l   ==   the words with the passes l of process q.
+--   rowsPart t, turnsPart t, passesPart t   ==   the words of t's image after the header: those of all rows, of the
+--                            turn cells, and of the passes.
 --
 -- Assumes nothing.
 use Prim.Native.Nat.{ℕ, _+_, _-_, _*_, _^_, _≤_, _<_}
 use mathlib.Core.Path.{_≡_}
-use mathlib.Core.Bool.{cond}
+use mathlib.Core.Bool.{Bool, cond}
 use mathlib.Core.List.{List, [], _∷_, map}
 use lib.Dec.{eqb}
 use lib.ListN.{length, getD, take, drop, set}
+use Rattle.counting.specs.Ranges.{upTo}
 use Rattle.machine.specs.Images.{
   Slot,
   STATE,
   EST,
   LIS,
   AHEAD,
+  PASSES,
   rowSlots,
   turnSlots,
+  passRow,
+  passSlots,
+  bareLength,
   imageLength,
   rowPlace,
   turnPlace,
+  passPlace,
   codeOf,
   locationIn,
   actIn,
@@ -57,16 +68,26 @@ pub record SetKind (k : ℕ) : Type 0 where
 
 -- ---- reading
 
-pub record Sized (ws : List ℕ) (n : ℕ) : Type 0 where
+pub record Long (ws : List ℕ) (n : ℕ) : Type 0 where
   pub some : 2 ≤ n
   pub few : n ≤ 16
-  pub length-is : length ws ≡ imageLength n
+  pub long : bareLength n ≤ length ws
+
+pub record Counted (ws : List ℕ) (n : ℕ) : Type 0 where
+  pub some : 2 ≤ n
+  pub few : n ≤ 16
+  pub long : imageLength n ≤ length ws
+
+pub record Sized (ws : List ℕ) (n : ℕ) (b : Bool) : Type 0 where
+  pub some : 2 ≤ n
+  pub few : n ≤ 16
+  pub length-is : length ws ≡ cond b (imageLength n) (bareLength n)
 
 abbrev pub turnOfWords : List ℕ → ℕ → ℕ → ℕ
 turnOfWords ws n q = cond (eqb q 0) 0 (turnIn (getD ws (turnPlace n q) 0))
 
-abbrev pub rowOfWords : ℕ → ℕ → ℕ → ℕ → ℕ → Row
-rowOfWords a b c d v =
+abbrev pub rowOfWords : ℕ → ℕ → ℕ → ℕ → ℕ → List ℕ → Row
+rowOfWords a b c d v l =
     record {
       location = locationIn a;
       act = actIn a;
@@ -76,7 +97,11 @@ rowOfWords a b c d v =
       lis = setIn c;
       ahead = setIn d;
       turn = v;
+      passes = l;
     }
+
+unfoldable pub passesRefusal : List ℕ → ℕ → ℕ → Found
+passesRefusal ws n q = firstRefusal n (passPlace n q 0) (passRow q 0 n) (drop (passPlace n q 0) ws)
 
 -- the words of process q were checked, and where they pass its cells stand for the row that they hold
 pub record RowRead (ws : List ℕ) (n q : ℕ) (x y : List (List ℕ)) (f : Found) : Type 0 where
@@ -111,3 +136,14 @@ rowsPart t = map (wordIn t) (rowSlots 0 (length t))
 
 abbrev pub turnsPart : Table → List ℕ
 turnsPart t = map (wordIn t) (turnSlots 1 (length t - 1))
+
+-- the word with the count c of passes of q over r
+abbrev pub passWord : ℕ → ℕ → ℕ → ℕ
+passWord q r c = PASSES * 2 ^ 28 + q * 2 ^ 24 + r * 2 ^ 16 + c
+
+unfoldable pub passWords : ℕ → ℕ → List ℕ → List ℕ
+unfolding upTo
+passWords n q l = upTo (λ r. passWord q r (getD l r 0)) n
+
+abbrev pub passesPart : Table → List ℕ
+passesPart t = map (wordIn t) (passSlots (length t) 0 (length t))

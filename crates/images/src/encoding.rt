@@ -1,5 +1,6 @@
-// Writing an image: the header, the four words of each row in order, then the turn cells. Every
-// word is set once, in rising order.
+// Writing an image, never a bare one: the header, the four words of each row in order, the turn
+// cells, then the passes. Every word is set once, in rising order.
+use crate::counts::write_counts;
 use crate::sizes::image_words;
 use crate::sizes::row_place;
 use crate::sizes::turn_place;
@@ -43,7 +44,7 @@ fn write_row(out: &mut [u32], q: u16, r: Row)
 }
 
 // The words of all processes of a sound table, after the header.
-fn write_rows(cells: &[[u16; 8]], out: &mut [u32])
+fn write_rows(cells: &[[u16; 24]], out: &mut [u32])
     requires { ⌜ Room (rowsOf (now cells)) (now out) ⌝ }
     ensures { λ _. ⌜ now (out .exit) ≡ placed (now (out .entry)) 1
         (rowsPart (rowsOf (now (cells .entry)))) ⌝ }
@@ -57,7 +58,7 @@ fn write_rows(cells: &[[u16; 8]], out: &mut [u32])
 }
 
 // The words of the turn cells of a sound table, after those of the rows.
-fn write_turns(cells: &[[u16; 8]], out: &mut [u32])
+fn write_turns(cells: &[[u16; 24]], out: &mut [u32])
     requires { ⌜ Room (rowsOf (now cells)) (now out) ⌝ }
     ensures { λ _. ⌜ now (out .exit) ≡ placed (now (out .entry))
         (turnPlace (length (now (cells .entry))) 1) (turnsPart (rowsOf (now (cells .entry)))) ⌝ }
@@ -74,7 +75,7 @@ fn write_turns(cells: &[[u16; 8]], out: &mut [u32])
 
 // Writes the image of a sound table into the first words of `out`, and no others. For crates that
 // know the table to be sound and the room to suffice.
-pub fn write_cells(cells: &[[u16; 8]], out: &mut [u32])
+pub fn write_cells(cells: &[[u16; 24]], out: &mut [u32])
     requires { ⌜ Room (rowsOf (now cells)) (now out) ⌝ }
     ensures { λ _. ⌜ now (out .exit) ≡ placed (now (out .entry)) 0
         (imageOf (rowsOf (now (cells .entry)))) ⌝ }
@@ -82,11 +83,12 @@ pub fn write_cells(cells: &[[u16; 8]], out: &mut [u32])
     out[0] = machine::HEADER + cells.len() as u32;
     write_rows(cells, out);
     write_turns(cells, out);
+    write_counts(cells, out);
 }
 
 // Writes the image of a table into the first words of `out`, and no others: 6 or 7 for a table that
 // is not sound, then 13 where `out` is too short; these leave it as it was.
-pub fn write(cells: &[[u16; 8]], out: &mut [u32]) -> u16
+pub fn write(cells: &[[u16; 24]], out: &mut [u32]) -> u16
     ensures { λ r. ⌜ Writes (rowsOf (now (cells .entry))) (now (out .entry)) (now (out .exit)) r ⌝ }
 {
     let refusal = cells::checks::check(cells);

@@ -12,7 +12,7 @@ ghost use Rattle.machine.specs.Images.{readImage};
 ghost use Rattle.cells.specs.View.{rowsOf};
 
 // The table that the first n cells stand for.
-fn new_table(cells: &[[u16; 8]], n: u16) -> NewTable
+fn new_table(cells: &[[u16; 24]], n: u16) -> NewTable
     requires { ⌜ (n ≤ 16) × (length (now cells) ≡ 16) ⌝ }
     ensures { λ t. ⌜ t ≡ handed 0 0 (rowsOf (take n (now (cells .entry)))) ⌝ }
 {
@@ -35,7 +35,7 @@ fn new_table(cells: &[[u16; 8]], n: u16) -> NewTable
 pub fn read(words: &[u32]) -> NewTable
     ensures { λ t. ⌜ t ≡ readImage (now (words .entry)) ⌝ }
 {
-    let mut cells = [[0u16; 8]; 16];
+    let mut cells = [[0u16; 24]; 16];
     let answer = read_cells(words, &mut cells);
     match answer {
         Reading::Table(n) => new_table(&cells, n),

@@ -9,7 +9,7 @@ use machine::Reading;
 ghost use Prim.Native.Nat.{_≤_, _<_};
 ghost use lib.ListN.{length};
 
-// The fresh image of two processes.
+// The bare fresh image of two processes.
 const FRESH: [u32; 10] = [
     0x8000_0002,
     0x9000_0000,
@@ -23,17 +23,160 @@ const FRESH: [u32; 10] = [
     0xd001_0000,
 ];
 
-// A process with every field at its largest, of 16.
-const LARGEST: [u16; 8] = [40, 1, 1, 15, 65535, 65535, 65535, 15];
+// The same with the passes of each over the other, of 1 over 0 the most.
+const COUNTED: [u32; 14] = [
+    0x8100_0002,
+    0x9000_0000,
+    0xa000_0000,
+    0xb000_0000,
+    0xc000_0000,
+    0x9001_0000,
+    0xa001_0000,
+    0xb001_0000,
+    0xc001_0000,
+    0xd001_0000,
+    0xe000_0000,
+    0xe001_0003,
+    0xe100_ffff,
+    0xe101_0000,
+];
 
-// The first of them: row 0 holds turn 0.
-const LARGEST_FIRST: [u16; 8] = [40, 1, 1, 15, 65535, 65535, 65535, 0];
+// A process with every cell at its largest, of 16, and no passes.
+const LARGEST: [u16; 24] = [
+    40,
+    1,
+    1,
+    15,
+    65535,
+    65535,
+    65535,
+    15,
+    0,
+    0,
+    0,
+    0,
+    0,
+    0,
+    0,
+    0,
+    0,
+    0,
+    0,
+    0,
+    0,
+    0,
+    0,
+    0,
+];
 
-// Three processes under way.
-const DEEP: [[u16; 8]; 3] = [
-    [23, 1, 1, 2, 6, 0, 4, 0],
-    [24, 1, 0, 1, 5, 1, 1, 2],
-    [30, 1, 0, 0, 3, 2, 0, 1],
+// The first of them: row 0 holds turn 0, and has the most passes over every other process.
+const LARGEST_FIRST: [u16; 24] = [
+    40,
+    1,
+    1,
+    15,
+    65535,
+    65535,
+    65535,
+    0,
+    0,
+    65535,
+    65535,
+    65535,
+    65535,
+    65535,
+    65535,
+    65535,
+    65535,
+    65535,
+    65535,
+    65535,
+    65535,
+    65535,
+    65535,
+    65535,
+];
+
+// Three processes under way, with passes of each over each other.
+const DEEP: [[u16; 24]; 3] = [
+    [
+        23,
+        1,
+        1,
+        2,
+        6,
+        0,
+        4,
+        0,
+        0,
+        1,
+        2,
+        0,
+        0,
+        0,
+        0,
+        0,
+        0,
+        0,
+        0,
+        0,
+        0,
+        0,
+        0,
+        0,
+    ],
+    [
+        24,
+        1,
+        0,
+        1,
+        5,
+        1,
+        1,
+        2,
+        3,
+        0,
+        4,
+        0,
+        0,
+        0,
+        0,
+        0,
+        0,
+        0,
+        0,
+        0,
+        0,
+        0,
+        0,
+        0,
+    ],
+    [
+        30,
+        1,
+        0,
+        0,
+        3,
+        2,
+        0,
+        1,
+        5,
+        65535,
+        0,
+        0,
+        0,
+        0,
+        0,
+        0,
+        0,
+        0,
+        0,
+        0,
+        0,
+        0,
+        0,
+        0,
+    ],
 ];
 
 // ---- lines
@@ -74,6 +217,15 @@ fn say_changed(label: &[u8], place: usize, word: u32)
     say_read(label, &words);
 }
 
+// The answer to the image with passes with the word at a place changed.
+fn say_counted(label: &[u8], place: usize, word: u32)
+    requires { ⌜ place < 14 ⌝ }
+{
+    let mut words = COUNTED;
+    words[place] = word;
+    say_read(label, &words);
+}
+
 // ---- words that stand alike
 
 fn one_if(same: bool) -> usize
@@ -103,20 +255,20 @@ fn answer_of(answer: Reading) -> usize {
     }
 }
 
-// A table is written, read and written again into 90 words that held 7.
-fn say_around(label: &[u8], cells: &[[u16; 8]])
+// A table is written, read and written again into 340 words that held 7.
+fn say_around(label: &[u8], cells: &[[u16; 24]])
     requires { ⌜ length (now cells) ≤ 16 ⌝ }
 {
     let n = cells.len();
     let all = image_words(n);
-    let mut first = [7u32; 90];
-    let mut again = [7u32; 90];
-    let mut back = [[0u16; 8]; 16];
+    let mut first = [7u32; 340];
+    let mut again = [7u32; 340];
+    let mut back = [[0u16; 24]; 16];
     say(label, write(cells, &mut first) as usize);
     say(b"  read", answer_of(read_cells(&first[..all], &mut back)));
     say(b"  written again", write(&back[..n], &mut again) as usize);
     say(b"  words alike", alike(&first, &again));
-    say(b"  words kept", alike(&first, &[7u32; 90]));
+    say(b"  words kept", alike(&first, &[7u32; 340]));
 }
 
 // ---- the cases
@@ -129,6 +281,10 @@ fn headers() {
     say_read(b"header 80000011", &[0x8000_0011]);
     say_read(b"header 80000010 alone", &[0x8000_0010]);
     say_read(b"cut to 9", &FRESH[..9]);
+    say_read(b"with passes", &COUNTED);
+    say_read(b"header 81000001", &[0x8100_0001]);
+    say_read(b"header 81000011", &[0x8100_0011]);
+    say_read(b"with passes, cut to 10", &COUNTED[..10]);
 }
 
 // Refusal 3.
@@ -151,6 +307,14 @@ fn ranges() {
     say_changed(b"30 at level 1", 5, 0x9001_6001);
 }
 
+// Refusals 3 and 4 of words with passes.
+fn counts() {
+    say_counted(b"passes in another order", 11, 0xe100_0000);
+    say_counted(b"passes of 2", 12, 0xe200_0000);
+    say_counted(b"spare bit 20", 11, 0xe011_0000);
+    say_counted(b"passes over itself", 13, 0xe101_0001);
+}
+
 // Round trips: the largest table, and three processes under way.
 fn round_trips() {
     let mut largest = [LARGEST; 16];
@@ -161,20 +325,21 @@ fn round_trips() {
 
 // Refused writes leave the lent words as they were.
 fn refused_writes() {
-    let mut lent = [7u32; 12];
+    let mut lent = [7u32; 23];
     say(b"one row", write(&DEEP[..1], &mut lent) as usize);
     say(
         b"row 0 with a turn",
         write(&[LARGEST; 2], &mut lent) as usize,
     );
-    say(b"15 words, 12 lent", write(&DEEP, &mut lent) as usize);
-    say(b"  words kept", alike(&lent, &[7u32; 12]));
+    say(b"24 words, 23 lent", write(&DEEP, &mut lent) as usize);
+    say(b"  words kept", alike(&lent, &[7u32; 23]));
 }
 
 fn main() {
     headers();
     shapes();
     ranges();
+    counts();
     round_trips();
     refused_writes();
 }

@@ -5,13 +5,13 @@ use Prim.Native.Nat.{ℕ, _-_, _≤_}
 use native.Mathlib.Omega.{arith}
 use lib.ListN.{length, getD, take, drop, length-drop, drop-of-length-le}
 use lib.Seq.{take-all}
-use Rattle.machine.specs.Images.{imageLength, sizeIn}
+use Rattle.machine.specs.Images.{lengthIn}
 use Rattle.machine.specs.Inputs.{eventPart}
 use Rattle.inputs.specs.Splitting.{Splits}
 
 module _ (ws : List ℕ) where
   abbrev all : ℕ
-  all = imageLength (sizeIn (getD ws 0 0))
+  all = lengthIn (getD ws 0 0)
 
   -- as many as the first word says
   pub splits-at : (m : ℕ) → m ≡ all → m ≤ length ws → Splits ws m

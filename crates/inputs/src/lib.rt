@@ -1,7 +1,7 @@
 // An input is opened here and nowhere else: its bytes into words, the image among them into cells
 // (machine/specs/Inputs.antt).
 use images::decoding::read_cells;
-use images::sizes::image_words;
+use images::sizes::words_by;
 use machine::Reading;
 ghost use mathlib.Core.Path.{_≡_};
 ghost use lib.ListN.{length};
@@ -36,11 +36,7 @@ fn image_length(words: &[u32]) -> usize
     if len == 0 {
         return 0;
     }
-    let head = words[0];
-    if head < machine::HEADER {
-        return 0;
-    }
-    let all = image_words((head - machine::HEADER) as usize);
+    let all = words_by(words[0]);
     if all < len {
         return all;
     }
@@ -48,7 +44,7 @@ fn image_length(words: &[u32]) -> usize
 }
 
 // What the words of an input hold.
-fn open_words(words: &[u32], cells: &mut [[u16; 8]]) -> Opened
+fn open_words(words: &[u32], cells: &mut [[u16; 24]]) -> Opened
     requires { ⌜ length (now cells) ≡ 16 ⌝ }
     ensures { λ r. ⌜ Shows (wordsHold (now (words .entry))) (now (words .entry)) (now (cells .exit)) r ⌝ }
 {
@@ -72,7 +68,7 @@ fn open_words(words: &[u32], cells: &mut [[u16; 8]]) -> Opened
 
 // What the bytes of an input hold; its words are put at the start of `words`, and its table into the
 // cells. For crates that have room for every input.
-pub fn open_input(input: &[u8], words: &mut [u32], cells: &mut [[u16; 8]]) -> Opened
+pub fn open_input(input: &[u8], words: &mut [u32], cells: &mut [[u16; 24]]) -> Opened
     requires { ⌜ Openable (now input) (now words) (now cells) ⌝ }
     ensures { λ r. ⌜ Opens (now (input .entry)) (now (words .exit)) (now (cells .exit)) r ⌝ }
 {

@@ -3,11 +3,12 @@
 --   Says t w                                what an accepted word says of its kind, process and argument
 --   accepted-table, accepted-word, word-says    an accepted word was given to a sound table, and says that
 --   accepted-step, refused-same             the two halves of demand 2 for one word
---   word-cases, always, afterWords-snoc     so what every step keeps, every list of words keeps
+--   word-cases                              it is one or the other
+--   afterWords-snoc                         a list with one word more
 --
 -- Assumes nothing.
-use Prim.Native.Nat.{ℕ, _<_}
-use mathlib.Core.Path.{_≡_, refl, sym, subst}
+use Prim.Native.Nat.{ℕ, suc, _<_}
+use mathlib.Core.Path.{_≡_, refl}
 use mathlib.Core.Bool.{Bool, true, false, cond, not, and-eq-true-iff}
 use mathlib.Core.Logic.{_⊎_, inl, inr, ⊎-elim, by-cases}
 use mathlib.Core.List.{List, [], _∷_, _++_}
@@ -19,8 +20,8 @@ use borrow.Author.Tests.{eqb-true, eqb-false, ltb-true, eq-eqb, ne-eqb, lt-ltb}
 use Rattle.counting.specs.Sets.{has}
 use Rattle.machine.specs.Tables.{Table, row, oneOf, tableRefusal, competitors}
 use Rattle.machine.specs.Words.{FLICKER, GO, isKind, kindOf, processOf, argumentOf, spareClear, formed}
-use Rattle.machine.specs.Steps.{entered, looked, flickered, gone, moved, allowed, argumentFits, wordRefusal}
-use Rattle.machine.specs.Steps.{refusalOf, afterWord, afterWords}
+use Rattle.machine.specs.Steps.{raised, entered, looked, flickered, gone, moved, allowed, argumentFits}
+use Rattle.machine.specs.Steps.{overflows, wordRefusal, refusalOf, afterWord, afterWords}
 use Rattle.machine.specs.System.{Step}
 use Rattle.machine.specs.System.Step.{rests, comes, flickers-20, enters, starts-pass, wins, discards, keeps}
 use Rattle.machine.specs.System.Step.{ends-pass, lowers, to-push, waits, skips, flickers-24, pushes, exits}
@@ -35,7 +36,7 @@ use Rattle.machine.proofs.Forms.{gone-23, gone-40, flickered-act, flick
 
 module _ (t : Table) (p : ℕ) (l : p < length t) where
   go-20 : row t p .location ≡ 20 → Step t p (gone t p)
-  unfolding entered competitors
+  unfolding entered raised competitors
   go-20 e = rw (gone-20 t p e) (enters e)
 
   go-21 : row t p .location ≡ 21 → Step t p (gone t p)
@@ -120,6 +121,12 @@ pub record Says (t : Table) (w : ℕ) : Type 0 where
   pub process-in : processOf w < length t
   pub allowed-there : allowed (kindOf w) (row t (processOf w)) ≡ true
   pub argument-fits : argumentFits (length t) (kindOf w) (row t (processOf w)) (argumentOf w) ≡ true
+  pub passes-fit : overflows t (kindOf w) (processOf w) ≡ false
+
+-- a test that would have refused
+cond-accepted : (b : Bool) (why : ℕ) → cond b (suc why) 0 ≡ 0 → b ≡ false
+cond-accepted true why e = absurd (omega arith)
+cond-accepted false why e = refl
 
 pub word-says : (t : Table) (w : ℕ) → wordRefusal t w ≡ 0 → Says t w
 unfolding wordRefusal
@@ -134,12 +141,13 @@ word-says t w z =
       process-in = ltb-true _ _ (b .0);
       allowed-there = c .0;
       argument-fits = d .0;
+      passes-fit = cond-accepted (overflows t (kindOf w) (processOf w)) 14 (d .1);
     }
 
 -- a word that says so is not refused
 pub says-word : (t : Table) (w : ℕ) → Says t w → wordRefusal t w ≡ 0
 unfolding wordRefusal
-says-word t w s = rw (s .formed-so, lt-ltb _ _ (s .process-in), s .allowed-there, s .argument-fits)
+says-word t w s = rw (s .formed-so, lt-ltb _ _ (s .process-in), s .allowed-there, s .argument-fits, s .passes-fit)
 
 -- ---- one word
 
@@ -201,16 +209,6 @@ module _ (t : Table) (w : ℕ) where
       (λ ne. inr (refused-same ne))
 
 -- ---- lists of words
-
--- what every step of a process of a sound table keeps, every list of words keeps
-pub always : (P : Table → Type 0)
-    → ((t u : Table) (p : ℕ) → tableRefusal t ≡ 0 → p < length t → Step t p u → P t → P u)
-    → (t : Table) (ws : List ℕ) → P t → P (afterWords t ws)
-unfolding afterWords
-always P f t [] h = h
-always P f t (w ∷ ws) h =
-    always P f (afterWord t w) ws
-    (⊎-elim (λ m. f t (afterWord t w) (processOf w) (m .1) (m .2) (m .3) h) (λ e. subst P (sym e) h) (word-cases t w))
 
 -- one word more, at the end
 pub afterWords-snoc : (t : Table) (ws : List ℕ) (w : ℕ) → afterWords t (ws ++ (w ∷ [])) ≡ afterWord (afterWords t ws) w

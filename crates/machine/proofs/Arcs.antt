@@ -17,13 +17,12 @@ use native.Mathlib.Omega.{arith}
 use lib.Dec.{eqb}
 use lib.ListN.{length, set, length-set, length-map}
 use borrow.Author.Tests.{eqb-true}
-use Rattle.counting.specs.Sets.{without}
 use Rattle.counting.proofs.TestLaws.{implied, beq-true}
-use Rattle.machine.specs.Rows.{withAhead}
+use Rattle.machine.specs.Rows.{}
 use Rattle.machine.specs.Tables.{Table, row, oneOf, locations}
 use Rattle.machine.specs.Words.{processOf}
 use Rattle.machine.specs.Steps.{refusalOf, afterWord}
-use Rattle.machine.specs.System.{turnAssigned, Step}
+use Rattle.machine.specs.System.{turnAssigned, Step, exited}
 use Rattle.machine.specs.System.Step.{rests, comes, flickers-20, enters, starts-pass, wins, discards, keeps}
 use Rattle.machine.specs.System.Step.{ends-pass, lowers, to-push, waits, skips, flickers-24, pushes, exits}
 use Rattle.machine.specs.System.Step.{flickers-40, leaves, cancels}
@@ -90,7 +89,7 @@ module _ (t : Table) (p : ℕ) (l : p < length t) where
       refl
   step-leads (pushes e) = leads-set (turnAssigned t (row t p .level) p) _ 24 21 (simp length-set) e refl refl
   step-leads (exits e) =
-      leads-set (map (λ r. withAhead (without (r .ahead) p) r) t) _ 30 40 (simp length-map) e refl refl
+      leads-set (map (exited p) t) _ 30 40 (simp length-map) e refl refl
   step-leads (flickers-40 a e h) = leads-set t _ 40 40 refl e e refl
   step-leads (leaves e) = leads-set t _ 40 10 refl e refl refl
   step-leads (cancels e) = leads-set t _ 20 40 refl e refl refl

@@ -10,9 +10,10 @@ use lib.ListN.{take, replicate}
 use Rattle.counting.specs.Sums.{sum, count}
 use Rattle.counting.specs.Sets.{has, setOf, size, without, others}
 use Rattle.counting.specs.Placing.{placed}
+use Rattle.counting.specs.Ranges.{upTo}
 use Rattle.machine.specs.Tables.{Table, freshTable, soundFrom, tableRefusal, competitors}
 use Rattle.machine.specs.Steps
-use Rattle.machine.specs.Census.{below, held, critical, waiting, upTo}
+use Rattle.machine.specs.Census.{below, held, critical, waiting}
 use Rattle.machine.specs.Runs.{Outcome, runFrom, runOf}
 use Rattle.machine.specs.Images
 use Rattle.machine.specs.Bytes.{wordsIn, bytesOf, bytesLimit}
@@ -55,10 +56,10 @@ pub record Benchmark : Type 0 where
   refusal : ℕ
   last : List ℕ
 
-passes : Benchmark → Bool
+agrees : Benchmark → Bool
 unfolding evaluated pictured same Images.rowSlots Images.turnSlots Images.slots Images.spareBody Images.inRange
     Images.slotRefusal Images.firstRefusal Images.rowsIn Images.imageRefusal Images.tableIn
-passes b =
+agrees b =
     let f = Images.imageRefusal (b .image) in
     let o = evaluated (Images.tableIn (b .image)) (b .events) in
     eqb (f .refusal) (b .imageRefusal) && eqb (f .place) (b .place)
@@ -68,24 +69,42 @@ passes b =
     ]
 
 pub allPass : List Benchmark → Bool
-unfolding passes
+unfolding agrees
 allPass [] = true
-allPass (b ∷ bs) = passes b && allPass bs
+allPass (b ∷ bs) = agrees b && allPass bs
 
--- the fresh image of two processes, with other words in the place of process 0's first three
+-- the words of two processes, with these as process 0's first three and else as in the fresh image
+cells : ℕ → ℕ → ℕ → List ℕ
+cells state est lis =
+    state ∷ est ∷ lis ∷ 0xC0000000 ∷ 0x90010000 ∷ 0xA0010000 ∷ 0xB0010000 ∷ 0xC0010000 ∷ 0xD0010000 ∷ []
+
+-- the words of their passes, where there are none
+uncounted : List ℕ
+uncounted = 0xE0000000 ∷ 0xE0010000 ∷ 0xE1000000 ∷ 0xE1010000 ∷ []
+
+-- the bare image of these cells, and the image, which is the one that is written
+bareTwo : ℕ → ℕ → ℕ → List ℕ
+unfolding cells
+bareTwo state est lis = 0x80000002 ∷ cells state est lis
+
 pub two : ℕ → ℕ → ℕ → List ℕ
-two state est lis =
-    0x80000002 ∷ state ∷ est ∷ lis ∷ 0xC0000000 ∷ 0x90010000 ∷ 0xA0010000 ∷ 0xB0010000 ∷ 0xC0010000 ∷ 0xD0010000 ∷ []
+unfolding cells uncounted
+two state est lis = 0x81000002 ∷ cells state est lis ++ uncounted
 
+-- the fresh image of two processes; the examples start from the bare one
 freshTwo : List ℕ
 unfolding two
 freshTwo = two 0x90000000 0xA0000000 0xB0000000
 
--- event words from the fresh image of two processes
+start : List ℕ
+unfolding bareTwo
+start = bareTwo 0x90000000 0xA0000000 0xB0000000
+
+-- event words from it
 from-fresh : List ℕ → ℕ → ℕ → List ℕ → Benchmark
-unfolding freshTwo
+unfolding start
 from-fresh ws taken refusal last =
-    record { image = freshTwo; events = ws; imageRefusal = 0; place = 0; taken = taken; refusal = refusal; last = last }
+    record { image = start; events = ws; imageRefusal = 0; place = 0; taken = taken; refusal = refusal; last = last }
 
 -- an image that is refused
 refused-image : List ℕ → ℕ → ℕ → Benchmark
@@ -96,7 +115,7 @@ threeWords : List ℕ
 threeWords = 0x20000000 ∷ 0x40000000 ∷ 0x40000000 ∷ []
 
 pub starred : List Benchmark
-unfolding freshTwo two from-fresh refused-image threeWords
+unfolding freshTwo two start from-fresh refused-image threeWords
 starred =
     -- no words
     from-fresh [] 0 0 freshTwo
@@ -114,8 +133,8 @@ starred =
     ∷ from-fresh (threeWords ++ (0x50000000 ∷ [])) 3 11 (two 0x90003201 0xA0000002 0xB0000002)
     ∷ from-fresh (threeWords ++ (0x40000000 ∷ [])) 3 10 (two 0x90003201 0xA0000002 0xB0000002)
     -- images
-    ∷ refused-image (take 9 freshTwo) 2 9
-    ∷ refused-image (two 0x90003000 0xA0000000 0xB0000000) 5 1
+    ∷ refused-image (take 9 start) 2 9
+    ∷ refused-image (bareTwo 0x90003000 0xA0000000 0xB0000000) 5 1
     ∷ []
 
 pub starred-pass : allPass starred ≡ true
@@ -126,9 +145,10 @@ starred-pass = refl
 
 -- process 0 at 40 by a CANCEL, its act in `state`; process 1 at 22, after it has looked at 0 with this est
 watched : ℕ → ℕ → List ℕ
+unfolding uncounted
 watched state est =
-    0x80000002 ∷ state ∷ 0xA0000000 ∷ 0xB0000000 ∷ 0xC0000000 ∷ 0x90013201 ∷ est ∷ 0xB0010000 ∷ 0xC0010000 ∷
-    0xD0010000 ∷ []
+    0x81000002 ∷ state ∷ 0xA0000000 ∷ 0xB0000000 ∷ 0xC0000000 ∷ 0x90013201 ∷ est ∷ 0xB0010000 ∷ 0xC0010000 ∷
+    0xD0010000 ∷ uncounted
 
 -- process 1 comes, enters and looks at 0
 watching : List ℕ
@@ -203,9 +223,10 @@ overlap =
           0x40000000 ∷ 0x30020000 ∷ 0x30020002 ∷ 0x40020000 ∷ 0x30010000 ∷ 0x50000001 ∷ 0x40000000 ∷
           0x40000000 ∷ 0x30010001 ∷ 0x40020000 ∷ 0x40000000 ∷ [];
       last =
-          0x80000003 ∷ 0x90006200 ∷ 0xA0000000 ∷ 0xB0000000 ∷ 0xC0000000 ∷ 0x90017200 ∷ 0xA0010000 ∷
+          0x81000003 ∷ 0x90006200 ∷ 0xA0000000 ∷ 0xB0000000 ∷ 0xC0000000 ∷ 0x90017200 ∷ 0xA0010000 ∷
           0xB0010000 ∷ 0xC0010000 ∷ 0x90023302 ∷ 0xA0020003 ∷ 0xB0020003 ∷ 0xC0020001 ∷ 0xD0010000 ∷
-          0xD0020002 ∷ [];
+          0xD0020002 ∷ 0xE0000000 ∷ 0xE0010000 ∷ 0xE0020000 ∷ 0xE1000000 ∷ 0xE1010000 ∷ 0xE1020000 ∷
+          0xE2000001 ∷ 0xE2010000 ∷ 0xE2020000 ∷ [];
       belows = 0 ∷ 1 ∷ 1 ∷ 2 ∷ [];
       helds = 0 ∷ 1 ∷ 2 ∷ 2 ∷ [];
       criticals = 1;
@@ -226,9 +247,10 @@ pushing =
           0x40020000 ∷ 0x40020000 ∷ 0x40020000 ∷ 0x50020001 ∷ 0x40000000 ∷ 0x50020000 ∷ 0x40010000 ∷
           0x40000000 ∷ 0x40000000 ∷ 0x40020000 ∷ 0x50000002 ∷ 0x40020000 ∷ 0x40010000 ∷ [];
       last =
-          0x80000003 ∷ 0x90003201 ∷ 0xA0000004 ∷ 0xB0000000 ∷ 0xC0000004 ∷ 0x90012302 ∷ 0xA0010005 ∷
+          0x81000003 ∷ 0x90003201 ∷ 0xA0000004 ∷ 0xB0000000 ∷ 0xC0000004 ∷ 0x90012302 ∷ 0xA0010005 ∷
           0xB0010000 ∷ 0xC0010005 ∷ 0x90025201 ∷ 0xA0020003 ∷ 0xB0020000 ∷ 0xC0020001 ∷ 0xD0010000 ∷
-          0xD0020001 ∷ [];
+          0xD0020001 ∷ 0xE0000000 ∷ 0xE0010000 ∷ 0xE0020001 ∷ 0xE1000001 ∷ 0xE1010000 ∷ 0xE1020001 ∷
+          0xE2000000 ∷ 0xE2010000 ∷ 0xE2020000 ∷ [];
       belows = 0 ∷ 0 ∷ 2 ∷ 3 ∷ [];
       helds = 0 ∷ 0 ∷ 2 ∷ 3 ∷ [];
       criticals = 0;
@@ -250,9 +272,10 @@ waiting-turn =
           0x30010001 ∷ 0x40010000 ∷ 0x50000001 ∷ 0x40010000 ∷ 0x50010000 ∷ 0x40020000 ∷ 0x50000002 ∷
           0x50010002 ∷ 0x40000000 ∷ 0x40010000 ∷ 0x40000000 ∷ 0x40010000 ∷ [];
       last =
-          0x80000003 ∷ 0x90002200 ∷ 0xA0000006 ∷ 0xB0000000 ∷ 0xC0000002 ∷ 0x90012301 ∷ 0xA0010005 ∷
+          0x81000003 ∷ 0x90002200 ∷ 0xA0000006 ∷ 0xB0000000 ∷ 0xC0000002 ∷ 0x90012301 ∷ 0xA0010005 ∷
           0xB0010000 ∷ 0xC0010001 ∷ 0x90022202 ∷ 0xA0020003 ∷ 0xB0020000 ∷ 0xC0020003 ∷ 0xD0010001 ∷
-          0xD0020000 ∷ [];
+          0xD0020000 ∷ 0xE0000000 ∷ 0xE0010000 ∷ 0xE0020000 ∷ 0xE1000001 ∷ 0xE1010000 ∷ 0xE1020000 ∷
+          0xE2000001 ∷ 0xE2010001 ∷ 0xE2020000 ∷ [];
       belows = 0 ∷ 1 ∷ 2 ∷ 3 ∷ [];
       helds = 0 ∷ 1 ∷ 2 ∷ 3 ∷ [];
       criticals = 0;
@@ -267,9 +290,10 @@ nobody-ahead =
           0x20000000 ∷ 0x40000000 ∷ 0x20010000 ∷ 0x40010000 ∷ 0x20020000 ∷ 0x30020001 ∷ 0x40000000 ∷
           0x50000001 ∷ 0x50000002 ∷ 0x40000000 ∷ 0x40000000 ∷ [];
       last =
-          0x80000003 ∷ 0x90005202 ∷ 0xA0000006 ∷ 0xB0000000 ∷ 0xC0000000 ∷ 0x90012202 ∷ 0xA0010005 ∷
+          0x81000003 ∷ 0x90005202 ∷ 0xA0000006 ∷ 0xB0000000 ∷ 0xC0000000 ∷ 0x90012202 ∷ 0xA0010005 ∷
           0xB0010000 ∷ 0xC0010001 ∷ 0x90021200 ∷ 0xA0020000 ∷ 0xB0020000 ∷ 0xC0020000 ∷ 0xD0010000 ∷
-          0xD0020000 ∷ [];
+          0xD0020000 ∷ 0xE0000000 ∷ 0xE0010000 ∷ 0xE0020000 ∷ 0xE1000001 ∷ 0xE1010000 ∷ 0xE1020000 ∷
+          0xE2000000 ∷ 0xE2010000 ∷ 0xE2020000 ∷ [];
       belows = 0 ∷ 0 ∷ 0 ∷ 2 ∷ [];
       helds = 0 ∷ 0 ∷ 1 ∷ 2 ∷ [];
       criticals = 0;
@@ -287,8 +311,8 @@ examples-hold = refl
 -- ---- the first example of MANUAL as bytes: its text, and the call from C with two lent bytes too many
 
 pub exampleInput : List ℕ
-unfolding freshTwo two threeWords bytesOf
-exampleInput = bytesOf (freshTwo ++ threeWords ++ (0x50000001 ∷ 0x40000000 ∷ 0x40000000 ∷ 0x40000000 ∷ []))
+unfolding start threeWords bytesOf
+exampleInput = bytesOf (start ++ threeWords ++ (0x50000001 ∷ 0x40000000 ∷ 0x40000000 ∷ 0x40000000 ∷ []))
 
 pub exampleText : List ℕ
 exampleText =
@@ -312,13 +336,13 @@ exampleText =
     100 ∷ 111 ∷ 110 ∷ 101 ∷ 32 ∷ 55 ∷ 10 ∷ []
 
 pub example-printed : printed exampleInput ≡ exampleText
-unfolding exampleInput exampleText evaluated passes printed digits spaced runLines textOf inputOf wordsHold wordsIn
+unfolding exampleInput exampleText evaluated agrees printed digits spaced runLines textOf inputOf wordsHold wordsIn
 example-printed = refl
 
 -- a process that gives up, with its text
 pub cancelInput : List ℕ
-unfolding freshTwo two bytesOf
-cancelInput = bytesOf (freshTwo ++ (0x20000000 ∷ 0x30000001 ∷ 0x60000000 ∷ 0x30000000 ∷ 0x40000000 ∷ []))
+unfolding start bytesOf
+cancelInput = bytesOf (start ++ (0x20000000 ∷ 0x30000001 ∷ 0x60000000 ∷ 0x30000000 ∷ 0x40000000 ∷ []))
 
 pub cancelText : List ℕ
 cancelText =
@@ -338,7 +362,7 @@ cancelText =
     100 ∷ 111 ∷ 110 ∷ 101 ∷ 32 ∷ 53 ∷ 10 ∷ []
 
 pub cancel-printed : printed cancelInput ≡ cancelText
-unfolding cancelInput cancelText evaluated passes printed digits spaced runLines textOf inputOf wordsHold wordsIn
+unfolding cancelInput cancelText evaluated agrees printed digits spaced runLines textOf inputOf wordsHold wordsIn
 cancel-printed = refl
 
 -- the first example in 117 lent bytes, as many as it has; in one more; in one fewer
@@ -346,22 +370,22 @@ pub printed-examples :
     (printedIn exampleInput (replicate 117 255) ≡ record { number = 117; lent = exampleText })
     × (printedIn exampleInput (replicate 118 255) ≡ record { number = 117; lent = exampleText ++ (255 ∷ []) })
     × (printedIn exampleInput (replicate 116 255) ≡ record { number = 117; lent = replicate 116 255 })
-unfolding exampleInput exampleText evaluated passes printed digits spaced runLines textOf inputOf wordsHold wordsIn
+unfolding exampleInput exampleText evaluated agrees printed digits spaced runLines textOf inputOf wordsHold wordsIn
     placed printedIn
 printed-examples = (refl, refl, refl)
 
 pub exampleCall : Called
-unfolding exampleInput evaluated passes callOf callFor ranCall placed inputOf wordsHold wordsIn
-exampleCall = callOf exampleInput (replicate 42 255)
+unfolding exampleInput evaluated agrees callOf callFor ranCall placed inputOf wordsHold wordsIn
+exampleCall = callOf exampleInput (replicate 58 255)
 
 pub example-called :
     (exampleCall .number ≡ 1792)
     × (exampleCall .lent ≡ bytesOf (two 0x90006200 0xA0000000 0xB0000000) ++ (255 ∷ 255 ∷ []))
-unfolding exampleCall evaluated pictured passes callOf callFor ranCall placed inputOf wordsHold wordsIn bytesOf two
+unfolding exampleCall evaluated pictured agrees callOf callFor ranCall placed inputOf wordsHold wordsIn bytesOf two
 example-called = (refl, refl)
 
 -- the most bytes of an input, as MANUAL has the number
-pub longest-input : bytesLimit ≡ 33088
+pub longest-input : bytesLimit ≡ 34112
 longest-input = refl
 
 -- an input of no bytes has a bad image, and one byte is no word

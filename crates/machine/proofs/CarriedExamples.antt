@@ -5,10 +5,11 @@ use Prim.Native.Nat.{ℕ}
 use mathlib.Core.Path.{_≡_, refl}
 use mathlib.Core.List.{List, [], _∷_, _++_}
 use lib.ListN.{getD, take}
+use Rattle.counting.specs.Ranges.{upTo}
 use Rattle.machine.specs.Rows.{idle, withLocation, withAct}
 use Rattle.machine.specs.Tables.{Table}
 use Rattle.machine.specs.Steps.{afterWords, eventOf}
-use Rattle.machine.specs.Census.{critical, upTo, censusOf}
+use Rattle.machine.specs.Census.{critical, censusOf}
 use Rattle.machine.specs.Runs.{carriedOver, runOf}
 use Rattle.machine.specs.Images
 use Rattle.machine.specs.Bytes.{wordsIn, bytesOf}
@@ -66,8 +67,9 @@ departure-is-a-word = refl
 
 pub image : List ℕ
 image =
-    0x80000003 ∷ 0x90006200 ∷ 0xA0000000 ∷ 0xB0000000 ∷ 0xC0000000 ∷ 0x90016200 ∷ 0xA0010000 ∷ 0xB0010000 ∷
-    0xC0010000 ∷ 0x90022200 ∷ 0xA0020000 ∷ 0xB0020000 ∷ 0xC0020000 ∷ 0xD0010000 ∷ 0xD0020000 ∷ []
+    0x81000003 ∷ 0x90006200 ∷ 0xA0000000 ∷ 0xB0000000 ∷ 0xC0000000 ∷ 0x90016200 ∷ 0xA0010000 ∷ 0xB0010000 ∷
+    0xC0010000 ∷ 0x90022200 ∷ 0xA0020000 ∷ 0xB0020000 ∷ 0xC0020000 ∷ 0xD0010000 ∷ 0xD0020000 ∷ 0xE0000000 ∷
+    0xE0010000 ∷ 0xE0020000 ∷ 0xE1000000 ∷ 0xE1010000 ∷ 0xE1020000 ∷ 0xE2000000 ∷ 0xE2010000 ∷ 0xE2020000 ∷ []
 
 pub two-at-30-image : Images.imageOf start ≡ image
 unfolding image Images.rowSlots Images.turnSlots Images.slots Images.bodyOf Images.wordIn Images.imageOf

@@ -23,9 +23,9 @@ use Rattle.counting.specs.Sets.{has, size, without, others}
 use Rattle.machine.specs.Rows.{withLocation, withAct, withBb, withLevel, withEst, withLis, withAhead, withTurn}
 use Rattle.machine.specs.Tables.{Table, row, sound}
 use Rattle.machine.specs.Words.{processOf}
-use Rattle.machine.specs.Shared.{noCell, actRead, actWritten, turnRead, turnWritten, isWritten, own}
+use Rattle.machine.specs.Shared.{noCell, actRead, actWritten, turnRead, turnWritten, isWritten, own, present}
 use Rattle.machine.specs.Steps.{refusalOf, afterWord, cellOf}
-use Rattle.machine.specs.System.{assigned, turnAssigned, Cp, Step, stepWord, stepCell}
+use Rattle.machine.specs.System.{assigned, turnAssigned, Cp, Step, stepWord, stepCell, exited}
 use Rattle.machine.specs.System.Step.{rests, comes, flickers-20, enters, starts-pass, wins, discards, keeps}
 use Rattle.machine.specs.System.Step.{ends-pass, lowers, to-push, waits, skips, flickers-24, pushes, exits}
 use Rattle.machine.specs.System.Step.{flickers-40, leaves, cancels}
@@ -34,7 +34,7 @@ use Rattle.machine.specs.declared.SharedCell.{SharedCell}
 use Rattle.machine.proofs.TableLaws.{row-same, row-cases, turn-free, map-free}
 use Rattle.machine.proofs.SoundRows.{sound-row, sound-accepted, accepted-sound}
 use Rattle.machine.proofs.Accepted.{accepted-table, accepted-process, refused-same}
-use Rattle.machine.proofs.OneWord.{one-word, word-step}
+use Rattle.machine.proofs.OneWord.{unless-full, one-word, word-step}
 use Rattle.machine.proofs.CellLaws.{refused-cell, step-cell, writes}
 
 -- ---- what a step does
@@ -47,7 +47,7 @@ pub record Effect (p : ℕ) (c : SharedCell) (x : ℕ) (o : Row) (t v : Table) :
 
 -- f assigns to private variables, from private variables alone, and to ahead
 abbrev Private : (Row → Row) → Type 0
-Private f = (r : Row) → withAhead 0 (f r) ≡ withTurn (r .turn) (withAct (r .act) (own (f (own r))))
+Private f = (r : Row) → present (f r) ≡ withTurn (r .turn) (withAct (r .act) (own (f (own r))))
 
 -- a cell g of each row, where the row of p is set
 module _ {A : Type 0} (g : Row → A) (t : Table) (p : ℕ) (s : Row) (l : p < length t) where
@@ -64,14 +64,13 @@ module _ (p : ℕ) (t : Table) where
   nothing : (c : SharedCell) → isWritten c ≡ false → Effect p c 0 (own (row t p)) t t
   nothing c h = record { acts = λ q. rw h; turns = λ k. rw h; mover = refl }
 
-  -- ahead sets alone change
-  forgotten : Effect p noCell 0 (own (row t p)) t (map (λ r. withAhead (without (r .ahead) p) r) t)
+  -- history alone changes
+  forgotten : Effect p noCell 0 (own (row t p)) t (map (exited p) t)
   forgotten =
-      let f : Row → Row = λ r. withAhead (without (r .ahead) p) r in
       record {
-        acts = λ q. map-free (λ r. r .act ≡ row t q .act) f t q (λ r e. e) refl;
-        turns = λ k. map-free (λ r. r .turn ≡ row t k .turn) f t k (λ r e. e) refl;
-        mover = map-free (λ r. own r ≡ own (row t p)) f t p (λ r e. e) refl;
+        acts = λ q. map-free (λ r. r .act ≡ row t q .act) (exited p) t q (λ r e. e) refl;
+        turns = λ k. map-free (λ r. r .turn ≡ row t k .turn) (exited p) t k (λ r e. e) refl;
+        mover = map-free (λ r. own r ≡ own (row t p)) (exited p) t p (λ r e. e) refl;
       }
 
   -- turn[k] becomes a
@@ -133,9 +132,9 @@ module _ (t u : Table) (p : ℕ) (st : sound t ≡ true) (su : sound u ≡ true)
     lowu : row u p .level < length u
     lowu = sound-row u (sound-accepted u su) p lu .level-low
 
-    -- the word of the step x does the same from u
+    -- the word of the step x, where t accepts it and u does not refuse it with 15, does the same from u
     record Follows {v : Table} (x : Step t p v) : Type 0 where
-      same-effect : Same t u p (stepWord p x)
+      same-effect : refusalOf t (stepWord p x) ≡ 0 → (refusalOf u (stepWord p x) ≡ 15 → ⊥) → Same t u p (stepWord p x)
 
     -- by a step y of u that has this word
     follows : {v v′ : Table} {x : Step t p v} {a : ℕ} {o o′ : Row} (y : Step u p v′)
@@ -146,12 +145,13 @@ module _ (t u : Table) (p : ℕ) (st : sound t ≡ true) (su : sound u ≡ true)
         → Effect p (stepCell p y) a o′ u v′
         → Follows x
     follows {v} {v′} {x} {a} {o} {o′} y w c i e f =
-        let wx = one-word t v p st l x in
-        let wy = one-word u v′ p su lu y in
-        let cx = step-cell t p st l x in
-        let cy = step-cell u p su lu y in
         record {
           same-effect =
+              λ z nf.
+              let wx = unless-full x (one-word t v p st l x) (λ h. absurd (omega (arith, z, h))) in
+              let wy = unless-full y (one-word u v′ p su lu y) (λ h. nf (sym (ap (refusalOf u) w) ∙ h)) in
+              let cx = step-cell t p st l x (wx .1) in
+              let cy = step-cell u p su lu y (wy .1) in
               record {
                 accepted-too = rw (← w) (wy .1);
                 cell-same = rw (← w) cy ∙ c ∙ sym cx;
@@ -261,15 +261,18 @@ pub word-follows : (t u : Table) (w : ℕ)
     → own (row u (processOf w)) ≡ own (row t (processOf w))
     → ((q : ℕ) → cellOf t w ≡ actRead q → row u q .act ≡ row t q .act)
     → ((k : ℕ) → cellOf t w ≡ turnRead k → row u k .turn ≡ row t k .turn)
+    → (refusalOf u w ≡ 15 → ⊥)
     → Same t u (processOf w) w
-word-follows t u w su z n same a b =
+word-follows t u w su z n same a b nf =
     let p = processOf w in
     let st = accepted-sound t (accepted-table t w z) in
     let l = accepted-process t w z in
     let x = word-step t w z in
-    let c : cellOf t w ≡ stepCell p (x .0) = ap (cellOf t) (sym (x .1)) ∙ step-cell t p st l (x .0) in
+    let ok : refusalOf t (stepWord p (x .0)) ≡ 0 = ap (refusalOf t) (x .1) ∙ z in
+    let c : cellOf t w ≡ stepCell p (x .0) = ap (cellOf t) (sym (x .1)) ∙ step-cell t p st l (x .0) ok in
     subst (Same t u p) (x .1)
-    (follow t u p st su n l same (x .0) (λ q e. a q (c ∙ e)) (λ k e. b k (c ∙ e)) .same-effect)
+    (follow t u p st su n l same (x .0) (λ q e. a q (c ∙ e)) (λ k e. b k (c ∙ e)) .same-effect ok
+    (λ h. nf (sym (ap (refusalOf u) (x .1)) ∙ h)))
 
 -- every word has an effect; a refused one uses no cell and keeps the table
 pub word-effect : (t : Table) (w : ℕ) → (x : ℕ) × (o : Row) × Effect (processOf w) (cellOf t w) x o t (afterWord t w)
@@ -277,6 +280,7 @@ word-effect t w =
     let p = processOf w in
     by-cases (ℕ-discrete (refusalOf t w) 0)
     (λ z.
-    let s = word-follows t t w (accepted-sound t (accepted-table t w z)) z refl refl (λ q e. refl) (λ k e. refl) in
+    let s = word-follows t t w (accepted-sound t (accepted-table t w z)) z refl refl (λ q e. refl) (λ k e. refl)
+    (λ h. absurd (omega (arith, z, h))) in
     (s .value, s .left, s .here))
     (λ ne. (0, own (row t p), rw (refused-cell t w ne, refused-same t w ne) (nothing p t noCell refl)))

@@ -1,6 +1,6 @@
 -- Shared cells, evaluated: words that clash, whose order matters; words that do not, whose order does not matter, ahead
--- sets apart; the cell of every kind at every location where it is allowed; refused words, which have none; the cell of
--- a run, and cells as they are printed.
+-- sets and passes apart; the cell of every kind at every location where it is allowed; refused words, which have none;
+-- the cell of a run, and cells as they are printed.
 --
 -- Each pair has the cells of both words, then whether they clash, then what the two orders lead to. Assumes nothing.
 use Prim.Native.Nat.{ℕ}
@@ -10,7 +10,7 @@ use mathlib.Core.List.{List, [], _∷_, map}
 use lib.ListN.{replicate}
 use Rattle.machine.specs.Rows.{idle, withLocation, withAct, withBb, withLevel, withEst, withLis, withTurn}
 use Rattle.machine.specs.Tables.{Table, row}
-use Rattle.machine.specs.Shared.{noCell, actRead, actWritten, turnRead, turnWritten, clash, butAhead}
+use Rattle.machine.specs.Shared.{noCell, actRead, actWritten, turnRead, turnWritten, clash, butHistory}
 use Rattle.machine.specs.Steps.{refusalOf, afterWord, cellOf}
 use Rattle.machine.specs.Runs.{runOf}
 use Rattle.machine.specs.Text.{digits, cellText}
@@ -59,12 +59,13 @@ go-and-flicker = ((refl, refl, refl), (refl, refl))
 abbrev entering : Table
 entering = withLocation 20 idle ∷ withLocation 20 idle ∷ []
 
--- the one that enters last has the other ahead; apart from that it is the same table
+-- the one that enters last has the other ahead and passes it, as PassExamples shows; apart from that it is the same
+-- table
 pub both-enter :
     Tell entering 0x40000000 0x40010000 (actWritten 0) (actWritten 1) false
     × Orders (λ u. map (λ r. r .ahead) u) entering 0x40000000 0x40010000 (0 ∷ 1 ∷ []) (2 ∷ 0 ∷ [])
-    × (butAhead (afterWord (afterWord entering 0x40000000) 0x40010000)
-    ≡ butAhead (afterWord (afterWord entering 0x40010000) 0x40000000))
+    × (butHistory (afterWord (afterWord entering 0x40000000) 0x40010000)
+    ≡ butHistory (afterWord (afterWord entering 0x40010000) 0x40000000))
 unfolding evaluated cellOf
 both-enter = ((refl, refl, refl), (refl, refl), refl)
 

@@ -30,7 +30,7 @@ use Rattle.machine.specs.declared.SharedCell.{SharedCell}
 use Rattle.counting.proofs.TestLaws.{same-test, split}
 use Rattle.machine.proofs.SoundRows.{sound-few, sound-accepted}
 use Rattle.machine.proofs.WordLaws.{kind-wordOf, process-wordOf, argument-wordOf}
-use Rattle.machine.proofs.OneWord.{member-low, one-word}
+use Rattle.machine.proofs.OneWord.{member-low}
 
 -- ---- the cell of a word
 
@@ -61,9 +61,9 @@ module _ (t : Table) (p : ℕ) (h : sound t ≡ true) (l : p < length t) where
       (process-wordOf k p a hp small)
       ∙ ap₂ (λ (x y : ℕ). cellAt k p x (withLocation y (row t p))) (argument-wordOf k p a hp small) e
 
-  pub step-cell : {u : Table} (x : Step t p u) → cellOf t (stepWord p x) ≡ stepCell p x
+  pub step-cell : {u : Table} (x : Step t p u) → refusalOf t (stepWord p x) ≡ 0 → cellOf t (stepWord p x) ≡ stepCell p x
   unfolding cellAt
-  step-cell x = go x (one-word t _ p h l x .1)
+  step-cell x z = go x z
     where
       go : {u : Table} (x : Step t p u) → refusalOf t (stepWord p x) ≡ 0 → cellOf t (stepWord p x) ≡ stepCell p x
       go (rests e) = cell-at STAY 0 10 (omega arith) e

@@ -2,7 +2,8 @@
 -- uses, and so words of different processes that are not about one cell can be exchanged.
 --
 -- `cellOf t w` is the cell that the step answers for word w, `stepCell p x` that of an alternative of section 3.2 of
--- the paper (System.antt), `own r` a row but for act, turn and ahead, `butAhead t` a table but for ahead (Shared.antt),
+-- the paper (System.antt), `own r` a row but for act, turn, ahead and passes, `butHistory t` a table but for ahead and
+-- passes (Shared.antt),
 -- `Alike t u w` that w cannot tell u from t, `SameEffect t u w` that it does the same to both (Local.antt).
 --
 --   step-cell                             the second reading: the cell of a step's word is the cell of the step
@@ -23,10 +24,11 @@ use lib.Dec.{eqb}
 use lib.ListN.{length, length-map}
 use lib.Seq.{ext-getD}
 use borrow.Author.Tests.{eqb-true, eq-eqb, ne-eqb}
-use Rattle.machine.specs.Rows.{blank, withAct, withAhead, withTurn}
+use Rattle.machine.specs.Rows.{blank, withAct, withTurn}
 use Rattle.machine.specs.Tables.{Table, row, sound}
 use Rattle.machine.specs.Words.{processOf}
-use Rattle.machine.specs.Shared.{noCell, actRead, actWritten, turnRead, turnWritten, clash, own, butAhead}
+use Rattle.machine.specs.Shared.{noCell, actRead, actWritten, turnRead, turnWritten, clash, present, own}
+use Rattle.machine.specs.Shared.{butHistory}
 use Rattle.machine.specs.Steps.{refusalOf, afterWord, cellOf}
 use Rattle.machine.specs.Local.{Alike, SameEffect}
 use Rattle.machine.specs.System.{Step, stepWord, stepCell}
@@ -44,15 +46,17 @@ use Rattle.machine.proofs.CellEffects.{Effect, Same, word-follows, word
 
 -- ---- the cell of a word
 
--- The cell that is answered for the word of a step is the cell of this alternative of the relation.
+-- The cell that is answered for the word of a step, where it is accepted, is the cell of this alternative of the
+-- relation.
 -- Excludes: turn told as read at 23 where est has few members or bb is 0; the level after the step for the one before
 -- it; LOOK told to read the act of its own process; a cell for CANCEL or for GO at 30. Proved in CellLaws.antt.
 pub step-cell : (t u : Table) (p : ℕ)
     → sound t ≡ true
     → p < length t
     → (x : Step t p u)
+    → refusalOf t (stepWord p x) ≡ 0
     → cellOf t (stepWord p x) ≡ stepCell p x
-step-cell t u p h l x = CellLaws.step-cell t p h l x
+step-cell t u p h l x z = CellLaws.step-cell t p h l x z
 
 -- A refused word uses none, whatever the table.
 -- Excludes: a FLICKER with a wrong argument that tells the cell it did not write. Proved in CellLaws.antt.
@@ -81,7 +85,7 @@ others-kept t w q ne =
 -- ---- the only cell
 
 follows : (t u : Table) (w : ℕ) → sound u ≡ true → refusalOf t w ≡ 0 → Alike t u w → Same t u (processOf w) w
-follows t u w h z a = word-follows t u w h z (a .as-many) (a .own-same) (a .act-same) (a .turn-same)
+follows t u w h z a = word-follows t u w h z (a .as-many) (a .own-same) (a .act-same) (a .turn-same) (a .not-full)
 
 -- The cell that is answered is the only shared cell that the step reads: where another table has the same there, and
 -- the same private variables of the process, the word does the same, whatever stands in all other cells. That it writes
@@ -108,6 +112,8 @@ record Exchangeable (t : Table) (v w : ℕ) : Type 0 where
   second : refusalOf t w ≡ 0
   processes : processOf v ≢ processOf w
   free : clash (cellOf t v) (cellOf t w) ≡ false
+  first-fits : refusalOf (afterWord t w) v ≡ 15 → ⊥
+  second-fits : refusalOf (afterWord t v) w ≡ 15 → ⊥
 
 swapped : {t : Table} {v w : ℕ} → Exchangeable t v w → Exchangeable t w v
 swapped {t} {v} {w} h =
@@ -116,6 +122,8 @@ swapped {t} {v} {w} h =
       second = h .first;
       processes = λ e. h .processes (sym e);
       free = clash-sym (cellOf t w) (cellOf t v) ∙ h .free;
+      first-fits = h .second-fits;
+      second-fits = h .first-fits;
     }
 
 -- w after v does what it does without v
@@ -129,6 +137,7 @@ after {t} {v} {w} h =
       own-same = others-kept t v (processOf w) (λ e. h .processes (sym e));
       act-same = λ q e. acts-kept t v q (λ f. apart (actWritten q) (actRead q) free refl (eq-eqb q q refl) f e);
       turn-same = λ k e. turns-kept t v k (λ f. apart (turnWritten k) (turnRead k) free refl (eq-eqb k k refl) f e);
+      not-full = h .second-fits;
     })
 
 -- what one of two steps assigns at most, x or y, is the same in both orders
@@ -158,7 +167,7 @@ owns t w q {o = o} e = go (ℕ-discrete q (processOf w))
 rows-same : {t : Table} {v w : ℕ}
     → Exchangeable t v w
     → (q : ℕ)
-    → withAhead 0 (row (afterWord (afterWord t v) w) q) ≡ withAhead 0 (row (afterWord (afterWord t w) v) q)
+    → present (row (afterWord (afterWord t v) w) q) ≡ present (row (afterWord (afterWord t w) v) q)
 rows-same {t} {v} {w} h q =
     let vw = after h in
     let wv = after (swapped h) in
@@ -180,13 +189,13 @@ rows-same {t} {v} {w} h q =
     (owns t v q (wv .here)) (owns (afterWord t w) v q (wv .there)) in
     λ i. withTurn (turn i) (withAct (act i) (private i))
 
--- tables with the same rows, ahead apart
-same-but-ahead : (t u : Table)
+-- tables with the same rows, history apart
+same-but-history : (t u : Table)
     → length t ≡ length u
-    → ((q : ℕ) → withAhead 0 (row t q) ≡ withAhead 0 (row u q))
-    → butAhead t ≡ butAhead u
-same-but-ahead t u n h =
-    let f : Row → Row = withAhead 0 in
+    → ((q : ℕ) → present (row t q) ≡ present (row u q))
+    → butHistory t ≡ butHistory u
+same-but-history t u n h =
+    let f : Row → Row = present in
     ext-getD blank (map f t) (map f u) (simp (length-map, n))
     (λ q l.
     let e : length (map f t) ≡ length t = simp length-map in
@@ -194,8 +203,10 @@ same-but-ahead t u n h =
     row-map f t q lt ∙ h q ∙ sym (row-map f u q (omega arith)))
 
 -- Two words of different processes that a table accepts, whose cells are not one cell that one of the two writes: each
--- is accepted after the other, and both orders lead to the same table, ahead sets apart. Nothing else is assumed; an
--- accepted word was given to a sound table. Ahead sets may differ: of two that enter, the later has the other ahead.
+-- is accepted after the other, and both orders lead to the same table, ahead sets and passes apart, if neither order
+-- meets 15. Nothing else is assumed; an accepted word was given to a sound table. Ahead sets and passes may differ: of
+-- two that enter, the later has the other ahead and passes it; and of two words, the second may be an entry that has
+-- room only where the first is not done before.
 -- Excludes: an exception for two writes alone; a FLICKER that tells no cell; a refusal, or a LOOK, that depends on a
 -- process of which it tells nothing.
 -- Not empty, and not so where they clash: CellExamples.antt.
@@ -204,21 +215,27 @@ pub exchange : (t : Table) (v w : ℕ)
     → refusalOf t w ≡ 0
     → processOf v ≢ processOf w
     → clash (cellOf t v) (cellOf t w) ≡ false
+    → refusalOf (afterWord t v) w ≢ 15
+    → refusalOf (afterWord t w) v ≢ 15
     → (refusalOf (afterWord t v) w ≡ 0)
     × (refusalOf (afterWord t w) v ≡ 0)
-    × (butAhead (afterWord (afterWord t v) w) ≡ butAhead (afterWord (afterWord t w) v))
-exchange t v w x y ne free =
-    let h : Exchangeable t v w = record { first = x; second = y; processes = ne; free = free } in (
+    × (butHistory (afterWord (afterWord t v) w) ≡ butHistory (afterWord (afterWord t w) v))
+exchange t v w x y ne free fw fv =
+    let h : Exchangeable t v w =
+    record { first = x; second = y; processes = ne; free = free; first-fits = fv; second-fits = fw } in (
       after h .accepted-too,
       after (swapped h) .accepted-too,
-      same-but-ahead (afterWord (afterWord t v) w) (afterWord (afterWord t w) v) (simp word-keeps-length) (rows-same h),
+      same-but-history (afterWord (afterWord t v) w) (afterWord (afterWord t w) v) (simp word-keeps-length)
+          (rows-same h),
     )
 
 -- And each uses the same cell after the other.
 -- Excludes: a cell that depends on the row of another process, or on the ahead sets.
 pub exchange-cells : (t : Table) (v w : ℕ)
     → refusalOf t v ≡ 0 → refusalOf t w ≡ 0 → processOf v ≢ processOf w → clash (cellOf t v) (cellOf t w) ≡ false
+    → refusalOf (afterWord t v) w ≢ 15 → refusalOf (afterWord t w) v ≢ 15
     → (cellOf (afterWord t v) w ≡ cellOf t w) × (cellOf (afterWord t w) v ≡ cellOf t v)
-exchange-cells t v w x y ne free =
-    let h : Exchangeable t v w = record { first = x; second = y; processes = ne; free = free } in
+exchange-cells t v w x y ne free fw fv =
+    let h : Exchangeable t v w =
+    record { first = x; second = y; processes = ne; free = free; first-fits = fv; second-fits = fw } in
     (after h .cell-same, after (swapped h) .cell-same)

@@ -6,9 +6,10 @@ use mathlib.Core.List.{List, [], _∷_, map}
 use lib.Dec.{leb}
 use lib.ListN.{replicate}
 use Rattle.counting.specs.Sums.{bit}
+use Rattle.counting.specs.Ranges.{upTo}
 use Rattle.machine.specs.Rows.{idle, withLocation, withLevel}
 use Rattle.machine.specs.Tables.{locations, freshTable}
-use Rattle.machine.specs.Census.{upTo, censusOf}
+use Rattle.machine.specs.Census.{censusOf}
 use Rattle.machine.specs.Runs.{runOf}
 use Rattle.machine.specs.declared.Census.{Census}
 use Rattle.machine.proofs.Benchmarks.{evaluated}

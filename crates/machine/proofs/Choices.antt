@@ -18,11 +18,11 @@ use lib.Pow.{pow-mono}
 use borrow.Author.Tests.{eqb-true}
 use Rattle.counting.specs.Sets.{without}
 use Rattle.counting.proofs.SetLaws.{without-injective}
-use Rattle.machine.specs.Rows.{withAct, withAhead}
+use Rattle.machine.specs.Rows.{withAct}
 use Rattle.machine.specs.Tables.{Table, row, oneOf}
 use Rattle.machine.specs.Words.{STAY, COME, FLICKER, GO, LOOK, CANCEL, isKind}
 use Rattle.machine.specs.Steps.{entered, looked, flickered, gone, moved, allowed, argumentFits}
-use Rattle.machine.specs.System.{turnAssigned}
+use Rattle.machine.specs.System.{turnAssigned, exited}
 use Rattle.machine.specs.declared.Row.{Row}
 use Rattle.counting.proofs.TestLaws.{or-cases}
 use Rattle.machine.proofs.KindLaws.{by-kind}
@@ -93,7 +93,7 @@ module _ (t : Table) (p : ℕ) (l : p < length t) where
   go-30-tells : row t p .location ≡ 30 → Tells GO (gone t p)
   go-30-tells e =
       rw (gone-exit t p l e)
-      (tells-last (map (λ r. withAhead (without (r .ahead) p) r) t) _ 30 40 (simp length-map) e refl)
+      (tells-last (map (exited p) t) _ 30 40 (simp length-map) e refl)
 
   go-40-tells : row t p .location ≡ 40 → Tells GO (gone t p)
   go-40-tells e = rw (gone-40 t p e) (tells-set _ 40 10 e refl)

@@ -4,10 +4,10 @@ use Prim.Native.Nat.{ℕ}
 use mathlib.Core.Path.{_≡_, refl}
 use mathlib.Core.List.{List, [], _∷_}
 use lib.ListN.{replicate, take}
+use Rattle.counting.specs.Ranges.{upTo}
 use Rattle.counting.specs.Placing.{placed}
-use Rattle.machine.specs.Rows.{idle, blank, withAct}
+use Rattle.machine.specs.Rows.{idle, blank, withLocation, withAct, withPasses}
 use Rattle.machine.specs.Tables.{Table}
-use Rattle.machine.specs.Images
 use Rattle.machine.specs.Exports.{partsAnswerOf, wordAnswerOf, freshIn, Loaded, unread, readIn}
 
 -- ---- event words
@@ -38,15 +38,15 @@ pub fresh-examples :
     × (freshIn (replicate 17 blank) ≡ record { refusal = 6; rows = replicate 17 blank })
 fresh-examples = (refl, refl, refl)
 
--- process 0 at 30 and process 1 resting
+-- process 0 at 30 and process 1 resting, which has passed 0 three times
 pub image : List ℕ
 image =
-    0x80000002 ∷ 0x90006200 ∷ 0xA0000000 ∷ 0xB0000000 ∷ 0xC0000000 ∷
-    0x90010000 ∷ 0xA0010000 ∷ 0xB0010000 ∷ 0xC0010000 ∷ 0xD0010000 ∷ []
+    0x81000002 ∷ 0x90006200 ∷ 0xA0000000 ∷ 0xB0000000 ∷ 0xC0000000 ∷
+    0x90010000 ∷ 0xA0010000 ∷ 0xB0010000 ∷ 0xC0010000 ∷ 0xD0010000 ∷
+    0xE0000000 ∷ 0xE0010000 ∷ 0xE1000003 ∷ 0xE1010000 ∷ []
 
 pub read : List ℕ → Table → Loaded
-unfolding image placed Images.rowSlots Images.turnSlots Images.slots Images.spareBody Images.inRange Images.slotRefusal
-    Images.firstRefusal Images.rowsIn Images.imageRefusal Images.tableIn readIn
+unfolding image upTo placed readIn
 read ws l = readIn ws l
 
 -- the table in the first two rows, the third kept; one row too few; a cut image, for which no row suffices either
@@ -55,8 +55,7 @@ pub read-examples :
     ≡ record {
       answer = record { refusal = 0; place = 0; size = 2 };
       rows =
-          record { location = 30; act = 1; bb = 0; level = 0; est = 0; lis = 0; ahead = 0; turn = 0 } ∷
-          idle ∷ withAct 3 blank ∷ [];
+          withLocation 30 (withAct 1 idle) ∷ withPasses (3 ∷ replicate 15 0) idle ∷ withAct 3 blank ∷ [];
     })
     × (read image (take 1 old) ≡ unread (take 1 old) 13 0)
     × (read (take 9 image) [] ≡ unread [] 2 9)

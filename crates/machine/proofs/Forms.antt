@@ -26,7 +26,7 @@ use Rattle.machine.specs.Rows.{withLocation, withAct, withBb, withLevel,
 use Rattle.machine.specs.Tables.{Table, row, competitors}
 use Rattle.machine.specs.Steps.{entered, passed, looked, reconsidered, pushed, goRow, turned, forgets, flickered}
 use Rattle.machine.specs.Steps.{gone}
-use Rattle.machine.specs.System.{assigned, turnAssigned}
+use Rattle.machine.specs.System.{assigned, turnAssigned, exited}
 use Rattle.machine.specs.declared.Row.{Row}
 use Rattle.counting.proofs.TestLaws.{split}
 use Rattle.machine.proofs.TableLaws.{row-same, row-other, row-map, turn-same, turn-other, map-set}
@@ -158,7 +158,7 @@ gone-push t p l e =
 pub gone-exit : (t : Table) (p : ℕ)
     → p < length t
     → row t p .location ≡ 30
-    → gone t p ≡ assigned (map (λ r. withAhead (without (r .ahead) p) r) t) p (withLocation 40)
+    → gone t p ≡ assigned (map (exited p) t) p (withLocation 40)
 unfolding forgets
 gone-exit t p l e =
     gone-30 t p e

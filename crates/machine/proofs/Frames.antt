@@ -7,12 +7,12 @@
 use Prim.Native.Nat.{ℕ}
 use mathlib.Core.Path.{_≡_, refl, sym, _∙_, subst}
 use mathlib.Core.Logic.{_≢_}
-use mathlib.Core.List.{map}
+use mathlib.Core.List.{List, map}
 use lib.ListN.{set}
 use Rattle.counting.specs.Sets.{without}
-use Rattle.machine.specs.Rows.{withAhead, withTurn}
+use Rattle.machine.specs.Rows.{withAhead, withTurn, withPasses}
 use Rattle.machine.specs.Tables.{Table, row}
-use Rattle.machine.specs.System.{turnAssigned, Step}
+use Rattle.machine.specs.System.{turnAssigned, Step, exited}
 use Rattle.machine.specs.System.Step.{rests, comes, flickers-20, enters, starts-pass, wins, discards, keeps}
 use Rattle.machine.specs.System.Step.{ends-pass, lowers, to-push, waits, skips, flickers-24, pushes, exits}
 use Rattle.machine.specs.System.Step.{flickers-40, leaves, cancels}
@@ -32,7 +32,7 @@ pub record Untouched (r s : Row) : Type 0 where
 -- what a step at 24 and a step at 30 keep of another row, every step keeps
 module _ (P : Row → Type 0) (t : Table) (p q : ℕ) (ne : q ≢ p)
     (writes : row t p .location ≡ 24 → (v : ℕ) (r : Row) → P r → P (withTurn v r))
-    (removes : row t p .location ≡ 30 → (r : Row) → P r → P (withAhead (without (r .ahead) p) r))
+    (removes : row t p .location ≡ 30 → (r : Row) → P r → P (exited p r))
   where
     same : (v : Table) (r : Row) → P (row v q) → P (row (set v p r) q)
     same v r h = subst P (sym (row-other v p q r ne)) h
@@ -55,8 +55,7 @@ module _ (P : Row → Type 0) (t : Table) (p q : ℕ) (ne : q ≢ p)
     other-row (pushes e) h =
         same (turnAssigned t (row t p .level) p) _ (turn-free P t (row t p .level) p q (writes e p) h)
     other-row (exits e) h =
-        let f : Row → Row = λ r. withAhead (without (r .ahead) p) r in
-        same (map f t) _ (map-free P f t q (removes e) h)
+        same (map (exited p) t) _ (map-free P (exited p) t q (removes e) h)
     other-row (flickers-40 a e b) h = same t _ h
     other-row (leaves e) h = same t _ h
     other-row (cancels e) h = same t _ h
@@ -84,8 +83,8 @@ untouched-twice a b =
     }
 
 -- the same cells, by another row with the same cells
-again : {r s : Row} → Untouched r s → (v a : ℕ) → Untouched r (withTurn v (withAhead a s))
-again h v a =
+again : {r s : Row} → Untouched r s → (v a : ℕ) (l : List ℕ) → Untouched r (withTurn v (withAhead a (withPasses l s)))
+again h v a l =
     record {
       location-same = h .location-same;
       act-same = h .act-same;
@@ -98,6 +97,6 @@ again h v a =
 pub step-others : (t u : Table) (p q : ℕ) → Step t p u → q ≢ p → Untouched (row t q) (row u q)
 step-others t u p q x ne =
     other-row (Untouched (row t q)) t p q ne
-    (λ e v s h. again h v (s .ahead))
-    (λ e s h. again h (s .turn) (without (s .ahead) p))
+    (λ e v s h. again h v (s .ahead) (s .passes))
+    (λ e s h. again h (s .turn) (without (s .ahead) p) (set (s .passes) p 0))
     x (untouched (row t q))

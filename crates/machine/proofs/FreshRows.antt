@@ -1,6 +1,6 @@
 -- A fresh table row by row, as plain facts.
 --
---   Resting r      <=>  the process of r does not compete, and has act 0, bb 0 and nobody ahead.
+--   Resting r      <=>  the process of r does not compete, and has act 0, bb 0, nobody ahead and no passes.
 --   fresh-sound    a fresh table is sound
 --   fresh-at-10    each of its processes is at 10
 --   fresh-rests    every row of it rests, and so do those past its end
@@ -13,18 +13,20 @@ use mathlib.Core.List.{[], _∷_}
 use native.Mathlib.Decide.{decLt}
 use native.Mathlib.Omega.{arith}
 use lib.Dec.{eqb}
-use lib.ListN.{length}
+use lib.ListN.{length, getD, getD-replicate}
 use borrow.Author.Tests.{eqb-true}
-use Rattle.machine.specs.Tables.{Table, row, sound, resting, allResting, fresh, competes}
+use Rattle.machine.specs.Tables.{Table, row, sound, clear, resting, allResting, fresh, competes}
 use Rattle.machine.specs.declared.Row.{Row}
 use Rattle.machine.proofs.TableLaws.{row-over}
 use Rattle.machine.proofs.Assignments.{competes-at}
+use Rattle.machine.proofs.PassLaws.{clear-none}
 
 pub record Resting (r : Row) : Type 0 where
   pub idle-now : competes r ≡ false
   pub no-act : r .act ≡ 0
   pub no-bb : r .bb ≡ 0
   pub none-ahead : r .ahead ≡ 0
+  pub none-passed : (i : ℕ) → i < 16 → getD (r .passes) i 0 ≡ 0
 
 -- the test of a row that rests, as facts
 rests-of-test : (r : Row) → resting r ≡ true → (r .location ≡ 10) × Resting r
@@ -33,7 +35,8 @@ rests-of-test r h =
     let b : Bool = eqb (r .act) 0 in
     let c : Bool = eqb (r .bb) 0 in
     let d : Bool = eqb (r .ahead) 0 in
-    let abc = and-eq-true-iff (a && b && c) d .0 h in
+    let abcd = and-eq-true-iff (a && b && c && d) (clear (r .passes)) .0 h in
+    let abc = and-eq-true-iff (a && b && c) d .0 (abcd .0) in
     let ab = and-eq-true-iff (a && b) c .0 (abc .0) in
     let at : r .location ≡ 10 = eqb-true _ _ (and-eq-true-iff a b .0 (ab .0) .0) in (
       at,
@@ -42,6 +45,7 @@ rests-of-test r h =
         no-act = eqb-true _ _ (and-eq-true-iff a b .0 (ab .0) .1);
         no-bb = eqb-true _ _ (ab .1);
         none-ahead = eqb-true _ _ (abc .1);
+        none-passed = clear-none (r .passes) (abcd .1);
       },
     )
 
@@ -71,4 +75,10 @@ module _ (t : Table) (h : fresh t ≡ true) where
       go (yes l) = rests-within q l .1
       go (no nl) =
           subst Resting (sym (row-over t q (omega (arith, nl))))
-          (record { idle-now = refl; no-act = refl; no-bb = refl; none-ahead = refl })
+          (record {
+            idle-now = refl;
+            no-act = refl;
+            no-bb = refl;
+            none-ahead = refl;
+            none-passed = λ i k. getD-replicate 16 i 0 0 k;
+          })

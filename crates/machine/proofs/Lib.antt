@@ -3,6 +3,7 @@ pub mod OneOfLaws
 pub mod KindLaws
 pub mod TableLaws
 pub mod LevelLaws
+pub mod PassLaws
 pub mod SoundRows
 pub mod Forms
 pub mod Accepted
@@ -19,9 +20,11 @@ pub mod Choices
 pub mod OneWord
 pub mod SameOutcome
 pub mod RoundLaws
+pub mod FullLaws
 pub mod RoundAnswers
 pub mod OwnMoves
 pub mod Arriving
+pub mod BrokenRounds
 pub mod AnswerLaws
 pub mod RunLaws
 pub mod InputLaws
@@ -38,5 +41,7 @@ pub mod ExportExamples
 pub mod CensusExamples
 pub mod CarriedExamples
 pub mod CellExamples
+pub mod PassExamples
+pub mod ImageExamples
 pub mod RoundExamples
 pub mod WholeText

@@ -1,6 +1,7 @@
 -- Laws of the answer of rounds, case by case.
 --
---   from-used, from-here, from-next             no round is left; somebody is at 30; one round more
+--   from-used, from-here                        no round is left; somebody is at 30
+--   from-next, from-broken                      one round more; a word of it is refused
 --   rounds-refused, rounds-none, rounds-some    a refused table, one with nobody at 20 to 24, and the others
 --
 -- Assumes nothing.
@@ -13,27 +14,46 @@ use lib.ListN.{length}
 use borrow.Author.Tests.{eq-eqb, ne-eqb, lt-ltb}
 use Rattle.machine.specs.Tables.{Table, tableRefusal}
 use Rattle.machine.specs.Census.{critical}
-use Rattle.machine.specs.Rounds.{round, roundLimit, pending, Rounded, rounded, unrounded, roundsFrom, roundsOf}
+use Rattle.machine.specs.Rounds.{Went, roundOn, roundLimit, pending, Rounded, rounded, unrounded, broken}
+use Rattle.machine.specs.Rounds.{roundsFrom, roundsOf}
 
 pub from-used : (r : ℕ) (t : Table) → roundsFrom 0 r t ≡ rounded r t
 unfolding roundsFrom
 from-used r t = refl
 
 module _ (b r : ℕ) (t : Table) where
+  -- how far the words of the next round go
+  abbrev w : Went
+  w = roundOn t 0 (length t)
+
+  unfoldable more : Bool → Rounded
+  more a = elim a [ true ↦ roundsFrom b (suc r) (w .table) | false ↦ broken (w .refusal) r (w .table) ]
+
   unfoldable next : Bool → Rounded
-  next c = elim c [ true ↦ rounded r t | false ↦ roundsFrom b (suc r) (round t) ]
+  unfolding more
+  next c = elim c [ true ↦ rounded r t | false ↦ more (eqb (w .refusal) 0) ]
 
   next-is : roundsFrom (suc b) r t ≡ next (ltb 0 (critical t))
-  unfolding roundsFrom next
+  unfolding roundsFrom next more
   next-is = refl
-
-  pub from-next : critical t ≡ 0 → roundsFrom (suc b) r t ≡ roundsFrom b (suc r) (round t)
-  unfolding next
-  from-next z = next-is ∙ ap (λ (k : ℕ). next (ltb 0 k)) z
 
   pub from-here : (critical t ≡ 0 → ⊥) → roundsFrom (suc b) r t ≡ rounded r t
   unfolding next
   from-here n = next-is ∙ ap next (lt-ltb 0 (critical t) (omega (arith, n)))
+
+  free : critical t ≡ 0 → roundsFrom (suc b) r t ≡ more (eqb (w .refusal) 0)
+  unfolding next
+  free z = next-is ∙ ap (λ (k : ℕ). next (ltb 0 k)) z
+
+  pub from-next : critical t ≡ 0 → w .refusal ≡ 0 → roundsFrom (suc b) r t ≡ roundsFrom b (suc r) (w .table)
+  unfolding more
+  from-next z e = free z ∙ ap more (eq-eqb _ _ e)
+
+  pub from-broken : critical t ≡ 0
+      → (w .refusal ≡ 0 → ⊥)
+      → roundsFrom (suc b) r t ≡ broken (w .refusal) r (w .table)
+  unfolding more
+  from-broken z n = free z ∙ ap more (ne-eqb _ _ n)
 
 module _ (t : Table) where
   unfoldable some : Bool → Rounded

@@ -1,16 +1,19 @@
--- Rounds, evaluated: the word of each location, the order within a round, what rounds answer, and a sound table that no
--- list of words makes, from which nobody comes to 30. Assumes nothing.
+-- Rounds, evaluated: the word of each location, the order within a round, what rounds answer, also where a word meets
+-- 15, and a sound table that no list of words makes, from which nobody comes to 30. Assumes nothing.
 use Prim.Native.Nat.{ℕ}
 use mathlib.Core.Path.{_≡_, refl}
 use mathlib.Core.Bool.{true}
 use mathlib.Core.List.{List, [], _∷_, map}
+use lib.ListN.{replicate}
 use Rattle.counting.specs.Sets.{lowest, lowestFrom}
-use Rattle.machine.specs.Rows.{idle, withLocation, withAct, withBb, withLevel, withEst, withLis}
+use Rattle.counting.specs.Ranges.{upTo}
+use Rattle.machine.specs.Rows.{idle, withLocation, withAct, withBb, withLevel, withEst, withLis, withPasses}
 use Rattle.machine.specs.Tables.{Table, locations, sound, freshTable}
 use Rattle.machine.specs.Steps.{afterWords}
-use Rattle.machine.specs.Census.{critical, upTo}
-use Rattle.machine.specs.Rounds.{roundWord, roundTo, round, pending, roundLimit, silenceBound, allCome}
+use Rattle.machine.specs.Census.{critical}
+use Rattle.machine.specs.Rounds.{roundWord, roundTo, round, rounds, pending, roundLimit, silenceBound, allCome}
 use Rattle.machine.specs.Rounds.{Rounded, roundsFrom, roundsOf}
+use Rattle.machine.specs.declared.Row.{Row}
 use Rattle.machine.specs.declared.RoundsAnswer.{RoundsAnswer}
 use Rattle.machine.proofs.Benchmarks.{evaluated}
 
@@ -99,6 +102,57 @@ pub rounds-refused :
     × (roundsOf (withLocation 20 (withAct 2 idle) ∷ idle ∷ []) .table ≡ withLocation 20 (withAct 2 idle) ∷ idle ∷ [])
 unfolding completed
 rounds-refused = (refl, refl, refl, refl, refl)
+
+-- ---- a word that meets 15
+
+-- sixteen counts: k over process 0 and none over the others
+abbrev overZero : ℕ → List ℕ
+overZero k = k ∷ replicate 15 0
+
+-- at 20, with that count over process 0
+abbrev entering : ℕ → Row
+entering k = withLocation 20 (withPasses (overZero k) idle)
+
+-- process 0 goes from 20, process 1 is at the limit over it and meets 15, process 2 is given no word, though its own
+-- would be accepted: the word of process 0 is kept, no round is counted, nobody is at 30
+pub round-broken :
+    (roundsOf (entering 0 ∷ entering 65535 ∷ withLocation 40 idle ∷ []) .answer ≡ answers 15 0 0)
+    × (locationsOf (roundsOf (entering 0 ∷ entering 65535 ∷ withLocation 40 idle ∷ []) .table) ≡ 21 ∷ 20 ∷ 40 ∷ [])
+    × (map (λ r. r .passes) (roundsOf (entering 0 ∷ entering 65535 ∷ []) .table) ≡ overZero 0 ∷ overZero 65535 ∷ [])
+unfolding locationsOf completed
+round-broken = (refl, refl, refl)
+
+-- process 0 comes to 30 in the round that is broken, which is told; it counts as competing there
+pub occupied-when-broken :
+    (roundsOf (withLocation 21 (withAct 1 idle) ∷ entering 65535 ∷ []) .answer ≡ answers 15 0 1)
+    × (locationsOf (roundsOf (withLocation 21 (withAct 1 idle) ∷ entering 65535 ∷ []) .table) ≡ 30 ∷ 20 ∷ [])
+unfolding locationsOf completed
+occupied-when-broken = (refl, refl)
+
+-- one below the limit there is room, and so there is at the limit over a process that does not compete; where somebody
+-- is at 30 beforehand, no word is given
+pub not-broken :
+    (roundsOf (withLocation 21 (withAct 1 idle) ∷ entering 65534 ∷ []) .answer ≡ answers 0 1 1)
+    × (map (λ r. r .passes) (roundsOf (withLocation 21 (withAct 1 idle) ∷ entering 65534 ∷ []) .table)
+    ≡ overZero 0 ∷ overZero 65535 ∷ [])
+    × (roundsOf (idle ∷ entering 65535 ∷ []) .answer ≡ answers 0 6 1)
+    × (roundsOf (withLocation 30 (withAct 1 idle) ∷ entering 65535 ∷ []) .answer ≡ answers 0 0 1)
+unfolding completed
+not-broken = (refl, refl, refl, refl)
+
+-- process 1 is at 20 and shows act after a FLICKER, and process 0 waits for it
+abbrev waitedFor : Table
+waitedFor =
+    withLocation 21 (withAct 1 (withBb 1 (withLevel 1 (withEst 2 idle)))) ∷ withAct 1 (entering 65535) ∷ []
+
+-- if rounds went on past the word that meets 15, nobody would ever come to 30: that the first round is unbroken is
+-- needed
+pub broken-rounds-end-nothing :
+    (map (λ r. critical (rounds r waitedFor)) (0 ∷ 1 ∷ 2 ∷ 3 ∷ []) ≡ 0 ∷ 0 ∷ 0 ∷ 0 ∷ [])
+    × (rounds 4 waitedFor ≡ waitedFor)
+    × (roundsOf waitedFor .answer ≡ answers 15 0 0)
+unfolding completed rounds
+broken-rounds-end-nothing = (refl, refl, refl)
 
 -- ---- the longest silence
 

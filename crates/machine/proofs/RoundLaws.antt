@@ -1,21 +1,22 @@
--- Laws of rounds: the word that a round gives is accepted, and what it does to the table.
+-- Laws of rounds: the word that a round gives is accepted, or meets 15, and what it does to the table.
 --
 --   Move t p u          <=>  the word that a round gives process p makes u of t: a step of System.antt that neither
 --                            comes, flickers nor cancels, and of the looks the one at the lowest member of lis.
 --   move-step                a move is a step
---   process-moves-on         every process of a sound table has a move, and the word of the round makes it
---   round-word-accepted      so the word is accepted
+--   round-word-answered      the word is accepted, or is a GO at 20 that meets 15
+--   has-step, process-moves-on   every process of a sound table has a move, and the word of the round makes it where
+--                            it is accepted
 --   one-move                 and it has no other move
---   by-moves                 what each move makes of what held before it, a round makes
+--   by-moves                 what each move makes of what held before it, an unbroken round makes
 --   round-sound, round-length    a round keeps a table sound and its number of processes
 --   rounds-zero, rounds-suc      no round, and one round before the others
 --
 -- Assumes nothing.
 use Prim.Native.Nat.{ℕ, zero, suc, _-_, _^_, _≤_, _<_}
-use mathlib.Core.Path.{_≡_, refl, sym, ap, _∙_, subst}
+use mathlib.Core.Path.{_≡_, refl, sym, ap, ap₂, _∙_, subst}
 use mathlib.Core.Bool.{Bool, true, false, cond, _&&_, not, false≢true}
 use mathlib.Core.List.{map}
-use mathlib.Core.Logic.{_≢_}
+use mathlib.Core.Logic.{_≢_, _⊎_, inl, inr, ⊎-elim, by-cases}
 use native.Mathlib.Decide.{ℕ-discrete, decLt}
 use native.Mathlib.Nat.{lt-of-lt-of-le}
 use native.Mathlib.Omega.{arith}
@@ -26,16 +27,18 @@ use borrow.Author.Tests.{ne-eqb}
 use Rattle.counting.specs.Sets.{has, size, without, others, lowest}
 use Rattle.counting.proofs.SetLaws.{has-zero}
 use Rattle.counting.proofs.LowestLaws.{lowest-member}
-use Rattle.machine.specs.Rows.{withLocation, withAct, withBb, withLevel, withEst, withLis, withAhead}
+use Rattle.machine.specs.Rows.{withLocation, withAct, withBb, withLevel, withEst, withLis, withAhead, withPasses}
 use Rattle.machine.specs.Tables.{Table, row, locations, tableRefusal}
-use Rattle.machine.specs.Words.{STAY, GO, LOOK, wordOf}
-use Rattle.machine.specs.Steps.{refusalOf, afterWord}
-use Rattle.machine.specs.Rounds.{roundWord, roundTo, round, rounds}
-use Rattle.machine.specs.System.{assigned, turnAssigned, Cp, Step, stepWord}
+use Rattle.machine.specs.Words.{STAY, GO, LOOK, processOf, wordOf}
+use Rattle.machine.specs.Steps.{overflows, refusalOf, afterWord}
+use Rattle.machine.specs.Rounds.{roundWord, roundTo, round, rounds, Unbroken}
+use Rattle.machine.specs.System.{assigned, turnAssigned, Cp, incremented, exited, Step, stepWord}
 use Rattle.machine.proofs.OneOfLaws.{by-one}
-use Rattle.machine.proofs.OneWord.{one-word}
+use Rattle.machine.proofs.WordLaws.{kind-wordOf, process-wordOf}
+use Rattle.machine.proofs.Accepted.{accepted-says}
+use Rattle.machine.proofs.OneWord.{one-room, one-word}
 use Rattle.machine.proofs.SoundRows.{sound-row, sound-few, accepted-sound}
-use Rattle.machine.proofs.Soundness.{word-keeps-sound, word-keeps-length}
+use Rattle.machine.proofs.Soundness.{Room, fits-room, word-keeps-sound, word-keeps-length}
 
 pub data Move (t : Table) (p : ℕ) : Table → Type 0 where
   rests : row t p .location ≡ 10 → Move t p t
@@ -44,7 +47,9 @@ pub data Move (t : Table) (p : ℕ) : Table → Type 0 where
       → Move t p
       (assigned t p
       (λ r.
-      withLocation 21 (withEst (others (length t) p) (withLevel (length t - 1) (withAct 1 (withAhead (Cp t) r))))))
+      withLocation 21
+      (withEst (others (length t) p)
+      (withLevel (length t - 1) (withAct 1 (withAhead (Cp t) (withPasses (incremented (Cp t) (r .passes)) r)))))))
   starts-pass :
       row t p .location ≡ 21 → 0 < row t p .level
       → Move t p (assigned t p (λ r. withLocation 22 (withLis (r .est) r)))
@@ -81,7 +86,7 @@ pub data Move (t : Table) (p : ℕ) : Table → Type 0 where
       (λ r. withLocation 21 (withAhead (without (Cp t) p) (withEst (others (length t) p) (withBb 1 r)))))
   exits :
       row t p .location ≡ 30
-      → Move t p (assigned (map (λ r. withAhead (without (r .ahead) p) r) t) p (withLocation 40))
+      → Move t p (assigned (map (exited p) t) p (withLocation 40))
   leaves : row t p .location ≡ 40 → Move t p (assigned t p (λ r. withLocation 10 (withAct 0 r)))
 
 -- ---- a move is a step, and its word is that of the round
@@ -192,27 +197,77 @@ module _ (t : Table) (p : ℕ) where
       )
       (s .location-known)
 
+  -- at 20 the word is GO
+  enters-by-go : row t p .location ≡ 20 → roundWord t p ≡ wordOf GO p 0
+  enters-by-go e = word-at t p 20 e
+
+  -- the room of a word of the round that is accepted
+  round-room : tableRefusal t ≡ 0 → p < length t → refusalOf t (roundWord t p) ≡ 0 → row t p .location ≡ 20 → Room t p
+  round-room z l ok e =
+      let few = sound-few t z in
+      let s = accepted-says t (wordOf GO p 0) (sym (ap (refusalOf t) (enters-by-go e)) ∙ ok) in
+      let ik = kind-wordOf GO p 0 (omega arith) (omega arith) in
+      let ip = process-wordOf GO p 0 (omega arith) (omega arith) in
+      fits-room t p (sym (ap₂ (λ (k q : ℕ). overflows t k q) ik ip) ∙ s .passes-fit) e
+
   pub process-moves-on : tableRefusal t ≡ 0
       → p < length t
-      → (refusalOf t (roundWord t p) ≡ 0) × Move t p (afterWord t (roundWord t p))
-  process-moves-on z l =
+      → refusalOf t (roundWord t p) ≡ 0
+      → Move t p (afterWord t (roundWord t p))
+  process-moves-on z l ok =
       let m = some-move z l in
-      let o = one-word t (m .0) p (accepted-sound t z) l (move-step (m .1)) in
-      let w = move-word t p (m .1) in (
-        ap (refusalOf t) w ∙ o .1,
-        subst (Move t p) (sym (ap (afterWord t) w ∙ o .2)) (m .1),
-      )
+      let o = one-room t (m .0) p z l (move-step (m .1)) (λ e f. round-room z l ok e) in
+      let w = move-word t p (m .1) in
+      subst (Move t p) (sym (ap (afterWord t) w ∙ o .2)) (m .1)
 
--- The word that a round gives is accepted, from every sound table.
-pub round-word-accepted : (t : Table) (p : ℕ) → tableRefusal t ≡ 0 → p < length t → refusalOf t (roundWord t p) ≡ 0
-round-word-accepted t p z l = process-moves-on t p z l .0
+  -- every process of a sound table has a step
+  pub has-step : tableRefusal t ≡ 0 → p < length t → (u : Table) × Step t p u
+  has-step z l = let m = some-move z l in (m .0, move-step (m .1))
 
--- A process has one move: each is what the word of the round makes.
-pub one-move : {t u w : Table} {p : ℕ} → tableRefusal t ≡ 0 → p < length t → Move t p u → Move t p w → u ≡ w
-one-move {t} {u} {w} {p} z l m o = sym (made u m) ∙ made w o
+-- The word that a round gives is accepted, from every sound table, or it is GO at 20 and meets 15.
+pub round-word-answered : (t : Table) (p : ℕ)
+    → tableRefusal t ≡ 0
+    → p < length t
+    → (refusalOf t (roundWord t p) ≡ 0) ⊎ ((row t p .location ≡ 20) × (refusalOf t (roundWord t p) ≡ 15))
+round-word-answered t p z l =
+    let m = some-move t p z l in
+    let w = move-word t p (m .1) in
+    by-cases (ℕ-discrete (row t p .location) 20)
+    (λ e.
+    ⊎-elim (λ o. inl (ap (refusalOf t) w ∙ o .1)) (λ o. inr (e, ap (refusalOf t) w ∙ o .1))
+    (one-word t (m .0) p (accepted-sound t z) l (move-step (m .1))))
+    (λ ne.
+    inl (ap (refusalOf t) w ∙ one-room t (m .0) p z l (move-step (m .1)) (λ e f. absurd (ne e)) .1))
+
+-- it is a word of that process
+pub round-word-process : (t : Table) (p : ℕ) → tableRefusal t ≡ 0 → p < length t → processOf (roundWord t p) ≡ p
+round-word-process t p z l =
+    let m = some-move t p z l in
+    ap processOf (move-word t p (m .1))
+    ∙ ⊎-elim (λ o. o .0) (λ o. o .0) (one-word t (m .0) p (accepted-sound t z) l (move-step (m .1)))
+
+-- so away from 20 it is accepted
+pub round-word-accepted : (t : Table) (p : ℕ)
+    → tableRefusal t ≡ 0
+    → p < length t
+    → row t p .location ≢ 20
+    → refusalOf t (roundWord t p) ≡ 0
+round-word-accepted t p z l ne = ⊎-elim (λ o. o) (λ o. absurd (ne (o .0))) (round-word-answered t p z l)
+
+-- A process whose word is accepted has one move: each is what the word of the round makes.
+pub one-move : {t u w : Table} {p : ℕ}
+    → tableRefusal t ≡ 0
+    → p < length t
+    → refusalOf t (roundWord t p) ≡ 0
+    → Move t p u
+    → Move t p w
+    → u ≡ w
+one-move {t} {u} {w} {p} z l ok m o = sym (made u m) ∙ made w o
   where
     made : (u : Table) → Move t p u → afterWord t (roundWord t p) ≡ u
-    made u m = ap (afterWord t) (move-word t p m) ∙ one-word t u p (accepted-sound t z) l (move-step m) .2
+    made u m =
+        ap (afterWord t) (move-word t p m)
+        ∙ one-room t u p z l (move-step m) (λ e f. round-room t p z l ok e) .2
 
 -- ---- one round
 
@@ -235,12 +290,14 @@ module _ (t : Table) where
   unfolding round
   round-sound z = roundTo-sound z (length t)
 
-  -- P p v says what holds after the words of the processes below p
-  module _ (P : ℕ → Table → Type 0) (z : tableRefusal t ≡ 0)
+  -- P p v says what holds after the words of the processes below p, none of which is refused
+  module _ (P : ℕ → Table → Type 0) (z : tableRefusal t ≡ 0) (unbroken : Unbroken t)
       (each : (p : ℕ) (v u : Table)
       → p < length t
       → length v ≡ length t
       → tableRefusal v ≡ 0
+      → tableRefusal u ≡ 0
+      → refusalOf v (roundWord v p) ≡ 0
       → Move v p u
       → P p v
       → P (suc p) u)
@@ -251,8 +308,10 @@ module _ (t : Table) where
       to-moves h (suc p) l =
           let v = roundTo t p in
           let in-v : p < length v = omega (arith, roundTo-length p) in
-          let m = process-moves-on v p (roundTo-sound z p) in-v .1 in
-          each p v _ (omega arith) (roundTo-length p) (roundTo-sound z p) m (to-moves h p (omega arith))
+          let ok = unbroken p (omega arith) in
+          let m = process-moves-on v p (roundTo-sound z p) in-v ok in
+          each p v _ (omega arith) (roundTo-length p) (roundTo-sound z p) (roundTo-sound z (suc p)) ok m
+          (to-moves h p (omega arith))
 
       pub by-moves : P 0 t → P (length t) (round t)
       unfolding round

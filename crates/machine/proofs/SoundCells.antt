@@ -8,7 +8,7 @@
 use Prim.Native.Nat.{ℕ, _^_, _≤_, _<_}
 use mathlib.Core.Path.{_≡_, sym, ap, _∙_, subst}
 use mathlib.Core.Bool.{Bool, true, _&&_, not}
-use mathlib.Core.List.{map}
+use mathlib.Core.List.{List, map}
 use native.Mathlib.Decide.{decLt}
 use native.Mathlib.Nat.{lt-of-lt-of-le}
 use native.Mathlib.Omega.{arith}
@@ -18,10 +18,12 @@ use lib.Pow.{pow-mono}
 use Rattle.counting.specs.Sets.{has, setOf, without}
 use Rattle.counting.proofs.SetLaws.{setOf-lt, has-setOf, has-over, has-without, without-lt, set-ext}
 use Rattle.machine.specs.Rows.{withLocation, withAct, withBb, withLevel, withEst, withLis, withAhead, withTurn}
+use Rattle.machine.specs.Rows.{withPasses}
 use Rattle.machine.specs.Tables.{Table, row, oneOf, locations}
 use Rattle.machine.specs.System.{turnAssigned}
 use Rattle.machine.specs.declared.Row.{Row}
 use Rattle.machine.proofs.TableLaws.{row-cases, row-map}
+use Rattle.machine.proofs.PassLaws.{SoundPasses}
 use Rattle.machine.proofs.SoundRows.{SoundRow}
 
 -- ---- sound rows with cells changed
@@ -65,6 +67,7 @@ module _ {n q : ℕ} {r : Row} (s : SoundRow n q r) where
         turn-none = s .turn-none;
         level-some = some;
         level-none = none;
+        passes-fit = s .passes-fit;
       }
 
   -- other cells
@@ -88,6 +91,7 @@ module _ {n q : ℕ} {r : Row} (s : SoundRow n q r) where
         turn-none = s .turn-none;
         level-some = s .level-some;
         level-none = s .level-none;
+        passes-fit = s .passes-fit;
       }
 
   pub sound-turn : (v : ℕ) → v < n → (q ≡ 0 → v ≡ 0) → SoundRow n q (withTurn v r)
@@ -104,6 +108,7 @@ module _ {n q : ℕ} {r : Row} (s : SoundRow n q r) where
         turn-none = none;
         level-some = s .level-some;
         level-none = s .level-none;
+        passes-fit = s .passes-fit;
       }
 
   pub sound-act : (a : ℕ) → a < 2 → SoundRow n q (withAct a r)
@@ -125,6 +130,23 @@ module _ {n q : ℕ} {r : Row} (s : SoundRow n q r) where
   pub sound-ahead : (h : ℕ) → h < 2 ^ n → SoundRow n q (withAhead h r)
   sound-ahead h l =
       sound-cells (r .act) (r .bb) (r .est) (r .lis) h (s .act-low) (s .bb-low) (s .est-low) (s .lis-low) l
+
+  pub sound-passes : (l : List ℕ) → SoundPasses n q l → SoundRow n q (withPasses l r)
+  sound-passes l h =
+      record {
+        location-known = s .location-known;
+        act-low = s .act-low;
+        bb-low = s .bb-low;
+        level-low = s .level-low;
+        est-low = s .est-low;
+        lis-low = s .lis-low;
+        ahead-low = s .ahead-low;
+        turn-low = s .turn-low;
+        turn-none = s .turn-none;
+        level-some = s .level-some;
+        level-none = s .level-none;
+        passes-fit = h;
+      }
 
 -- ---- tables of sound rows
 

@@ -13,10 +13,12 @@ use native.Mathlib.Omega.{arith}
 use lib.Dec.{eqb, leb, ltb}
 use lib.ListN.{length}
 use borrow.Author.Tests.{eqb-true, leb-true, ltb-true, eq-eqb, le-leb, lt-ltb}
-use Rattle.machine.specs.Tables.{Table, row, oneOf, locations, levelFits, soundRow, soundFrom, sizeFits, sound}
+use Rattle.machine.specs.Tables.{Table, row, oneOf, locations, levelFits, soundPasses, soundRow, soundFrom}
+use Rattle.machine.specs.Tables.{sizeFits, sound}
 use Rattle.machine.specs.Tables.{tableRefusal}
 use Rattle.machine.specs.declared.Row.{Row}
 use Rattle.machine.proofs.LevelLaws.{fits-true, fits-some, fits-none}
+use Rattle.machine.proofs.PassLaws.{SoundPasses, passes-facts, passes-true}
 use Rattle.counting.proofs.TestLaws.{implied, implies, cond-zero}
 
 pub record SoundRow (n q : ℕ) (r : Row) : Type 0 where
@@ -31,6 +33,7 @@ pub record SoundRow (n q : ℕ) (r : Row) : Type 0 where
   pub turn-none : q ≡ 0 → r .turn ≡ 0
   pub level-some : 22 ≤ r .location → r .location ≤ 24 → 0 < r .level
   pub level-none : r .location ≡ 30 → r .level ≡ 0
+  pub passes-fit : SoundPasses n q (r .passes)
 
 -- ---- one row
 
@@ -69,9 +72,13 @@ module _ (n q : ℕ) (r : Row) where
   abbrev b9 : Bool
   b9 = b8 && turnFits
 
+  abbrev b10 : Bool
+  b10 = b9 && fits
+
   pub soundRow-facts : soundRow n q r ≡ true → SoundRow n q r
   soundRow-facts h =
-      let p9 = and-eq-true-iff b9 fits .0 h in
+      let p10 = and-eq-true-iff b10 (soundPasses n q (r .passes)) .0 h in
+      let p9 = and-eq-true-iff b9 fits .0 (p10 .0) in
       let p8 = and-eq-true-iff b8 turnFits .0 (p9 .0) in
       let p7 = and-eq-true-iff b7 (ltb (r .turn) n) .0 (p8 .0) in
       let p6 = and-eq-true-iff b6 (ltb (r .ahead) (2 ^ n)) .0 (p7 .0) in
@@ -92,6 +99,7 @@ module _ (n q : ℕ) (r : Row) where
         turn-none = λ e. eqb-true _ _ (implied (eqb q 0) (eqb (r .turn) 0) (p8 .1) (eq-eqb q 0 e));
         level-some = fits-some (r .location) (r .level) (p9 .1);
         level-none = fits-none (r .location) (r .level) (p9 .1);
+        passes-fit = passes-facts n q (r .passes) (p10 .1);
       }
 
   pub soundRow-true : SoundRow n q r → soundRow n q r ≡ true
@@ -105,7 +113,9 @@ module _ (n q : ℕ) (r : Row) where
       let h8 = and-eq-true-iff b7 (ltb (r .turn) n) .1 (h7, lt-ltb _ _ (s .turn-low)) in
       let turn = implies (eqb q 0) (eqb (r .turn) 0) (λ e. eq-eqb _ _ (s .turn-none (eqb-true _ _ e))) in
       let h9 = and-eq-true-iff b8 turnFits .1 (h8, turn) in
-      and-eq-true-iff b9 fits .1 (h9, fits-true (r .location) (r .level) (s .level-some) (s .level-none))
+      let h10 = and-eq-true-iff b9 fits .1
+      (h9, fits-true (r .location) (r .level) (s .level-some) (s .level-none)) in
+      and-eq-true-iff b10 (soundPasses n q (r .passes)) .1 (h10, passes-true n q (r .passes) (s .passes-fit))
 
 -- ---- all rows
 

@@ -9,26 +9,32 @@
 --
 -- Assumes nothing.
 use Prim.Native.Nat.{ℕ, _-_, _<_}
-use mathlib.Core.Path.{_≡_, refl, ap}
+use mathlib.Core.Path.{_≡_, refl, ap₂}
+use mathlib.Core.List.{List}
 use native.Mathlib.Omega.{arith}
-use lib.ListN.{length}
+use lib.ListN.{length, set}
 use Rattle.counting.specs.Sets.{size, without, others}
 use Rattle.counting.proofs.SetLaws.{has-zero, without-none}
 use Rattle.machine.specs.Rows.{blank, withLocation, withAct, withBb, withLevel, withEst, withLis, withAhead}
+use Rattle.machine.specs.Rows.{withPasses}
 use Rattle.machine.specs.Tables.{Table, row}
-use Rattle.machine.specs.System.{Cp, Step}
+use Rattle.machine.specs.System.{Cp, incremented, exited, Step}
 use Rattle.machine.specs.System.Step.{rests, comes, flickers-20, enters, starts-pass, wins, discards, keeps}
 use Rattle.machine.specs.System.Step.{ends-pass, lowers, to-push, waits, skips, flickers-24, pushes, exits}
 use Rattle.machine.specs.System.Step.{flickers-40, leaves, cancels}
 use Rattle.machine.specs.declared.Row.{Row}
 use Rattle.machine.proofs.Assignments.{bare, Becomes, set-becomes, turn-becomes, turn-set-becomes, map-becomes}
 use Rattle.machine.proofs.Assignments.{other-rows-keep}
+use Rattle.machine.proofs.PassLaws.{none-cleared}
 
 -- ---- the rows after some of the alternatives
 
 abbrev pub enteredRow : Table → ℕ → Row
 enteredRow t p =
-    withLocation 21 (withEst (others (length t) p) (withLevel (length t - 1) (withAct 1 (withAhead (Cp t) (row t p)))))
+    withLocation 21
+    (withEst (others (length t) p)
+    (withLevel (length t - 1)
+    (withAct 1 (withAhead (Cp t) (withPasses (incremented (Cp t) (row t p .passes)) (row t p))))))
 
 -- to 21 with level v and bb 0
 abbrev pub loweredRow : ℕ → Row → Row
@@ -36,10 +42,6 @@ loweredRow v r = withLocation 21 (withBb 0 (withLevel v r))
 
 abbrev pub pushedRow : Table → ℕ → Row → Row
 pushedRow t p r = withLocation 21 (withAhead (without (Cp t) p) (withEst (others (length t) p) (withBb 1 r)))
-
--- p leaves ahead
-abbrev pub forgotten : ℕ → Row → Row
-forgotten p r = withAhead (without (r .ahead) p) r
 
 -- ---- the rows after each of them
 
@@ -60,7 +62,7 @@ module _ (t : Table) (p : ℕ) where
   stepRow (skips e h b v) = withLocation 21 (row t p)
   stepRow (flickers-24 a e h) = row t p
   stepRow (pushes e) = pushedRow t p (row t p)
-  stepRow (exits e) = withLocation 40 (forgotten p (row t p))
+  stepRow (exits e) = withLocation 40 (exited p (row t p))
   stepRow (flickers-40 a e h) = withAct a (row t p)
   stepRow (leaves e) = withLocation 10 (withAct 0 (row t p))
   stepRow (cancels e) = withLocation 40 (row t p)
@@ -86,8 +88,29 @@ module _ (t : Table) (p : ℕ) where
   stepAhead (leaves e) s = s
   stepAhead (cancels e) s = s
 
+  abbrev pub stepPasses : {u : Table} → Step t p u → List ℕ → List ℕ
+  stepPasses (rests e) l = l
+  stepPasses (comes e) l = l
+  stepPasses (flickers-20 a e h) l = l
+  stepPasses (enters e) l = l
+  stepPasses (starts-pass e h) l = l
+  stepPasses (wins e h) l = l
+  stepPasses (discards q e h a) l = l
+  stepPasses (keeps q e h a) l = l
+  stepPasses (ends-pass e h) l = l
+  stepPasses (lowers e h) l = l
+  stepPasses (to-push e h b) l = l
+  stepPasses (waits e h b v) l = l
+  stepPasses (skips e h b v) l = l
+  stepPasses (flickers-24 a e h) l = l
+  stepPasses (pushes e) l = l
+  stepPasses (exits e) l = set l p 0
+  stepPasses (flickers-40 a e h) l = l
+  stepPasses (leaves e) l = l
+  stepPasses (cancels e) l = l
+
   abbrev pub stepOther : {u : Table} → Step t p u → Row → Row
-  stepOther x r = withAhead (stepAhead x (r .ahead)) r
+  stepOther x r = withAhead (stepAhead x (r .ahead)) (withPasses (stepPasses x (r .passes)) r)
 
   module _ (l : p < length t) (i : row t p .level < length t) where
     pub step-becomes : {u : Table} (x : Step t p u) → Becomes t p (stepOther x) (stepRow x) u
@@ -108,8 +131,9 @@ module _ (t : Table) (p : ℕ) where
     step-becomes (pushes e) =
         turn-set-becomes t (row t p .level) p i p l (pushedRow t p) (λ r. refl) (λ r. refl)
     step-becomes (exits e) =
-        map-becomes t p (forgotten p) (withLocation 40) l
-        (ap (λ (s : ℕ). withAhead s blank) (without-none 0 p (omega arith) (has-zero p)))
+        map-becomes t p (exited p) (withLocation 40) l
+        (ap₂ (λ (s : ℕ) (l : List ℕ). withAhead s (withPasses l blank))
+        (without-none 0 p (omega arith) (has-zero p)) (none-cleared p))
     step-becomes (flickers-40 a e h) = set-becomes t p l _
     step-becomes (leaves e) = set-becomes t p l _
     step-becomes (cancels e) = set-becomes t p l _

@@ -7,13 +7,13 @@
 --
 -- Assumes nothing.
 use Prim.Native.Nat.{ℕ, _<_}
-use mathlib.Core.Path.{_≡_}
+use mathlib.Core.Path.{_≡_, subst}
 use mathlib.Core.Bool.{true}
 use mathlib.Core.Logic.{_≢_, _⊎_}
 use mathlib.Core.List.{List}
-use lib.ListN.{length}
-use Rattle.machine.specs.Tables.{Table, row, sound}
-use Rattle.machine.specs.Words.{FLICKER, kindOf, processOf, argumentOf, apart, together}
+use lib.ListN.{length, getD}
+use Rattle.machine.specs.Tables.{Table, row, sound, tableRefusal, competes}
+use Rattle.machine.specs.Words.{FLICKER, GO, kindOf, processOf, argumentOf, wordOf, apart, together}
 use Rattle.machine.specs.Steps.{refusalOf, afterWord, afterWords}
 use Rattle.machine.specs.System.{Step, stepWord}
 use Rattle.machine.specs.declared.Parts.{Parts}
@@ -24,7 +24,8 @@ use Rattle.machine.proofs.Accepted as Accepted
 use Rattle.machine.proofs.Soundness as Soundness
 use Rattle.machine.proofs.OneWord as OneWord
 use Rattle.machine.proofs.SameOutcome as SameOutcome
-use Rattle.machine.proofs.RoundLaws.{process-moves-on, move-step}
+use Rattle.machine.proofs.RoundLaws.{has-step}
+use Rattle.machine.proofs.FullLaws as FullLaws
 use Rattle.machine.proofs.WordLaws as WordLaws
 
 -- ---- the step is the system
@@ -48,7 +49,8 @@ word-is-step t w z =
 pub refused-word-changes-nothing : (t : Table) (w : ℕ) → refusalOf t w ≢ 0 → afterWord t w ≡ t
 refused-word-changes-nothing = Accepted.refused-same
 
--- Every step of a process of a sound table is what its word does, and no other word of that process.
+-- Every step of a process of a sound table is what its word does, and no other word of that process; or its word is the
+-- one that meets 15, since it would carry a count past 65,535. Which steps these are, `full-word` says.
 -- Excludes: an engine that accepts each word and moves nobody, one that refuses every word, or every CANCEL, one in
 -- which two choices of a process have each other's words, and two words for one choice (an argument or a spare bit that
 -- is not looked at).
@@ -57,11 +59,33 @@ pub one-word : (t u : Table) (p : ℕ)
     → sound t ≡ true
     → p < length t
     → (x : Step t p u)
-    → (processOf (stepWord p x) ≡ p)
+    → ((processOf (stepWord p x) ≡ p)
     × (refusalOf t (stepWord p x) ≡ 0)
     × (afterWord t (stepWord p x) ≡ u)
-    × ((v : ℕ) → processOf v ≡ p → refusalOf t v ≡ 0 → afterWord t v ≡ u → v ≡ stepWord p x)
+    × ((v : ℕ) → processOf v ≡ p → refusalOf t v ≡ 0 → afterWord t v ≡ u → v ≡ stepWord p x))
+    ⊎ ((processOf (stepWord p x) ≡ p) × (refusalOf t (stepWord p x) ≡ 15))
 one-word = OneWord.one-word
+
+-- A word meets 15 just where nothing else refuses it, it is GO of a process at 20, and a count of that process over one
+-- that competes is 65,535.
+-- Excludes: 15 at 65,534; 15 for a count over a process that does not compete; 15 before 11; an engine that refuses
+-- every entry so. Proved in FullLaws.antt.
+pub full-word : (t : Table) (w : ℕ)
+    → refusalOf t w ≡ 15
+    → (sound t ≡ true)
+    × (w ≡ wordOf GO (processOf w) 0)
+    × (row t (processOf w) .location ≡ 20)
+    × (q : ℕ) × (competes (row t q) ≡ true) × (getD (row t (processOf w) .passes) q 0 ≡ 65535)
+full-word = FullLaws.full-word
+
+pub word-full : (t : Table) (p q : ℕ)
+    → sound t ≡ true
+    → p < length t
+    → row t p .location ≡ 20
+    → competes (row t q) ≡ true
+    → getD (row t p .passes) q 0 ≡ 65535
+    → refusalOf t (wordOf GO p 0) ≡ 15
+word-full = FullLaws.word-full
 
 -- How far that goes: different words that are accepted with the same outcome are of different processes, and either
 -- nothing changed (each process stays at 10, or flickers to the value that is there), or both are FLICKERs at 24 of the
@@ -87,29 +111,35 @@ same-outcome = SameOutcome.same-outcome
 -- Every process of a sound table has a step.
 -- Excludes: premises above that nothing meets. Proved in RoundLaws.antt: it has the step of a round.
 pub process-has-step : (t : Table) (p : ℕ) → sound t ≡ true → p < length t → (u : Table) × Step t p u
-process-has-step t p h l = (_, move-step (process-moves-on t p (sound-accepted t h) l .1))
+process-has-step t p h l = has-step t p (sound-accepted t h) l
 
--- So it has a word that is accepted.
+-- So it has a word that is accepted: at 20, where GO may meet 15, CANCEL is.
 pub accepted-word-exists : (t : Table) (p : ℕ)
     → sound t ≡ true
     → p < length t
     → (w : ℕ) × (processOf w ≡ p) × (refusalOf t w ≡ 0)
-accepted-word-exists t p h l =
-    let x = process-has-step t p h l in
-    let w = one-word t (x .0) p h l (x .1) in
-    (stepWord p (x .1), w .0, w .1)
+accepted-word-exists t p h l = FullLaws.some-word t p h l
 
 -- ---- tables stay sound
 
--- A step of the system keeps a table sound and its number of processes, and so do lists of words.
--- Excludes: level N on entry, a turn that names no process, a level 0 at 22 to 24. Proved in Soundness.antt.
+-- A step of the system whose word is not refused with 15 keeps a table sound, every step keeps its number of processes,
+-- and lists of words keep both.
+-- Excludes: level N on entry, a turn that names no process, a level 0 at 22 to 24, a count past 65,535, a process that
+-- passes itself. Proved in Soundness.antt.
 pub step-keeps-sound : (t u : Table) (p : ℕ)
     → sound t ≡ true
     → p < length t
-    → Step t p u
-    → (sound u ≡ true) × (length u ≡ length t)
-step-keeps-sound t u p h l x =
-    (accepted-sound u (Soundness.step-keeps-sound t u p (sound-accepted t h) l x), Soundness.step-keeps-length t u p x)
+    → (x : Step t p u)
+    → refusalOf t (stepWord p x) ≢ 15
+    → sound u ≡ true
+step-keeps-sound t u p h l x ne =
+    let o = OneWord.unless-full x (OneWord.one-word t u p h l x) ne in
+    accepted-sound u
+    (subst (λ (v : Table). tableRefusal v ≡ 0) (o .2)
+    (Soundness.word-keeps-sound t (stepWord p x) (sound-accepted t h)))
+
+pub step-keeps-length : (t u : Table) (p : ℕ) → Step t p u → length u ≡ length t
+step-keeps-length = Soundness.step-keeps-length
 
 pub words-keep-sound : (t : Table) (ws : List ℕ)
     → sound t ≡ true

@@ -2,7 +2,7 @@
 --
 --   wordsIn bs       ==  the words that bytes hold.
 --   bytesOf ws       ==  the bytes of words.
---   bytesFit bs     <=>  their count is a multiple of 4 and at most 33,088; else they meet 14.
+--   bytesFit bs     <=>  their count is a multiple of 4 and at most 34,112; else they meet 14.
 --
 -- Assumes nothing.
 use Prim.Native.Nat.{ℕ, _+_, _*_, _/_, _%_, _^_}
@@ -24,7 +24,7 @@ unfoldable pub bytesOf : List ℕ → List ℕ
 bytesOf [] = []
 bytesOf (w ∷ ws) = (w % 2 ^ 8) ∷ (w / 2 ^ 8 % 2 ^ 8) ∷ (w / 2 ^ 16 % 2 ^ 8) ∷ (w / 2 ^ 24 % 2 ^ 8) ∷ bytesOf ws
 
--- the most bytes of an input, 33,088: those of the longest image and of the longest run
+-- the most bytes of an input, 34,112: those of the longest image and of the longest run
 abbrev pub bytesLimit : ℕ
 bytesLimit = 4 * (imageLength 16 + limit)
 

@@ -7,13 +7,14 @@
 --   censusOf t  ==  all of these, for each k from 0 to the number of processes; or 6 or 7 and no figures.
 --
 -- Assumes nothing.
-use Prim.Native.Nat.{ℕ, zero, suc}
+use Prim.Native.Nat.{ℕ}
 use mathlib.Core.Bool.{Bool, cond, _&&_, _||_, not}
-use mathlib.Core.List.{List, [], _∷_, _++_}
+use mathlib.Core.List.{List}
 use lib.Dec.{eqb, leb, ltb}
 use lib.ListN.{length, replicate}
 use Rattle.counting.specs.Sums.{count}
 use Rattle.counting.specs.Sets.{size}
+use Rattle.counting.specs.Ranges.{upTo}
 use Rattle.machine.specs.Refusals.{accepted}
 use Rattle.machine.specs.Tables.{Table, row, tableRefusal, competes}
 use Rattle.machine.specs.declared.Row.{Row}
@@ -48,11 +49,6 @@ critical t = countRows isCritical t
 
 abbrev pub waiting : Table → ℕ
 waiting t = countRows isWaiting t
-
--- f at 0, 1, .. below n
-unfoldable pub upTo : (ℕ → ℕ) → ℕ → List ℕ
-upTo f zero = []
-upTo f (suc n) = upTo f n ++ (f n ∷ [])
 
 -- 17 figures, of which those past the number of processes are 0
 abbrev pub figures : (ℕ → Table → ℕ) → Table → List ℕ

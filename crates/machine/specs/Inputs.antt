@@ -15,15 +15,15 @@ use lib.ListN.{length, getD, take, drop}
 use Rattle.machine.specs.Refusals.{accepted}
 use Rattle.machine.specs.Tables.{Table}
 use Rattle.machine.specs.Runs.{limit}
-use Rattle.machine.specs.Images.{sizeIn, imageLength, imageRefusal, tableIn}
+use Rattle.machine.specs.Images.{lengthIn, imageRefusal, tableIn}
 use Rattle.machine.specs.Bytes.{wordsIn, bytesFit}
 
--- the words of the image: as many as an image of the size in the first word has, or all if fewer
+-- the words of the image: as many as the first word says, or all if fewer
 abbrev pub imagePart : List ℕ → List ℕ
-imagePart ws = take (imageLength (sizeIn (getD ws 0 0))) ws
+imagePart ws = take (lengthIn (getD ws 0 0)) ws
 
 abbrev pub eventPart : List ℕ → List ℕ
-eventPart ws = drop (imageLength (sizeIn (getD ws 0 0))) ws
+eventPart ws = drop (lengthIn (getD ws 0 0)) ws
 
 pub data Input : Type 0 where
   -- no whole words, or too many bytes

@@ -9,15 +9,15 @@ accepted = 0
 abbrev pub noHeader : ℕ
 noHeader = 1
 
--- an image: not as many words as an image of its size has
+-- an image: not as many words as its first word says
 abbrev pub wrongLength : ℕ
 wrongLength = 2
 
--- an image word: its kind, its number or a spare bit is wrong
+-- an image word: its kind, its number (a process, the k of turn[k], the q or r of passes) or a spare bit is wrong
 abbrev pub malformed : ℕ
 malformed = 3
 
--- an image word: a location code, a level, a set or a turn is out of range
+-- an image word: a location code, a level, a set or a turn is out of range, or a process has passes over itself
 abbrev pub outOfRange : ℕ
 outOfRange = 4
 
@@ -57,6 +57,10 @@ tooManyWords = 12
 abbrev pub tooFewLent : ℕ
 tooFewLent = 13
 
--- bytes in: no multiple of 4, or above 33,088
+-- bytes in: no multiple of 4, or above 34,112
 abbrev pub badBytes : ℕ
 badBytes = 14
+
+-- an event word: it would carry a count of passes past 65,535
+abbrev pub passesFull : ℕ
+passesFull = 15

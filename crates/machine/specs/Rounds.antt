@@ -5,16 +5,19 @@
 --   roundTo t p      ==  the table after the words of the processes below p, each given to the table that the one
 --                        before left.
 --   round t          ==  the table after a round, one word for each process in number order; rounds r t: after r.
+--   roundOn t p m    ==  the words of m processes from process p on, up to the first that is refused.
+--   Unbroken t       <=> no word of a round from t is refused.
 --   pending t        ==  how many processes are at 20 to 24: they have come and are not yet in the critical section.
 --   occupied t       ==  1 where some process is at 30, in the critical section; else 0.
 --   Silent t         <=> nobody is at 30 and somebody is pending.
 --   roundLimit n     ==  the most rounds that are done at a table of n processes.
 --   silenceBound n   ==  the rounds within which some process is at 30, if a list of words made a silent table from a
---                        fresh one: a bound that is attained.
+--                        fresh one and the first round is unbroken: a bound that is attained.
 --   allCome n        ==  COME of each of n processes in order; from a fresh table they lead to the longest silence.
---   roundsOf t       ==  6 or 7; no round, where nobody is pending; else rounds until some process is at 30, or the
---                        limit is used up.
---   Awaited b t o    <=> what the outcome o of at most b rounds says of the table t.
+--   roundsOf t       ==  6 or 7; no round, where nobody is pending; else rounds until some process is at 30, the limit
+--                        is used up, or a word is refused.
+--   Awaited b t o    <=> what the outcome o of at most b unbroken rounds says of the table t.
+--   Broken t o       <=> what the outcome o of rounds says of the table t where a word was refused.
 --
 -- Assumes nothing.
 use Prim.Native.Nat.{ℕ, zero, suc, _+_, _-_, _*_, _≤_, _<_}
@@ -25,11 +28,12 @@ use lib.Dec.{eqb, leb, ltb}
 use lib.ListN.{length}
 use Rattle.counting.specs.Sums.{bit}
 use Rattle.counting.specs.Sets.{lowest}
-use Rattle.machine.specs.Refusals.{accepted}
+use Rattle.counting.specs.Ranges.{upTo}
+use Rattle.machine.specs.Refusals.{accepted, passesFull}
 use Rattle.machine.specs.Tables.{Table, row, tableRefusal}
 use Rattle.machine.specs.Words.{STAY, COME, GO, LOOK, wordOf}
-use Rattle.machine.specs.Steps.{afterWord}
-use Rattle.machine.specs.Census.{countRows, critical, upTo}
+use Rattle.machine.specs.Steps.{refusalOf, afterWord}
+use Rattle.machine.specs.Census.{countRows, critical}
 use Rattle.machine.specs.declared.Row.{Row}
 use Rattle.machine.specs.declared.RoundsAnswer.{RoundsAnswer}
 
@@ -58,6 +62,26 @@ unfoldable pub rounds : ℕ → Table → Table
 unfolding round
 rounds zero t = t
 rounds (suc r) t = rounds r (round t)
+
+-- how far a round went: the refusal of the word before which it stopped, or 0, and the table as left
+pub record Went : Type 0 where
+  pub refusal : ℕ
+  pub table : Table
+
+-- the words of m processes from process p on, each given to the table that the one before left, up to the first that is
+-- refused
+unfoldable pub roundOn : Table → ℕ → ℕ → Went
+unfolding refusalOf afterWord roundWord
+roundOn t p zero = record { refusal = accepted; table = t }
+roundOn t p (suc m) =
+    elim (eqb (refusalOf t (roundWord t p)) accepted) [
+      | true ↦ roundOn (afterWord t (roundWord t p)) (suc p) m
+      | false ↦ record { refusal = refusalOf t (roundWord t p); table = t }
+    ]
+
+-- each word of a round is accepted where it is given
+abbrev pub Unbroken : Table → Type 0
+Unbroken t = (p : ℕ) → p < length t → refusalOf (roundTo t p) (roundWord (roundTo t p) p) ≡ accepted
 
 -- ---- silence
 
@@ -103,14 +127,28 @@ rounded r t = record { answer = record { refusal = accepted; rounds = r; occupie
 abbrev pub unrounded : ℕ → Table → Rounded
 unrounded why t = record { answer = record { refusal = why; rounds = 0; occupied = 0 }; table = t }
 
--- at most b rounds more, after r of them; somebody at 30 is looked for before each round, not within it
+-- a word is refused after r rounds and the words of others; t is left
+abbrev pub broken : ℕ → ℕ → Table → Rounded
+broken why r t = record { answer = record { refusal = why; rounds = r; occupied = occupied t }; table = t }
+
+-- at most b rounds more, after r of them; somebody at 30 is looked for before each round, not within it; a round that a
+-- refused word breaks is not counted
 unfoldable pub roundsFrom : ℕ → ℕ → Table → Rounded
-unfolding round
+unfolding roundOn
 roundsFrom zero r t = rounded r t
 roundsFrom (suc b) r t =
-    elim (ltb 0 (critical t)) [ true ↦ rounded r t | false ↦ roundsFrom b (suc r) (round t) ]
+    let w = roundOn t 0 (length t) in
+    elim (ltb 0 (critical t)) [
+      | true ↦ rounded r t
+      | false ↦
+          elim (eqb (w .refusal) accepted) [
+            | true ↦ roundsFrom b (suc r) (w .table)
+            | false ↦ broken (w .refusal) r (w .table)
+          ]
+    ]
 
--- 6 or 7; no round where nobody is at 20 to 24; else until some process is at 30, or the limit is used up
+-- 6 or 7; no round where nobody is at 20 to 24; else until some process is at 30, the limit is used up, or a word is
+-- refused
 unfoldable pub roundsOf : Table → Rounded
 unfolding tableRefusal roundsFrom
 roundsOf t =
@@ -130,3 +168,14 @@ pub record Awaited (b : ℕ) (t : Table) (o : Rounded) : Type 0 where
   pub nobody-before : (r : ℕ) → r < o .answer .rounds → critical (rounds r t) ≡ 0
   pub occupied-is : o .answer .occupied ≡ occupied (o .table)
   pub all-done : critical (o .table) ≡ 0 → o .answer .rounds ≡ b
+
+-- rounds from t that had the outcome o, in which a word was refused: it was that of process p in the first round, and
+-- meets 15; the words before it are kept, no round is counted, and whether somebody is at 30 is told of the table left
+pub record Broken (t : Table) (o : Rounded) : Type 0 where
+  pub process : ℕ
+  pub process-in : process < length t
+  pub before-accepted : (q : ℕ) → q < process → refusalOf (roundTo t q) (roundWord (roundTo t q) q) ≡ accepted
+  pub refused-then : refusalOf (roundTo t process) (roundWord (roundTo t process) process) ≡ passesFull
+  pub answer-is : o .answer
+      ≡ record { refusal = passesFull; rounds = 0; occupied = occupied (roundTo t process) }
+  pub table-is : o .table ≡ roundTo t process

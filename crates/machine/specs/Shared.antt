@@ -1,11 +1,12 @@
 -- The shared cell that a step uses, and when two steps clash (MANUAL, "Shared cells"; the paper, section 3.2: act and
--- turn are its shared variables, all others are private to their process, and those of section 3.4 are history).
+-- turn are its shared variables, all others are private to their process, and those of sections 3.4 and 4.1 are
+-- history).
 --
 --   noCell, actRead q, actWritten q, turnRead k, turnWritten k  ==  none; act of q or turn[k], read or written.
 --   cellAt k p a r  ==   the cell that kind k of process p with argument a uses, where it is allowed at its row r.
 --   clash c d       <=>  c and d are one cell, and one of the two writes it: a conflict of two steps.
---   own r           ==   a row but for the shared cells in it, act and turn, and for the history set ahead.
---   butAhead t      ==   a table, ahead sets apart.
+--   present r       ==   a row but for the history in it, ahead and passes; butHistory t: a table, row by row.
+--   own r           ==   a row but for the shared cells in it, act and turn, and for that history.
 --
 -- Assumes nothing.
 use Prim.Native.Nat.{ℕ}
@@ -13,7 +14,7 @@ use mathlib.Core.Bool.{Bool, cond, _&&_, _||_, not}
 use mathlib.Core.List.{[], _∷_, map}
 use lib.Dec.{eqb, ltb}
 use Rattle.counting.specs.Sets.{size}
-use Rattle.machine.specs.Rows.{withAct, withAhead, withTurn}
+use Rattle.machine.specs.Rows.{noPasses, withAct, withAhead, withTurn, withPasses}
 use Rattle.machine.specs.Tables.{Table, oneOf}
 use Rattle.machine.specs.Words.{FLICKER, GO, LOOK}
 use Rattle.machine.specs.declared.Row.{Row}
@@ -88,10 +89,13 @@ clash c d = sameCell c d && (isWritten c || isWritten d)
 
 -- ---- what is not shared
 
+-- a row but for the history in it: the ahead sets and the passes, of which no step reads anything into another variable
+abbrev pub present : Row → Row
+present r = withAhead 0 (withPasses noPasses r)
+
 -- the private variables of a process: location, bb, level, est and lis
 abbrev pub own : Row → Row
-own r = withAct 0 (withAhead 0 (withTurn 0 r))
+own r = withAct 0 (withTurn 0 (present r))
 
--- the ahead sets are history, of which no step reads anything into another variable
-abbrev pub butAhead : Table → Table
-butAhead t = map (withAhead 0) t
+abbrev pub butHistory : Table → Table
+butHistory t = map present t

@@ -1,10 +1,13 @@
--- One step of one process, with the ahead sets, lists of words, and what a step tells (MANUAL, "Steps", "Ahead sets",
--- "Lists of words", "Shared cells" and "The functions of the crates").
+-- One step of one process, with the ahead sets and the passes, lists of words, and what a step tells (MANUAL, "Steps",
+-- "Ahead sets", "Passes", "Lists of words", "Shared cells" and "The functions of the crates").
 --
---   goRow n p c v r  ==  row r of process p after GO; c is the set of those that compete, v what turn[level] holds.
+--   goRow n p c v r  ==  row r of process p after GO, but for turn[level] and for what 30 forgets; c is the set of
+--                        those that compete, v what turn[level] holds.
 --   moved t k p a    ==  the table after kind k, process p and argument a, where they are allowed.
---   refusalAt t k p a  ==  the first of 10 and 11 that applies to kind k, process p and argument a, or 0.
---   wordRefusal t w  ==  the first of 8 to 11 that applies to a word, or 0.
+--   raised c l       ==  the counts l with one more over each process in the set c; raisable c l: none passes 65,535.
+--   overflows t k p  <=> kind k of process p would carry a count past 65,535.
+--   refusalAt t k p a  ==  the first of 10, 11 and 15 that applies to kind k, process p and argument a, or 0.
+--   wordRefusal t w  ==  the first of 8 to 11 and 15 that applies to a word, or 0.
 --   refusalOf t w    ==  the step's refusal: 6, 7, then the word's, or 0.
 --   afterWord t w    ==  the table after the step; the one given where the step refuses.
 --   afterWords t ws  ==  the table after a list of words, given one by one; a refused word is passed over.
@@ -15,15 +18,18 @@
 --   stepAnswerOf t w ==  the step's answer to C.
 --
 -- Assumes nothing.
-use Prim.Native.Nat.{ℕ, _-_}
+use Prim.Native.Nat.{ℕ, _+_, _-_}
 use mathlib.Core.Bool.{Bool, false, cond, _&&_, _||_, not}
 use mathlib.Core.List.{List, [], _∷_, map}
-use lib.Dec.{eqb, ltb}
-use lib.ListN.{length, set}
+use lib.Dec.{eqb, leb, ltb}
+use lib.ListN.{length, getD, set}
+use Rattle.counting.specs.Sums.{bit}
 use Rattle.counting.specs.Sets.{has, size, without, others}
-use Rattle.machine.specs.Refusals.{accepted, badKind, noProcess, notAllowed, badArgument}
+use Rattle.counting.specs.Ranges.{upTo, every}
+use Rattle.machine.specs.Refusals.{accepted, badKind, noProcess, notAllowed, badArgument, passesFull}
 use Rattle.machine.specs.Rows.{withLocation, withAct, withBb, withLevel, withEst, withLis, withAhead, withTurn}
-use Rattle.machine.specs.Tables.{Table, row, oneOf, tableRefusal, competitors}
+use Rattle.machine.specs.Rows.{withPasses}
+use Rattle.machine.specs.Tables.{Table, row, oneOf, countLimit, tableRefusal, competitors}
 use Rattle.machine.specs.Words.{STAY, COME, FLICKER, GO, LOOK, CANCEL, kindOf, processOf, argumentOf, formed}
 use Rattle.machine.specs.Shared.{noCell, cellAt}
 use Rattle.machine.specs.declared.Row.{Row}
@@ -35,11 +41,23 @@ use Rattle.machine.specs.declared.StepAnswer.{StepAnswer}
 
 -- ---- the row of the process that moves
 
--- GO at 20: act 1, level n - 1, est all but p, to 21; ahead becomes c, those that compete
-unfoldable pub entered : ℕ → ℕ → ℕ → Row → Row
-entered n p c r = withLocation 21 (withAct 1 (withLevel (n - 1) (withEst (others n p) (withAhead c r))))
+-- the count over process i, with one more where i is in the set c
+abbrev pub countAfter : ℕ → List ℕ → ℕ → ℕ
+countAfter c l i = getD l i 0 + bit (has c i)
 
--- GO at 21: with a level above 0 lis becomes est, to 22; else to 30
+-- the sixteen counts so
+unfoldable pub raised : ℕ → List ℕ → List ℕ
+unfolding upTo
+raised c l = upTo (countAfter c l) 16
+
+-- GO at 20: act 1, level n - 1, est all but p, to 21; ahead becomes c, those that compete, and p passes each of them
+unfoldable pub entered : ℕ → ℕ → ℕ → Row → Row
+unfolding raised
+entered n p c r =
+    withLocation 21
+    (withAct 1 (withLevel (n - 1) (withEst (others n p) (withAhead c (withPasses (raised c (r .passes)) r)))))
+
+-- GO at 21: with a level above 0 lis becomes est, to 22; else to 30. The pass that begins at 22 is over lis
 unfoldable pub passed : Row → Row
 passed r = cond (ltb 0 (r .level)) (withLocation 22 (withLis (r .est) r)) (withLocation 30 r)
 
@@ -76,16 +94,16 @@ goRow n p c v r =
 unfoldable pub turned : ℕ → ℕ → Table → Table
 turned k v t = set t k (withTurn v (row t k))
 
--- GO at 30, each row: p leaves ahead
+-- GO at 30, each row: p leaves ahead, and the passes over p are forgotten
 unfoldable pub forgets : ℕ → Row → Row
-forgets p r = withAhead (without (r .ahead) p) r
+forgets p r = withAhead (without (r .ahead) p) (withPasses (set (r .passes) p 0) r)
 
 -- FLICKER: at 24 turn[level] becomes a, elsewhere act of p
 unfoldable pub flickered : Table → ℕ → ℕ → Table
 flickered t p a =
     cond (eqb (row t p .location) 24) (turned (row t p .level) a t) (set t p (withAct a (row t p)))
 
--- GO: the row of p; then at 24 turn[level] becomes p, and at 30 p leaves every ahead set
+-- GO: the row of p; then at 24 turn[level] becomes p, and at 30 each row forgets p
 unfoldable pub gone : Table → ℕ → Table
 gone t p =
     let r = row t p in
@@ -130,14 +148,27 @@ argumentFits n k r a =
     cond (eqb k FLICKER) (cond (eqb (r .location) 24) (ltb a n) (ltb a 2))
     (cond (eqb k LOOK) (has (r .lis) a) (eqb a 0))
 
+-- each count, with one more over each process in c, is at most 65,535
+unfoldable pub raisable : ℕ → List ℕ → Bool
+unfolding every
+raisable c l = every (λ i. leb (countAfter c l i) countLimit) 16
+
+-- kind k of process p would carry a count past 65,535: GO at 20 alone adds to counts
+unfoldable pub overflows : Table → ℕ → ℕ → Bool
+unfolding raisable
+overflows t k p =
+    eqb k GO && (eqb (row t p .location) 20 && not (raisable (competitors t) (row t p .passes)))
+
 -- 0, or the first refusal of kind k with argument a where process p is
 abbrev pub refusalAt : Table → ℕ → ℕ → ℕ → ℕ
 refusalAt t k p a =
     cond (not (allowed k (row t p))) notAllowed
-    (cond (not (argumentFits (length t) k (row t p) a)) badArgument accepted)
+    (cond (not (argumentFits (length t) k (row t p) a)) badArgument
+    (cond (overflows t k p) passesFull accepted))
 
 -- 0, or the first refusal of a word; a table has at most 16 processes, so one over 15 is not below its length
 unfoldable pub wordRefusal : Table → ℕ → ℕ
+unfolding overflows
 wordRefusal t w =
     cond (not (formed w)) badKind
     (cond (not (ltb (processOf w) (length t))) noProcess

@@ -1,5 +1,6 @@
--- The system QmxC of section 3.2 of the paper, with the history sets lwb of section 3.4, and one move that the paper
--- does not have, as a relation on tables (MANUAL, "Steps" and "Ahead sets").
+-- The system QmxC of section 3.2 of the paper, with the history sets lwb of section 3.4 and the history counts a of
+-- section 4.1, and one move that the paper does not have, as a relation on tables (MANUAL, "Steps", "Ahead sets" and
+-- "Passes").
 --
 --   Step t p u    <=>  process p, by one alternative of the numbered statement at which it is, goes from t to u; or it
 --                      gives up at 20 (`cancels`).
@@ -7,18 +8,22 @@
 --   stepCell p x  ==   the shared cell that this step reads or writes.
 --
 -- A second reading of the paper: one constructor for each alternative, and then `cancels`; the guards are premises, the
--- assignments stand in the paper's order, by the cell setters and the set operations alone. The step of Steps.antt is
--- not used. pc is `location`, lwb is `ahead`, Process is the set of numbers below N, and a flickering write is the
--- choice (4) of section 3.1: any value of the cell's type and the same location again, or the value with the rest of
--- the statement. Assumes nothing.
-use Prim.Native.Nat.{ℕ, _-_, _≤_, _<_}
+-- assignments stand in the paper's order, by the cell setters, the set operations and, for counts, a list by its places
+-- alone. The step of Steps.antt is not used. pc is `location`, lwb is `ahead`, a[q, r] is place r of the `passes` of
+-- row q and has no largest value here, Process is the set of numbers below N, and a flickering write is the choice (4)
+-- of section 3.1: any value of the cell's type and the same location again, or the value with the rest of the
+-- statement. Assumes nothing.
+use Prim.Native.Nat.{ℕ, _+_, _-_, _≤_, _<_}
 use mathlib.Core.Path.{_≡_}
 use mathlib.Core.Bool.{true, _&&_}
-use mathlib.Core.List.{map}
+use mathlib.Core.List.{List, map}
 use lib.Dec.{leb}
-use lib.ListN.{length, set}
+use lib.ListN.{length, getD, set}
+use Rattle.counting.specs.Sums.{bit}
 use Rattle.counting.specs.Sets.{has, setOf, size, without, others}
+use Rattle.counting.specs.Ranges.{upTo}
 use Rattle.machine.specs.Rows.{withLocation, withAct, withBb, withLevel, withEst, withLis, withAhead, withTurn}
+use Rattle.machine.specs.Rows.{withPasses}
 use Rattle.machine.specs.Tables.{Table, row}
 use Rattle.machine.specs.Words.{STAY, COME, FLICKER, GO, LOOK, CANCEL, wordOf}
 use Rattle.machine.specs.Shared.{noCell, actRead, actWritten, turnRead, turnWritten}
@@ -37,18 +42,29 @@ turnAssigned t k v = set t k (withTurn v (row t k))
 abbrev pub Cp : Table → ℕ
 Cp t = setOf (λ q. leb 21 (row t q .location) && leb (row t q .location) 30) (length t)
 
+-- a[p, q]++ for all q in a set, over the counts a of a process p
+abbrev pub incremented : ℕ → List ℕ → List ℕ
+incremented s a = upTo (λ q. getD a q 0 + bit (has s q)) 16
+
+-- the assignments of exit to the history of a process q, p itself included: p leaves lwb[q]; a[q, p] := 0
+abbrev pub exited : ℕ → Row → Row
+exited p r = withAhead (without (r .ahead) p) (withPasses (set (r .passes) p 0) r)
+
 pub data Step (t : Table) (p : ℕ) : Table → Type 0 where
   -- 10: NCS; goto 10 or 20
   rests : row t p .location ≡ 10 → Step t p t
   comes : row t p .location ≡ 10 → Step t p (assigned t p (withLocation 20))
-  -- 20: (flickering) act[p] := true; level := N - 1; est := Process \ {p}; goto 21. With entry: lwb[p] := Cp
+  -- 20: (flickering) act[p] := true; level := N - 1; est := Process \ {p}; goto 21. With entry: lwb[p] := Cp; a[p, q]++
+  -- for all q in Cp
   flickers-20 : (a : ℕ) → row t p .location ≡ 20 → a < 2 → Step t p (assigned t p (withAct a))
   enters :
       row t p .location ≡ 20
       → Step t p
       (assigned t p
       (λ r.
-      withLocation 21 (withEst (others (length t) p) (withLevel (length t - 1) (withAct 1 (withAhead (Cp t) r))))))
+      withLocation 21
+      (withEst (others (length t) p)
+      (withLevel (length t - 1) (withAct 1 (withAhead (Cp t) (withPasses (incremented (Cp t) (r .passes)) r)))))))
   -- 21: if level > 0 then lis := est; goto 22 else goto 30
   starts-pass :
       row t p .location ≡ 21 → 0 < row t p .level
@@ -87,16 +103,17 @@ pub data Step (t : Table) (p : ℕ) : Table → Type 0 where
       → Step t p
       (assigned (turnAssigned t (row t p .level) p) p
       (λ r. withLocation 21 (withAhead (without (Cp t) p) (withEst (others (length t) p) (withBb 1 r)))))
-  -- 30: CS; goto 40. With exit: for all q remove p from lwb[q]
+  -- 30: CS; goto 40. With exit: for all q remove p from lwb[q]; a[q, p] := 0
   exits :
       row t p .location ≡ 30
-      → Step t p (assigned (map (λ r. withAhead (without (r .ahead) p) r) t) p (withLocation 40))
+      → Step t p
+      (assigned (map (exited p) t) p (withLocation 40))
   -- 40: (flickering) act[p] := false; goto 10
   flickers-40 : (a : ℕ) → row t p .location ≡ 40 → a < 2 → Step t p (assigned t p (withAct a))
   leaves : row t p .location ≡ 40 → Step t p (assigned t p (λ r. withLocation 10 (withAct 0 r)))
   -- ---- not in section 3.2 of the paper: the one move that is added to it
   -- 20, while act[p] is still being written: goto 40; act[p] keeps what the flickering write left there. No lwb
-  -- changes, since p does not compete
+  -- and no count changes, since p does not compete
   cancels : row t p .location ≡ 20 → Step t p (assigned t p (withLocation 40))
 
 -- the word of a step: a FLICKER has the value that the cell gets, a LOOK the process that is looked at

@@ -3,7 +3,7 @@
 --   row t q        ==   the row of process q; blank past the end.
 --   sound t        <=>  2 to 16 rows, each within its ranges: a well-formed state.
 --   tableRefusal t ==   the first of 6 and 7 that applies, or 0.
---   fresh t        <=>  sound, and every process at 10 with act 0, bb 0 and ahead empty: an initial state.
+--   fresh t        <=>  sound, and every process at 10 with act 0, bb 0, ahead empty and no passes: an initial state.
 --   freshTable n   ==   the fresh table of n processes in which everything else is 0 too.
 --   handed ..      ==   a refusal, a place and a table as they are handed back by value; madeFresh n is a fresh one so.
 --   competes r     <=>  at locations 21 to 30; competitors t is the set of those that compete, the paper's Cp.
@@ -14,6 +14,7 @@ use mathlib.Core.Bool.{Bool, true, false, cond, _&&_, _||_, not}
 use mathlib.Core.List.{List, [], _∷_, _++_}
 use lib.Dec.{eqb, leb, ltb}
 use lib.ListN.{length, getD, replicate}
+use Rattle.counting.specs.Ranges.{every}
 use Rattle.counting.specs.Sets.{setOf}
 use Rattle.machine.specs.Refusals.{accepted, wrongSize, unsoundRow}
 use Rattle.machine.specs.Rows.{idle, blank}
@@ -43,6 +44,19 @@ locations = 10 ∷ 20 ∷ 21 ∷ 22 ∷ 23 ∷ 24 ∷ 30 ∷ 40 ∷ []
 abbrev pub levelFits : ℕ → ℕ → Bool
 levelFits l v = (not (leb 22 l && leb l 24) || ltb 0 v) && (not (eqb l 30) || eqb v 0)
 
+-- the largest count of passes
+abbrev pub countLimit : ℕ
+countLimit = 65535
+
+-- the count over process i is in range in row q of a table of n processes: 0 for i = q and for i not below n
+abbrev pub soundCount : ℕ → ℕ → List ℕ → ℕ → Bool
+soundCount n q l i = leb (getD l i 0) countLimit && (eqb (getD l i 0) 0 || (ltb i n && not (eqb i q)))
+
+-- sixteen counts, each in range
+unfoldable pub soundPasses : ℕ → ℕ → List ℕ → Bool
+unfolding every
+soundPasses n q l = eqb (length l) 16 && every (soundCount n q l) 16
+
 -- row q of a table of n processes is within its ranges; no set has a bit at or above n, and row 0 holds turn 0
 abbrev pub soundRow : ℕ → ℕ → Row → Bool
 soundRow n q r =
@@ -50,9 +64,11 @@ soundRow n q r =
     && ltb (r .est) (2 ^ n) && ltb (r .lis) (2 ^ n) && ltb (r .ahead) (2 ^ n)
     && ltb (r .turn) n && (not (eqb q 0) || eqb (r .turn) 0)
     && levelFits (r .location) (r .level)
+    && soundPasses n q (r .passes)
 
 -- the rows from row q on are sound
 unfoldable pub soundFrom : ℕ → ℕ → Table → Bool
+unfolding soundPasses
 soundFrom n q [] = true
 soundFrom n q (r ∷ t) = soundRow n q r && soundFrom n (suc q) t
 
@@ -74,11 +90,18 @@ tableRefusal t =
 
 -- ---- fresh
 
--- at 10 with act 0, bb 0 and ahead empty
+-- each of sixteen counts is 0
+unfoldable pub clear : List ℕ → Bool
+unfolding every
+clear l = every (λ i. eqb (getD l i 0) 0) 16
+
+-- at 10 with act 0, bb 0, ahead empty and no passes
 abbrev pub resting : Row → Bool
-resting r = eqb (r .location) 10 && eqb (r .act) 0 && eqb (r .bb) 0 && eqb (r .ahead) 0
+resting r =
+    eqb (r .location) 10 && eqb (r .act) 0 && eqb (r .bb) 0 && eqb (r .ahead) 0 && clear (r .passes)
 
 unfoldable pub allResting : Table → Bool
+unfolding clear
 allResting [] = true
 allResting (r ∷ t) = resting r && allResting t
 

@@ -5,7 +5,9 @@ ghost use Rattle.machine.specs.Shared.{actRead, actWritten, turnRead, tu
 ghost use Rattle.machine.specs.Steps.{quiet, withEvent, withCell};
 
 // One process: its location (program counter), its shared flag act, its private variables, its
-// history set ahead, and the shared cell turn[k] in the row of process k.
+// history set ahead, the shared cell turn[k] in the row of process k, and its passes, the history
+// counts a[q, r] of section 4.1 of the paper in the row of process q: how often q entered while r
+// competed.
 #[repr(C)]
 pub struct Row {
     pub location: u16,
@@ -16,6 +18,7 @@ pub struct Row {
     pub lis: u16,
     pub ahead: u16,
     pub turn: u16,
+    pub passes: [u16; 16],
 }
 
 impl Row {
@@ -29,6 +32,7 @@ impl Row {
         lis: 0,
         ahead: 0,
         turn: 0,
+        passes: [0u16; 16],
     };
 
     // No process: what stands past a table's end.
@@ -41,6 +45,7 @@ impl Row {
         lis: 0,
         ahead: 0,
         turn: 0,
+        passes: [0u16; 16],
     };
 }
 
@@ -69,11 +74,16 @@ pub const MOST_PROCESSES: usize = 16;
 // The most words of a run.
 pub const RUN_LIMIT: usize = 8192;
 
-// The first word of an image, less the number of processes.
-pub const HEADER: u32 = 0x8000_0000;
+// The largest count of passes.
+pub const COUNT_LIMIT: u16 = 65535;
+
+// The first word of an image, less the number of processes; and of a bare image, which has no passes.
+pub const HEADER: u32 = 0x8100_0000;
+
+pub const BARE_HEADER: u32 = 0x8000_0000;
 
 // The most words and bytes of an image.
-pub const IMAGE_WORDS: usize = 5 * MOST_PROCESSES;
+pub const IMAGE_WORDS: usize = 5 * MOST_PROCESSES + MOST_PROCESSES * MOST_PROCESSES;
 
 pub const IMAGE_BYTES: usize = 4 * IMAGE_WORDS;
 
@@ -113,6 +123,8 @@ pub const TOO_MANY_WORDS: u16 = 12;
 pub const TOO_FEW_LENT: u16 = 13;
 
 pub const BAD_BYTES: u16 = 14;
+
+pub const PASSES_FULL: u16 = 15;
 
 // The parts of an event word.
 pub struct Parts {

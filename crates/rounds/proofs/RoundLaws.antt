@@ -1,10 +1,11 @@
 -- Rounds move by move and round by round, and what the answer says of them.
 --
---   to-start, to-next, to-end                   no move, one move more, and the last one
+--   on-next, on-end, on-stop                    one word more, the last one, and one that is refused
+--   goes-round                                  so much of a round
 --   none-yet, one-more, whole                   who is at 30 of those that have moved
---   from-turn, from-stop                        one round more, and none, by the loop's test
+--   from-turn, from-cut, from-stop              one round more, one that is broken, and none, by the loop's test
 --   rounds-ended, rounds-stopped, rounds-as     what the answer says of them
---   flag-is, some-is, none-is, answer-is        what the code asks of the number at 30, and tells
+--   some-is, none-is                            what the code asks of the number at 30
 --
 -- Assumes nothing.
 use Prim.Native.Nat.{ℕ, zero, suc, _+_, _-_, _≤_, _<_}
@@ -20,34 +21,73 @@ use borrow.Author.Tests.{ltb-true, ltb-false, ne-eqb, lt-ltb}
 use Rattle.counting.specs.Sums.{bit, count}
 use Rattle.counting.proofs.CountLaws.{count-zero}
 use Rattle.machine.specs.Tables.{Table, row, tableRefusal}
-use Rattle.machine.specs.Steps.{afterWord}
+use Rattle.machine.specs.Steps.{refusalOf, afterWord}
 use Rattle.machine.specs.Census.{isCritical, critical}
-use Rattle.machine.specs.Rounds.{roundWord, roundTo, round, occupied, Rounded, rounded}
-use Rattle.machine.specs.Rounds.{unrounded, roundsFrom, roundsOf}
+use Rattle.machine.specs.Rounds.{roundWord, Went, roundOn, occupied, Rounded, rounded, unrounded, broken}
+use Rattle.machine.specs.Rounds.{roundsFrom, roundsOf}
+use Rattle.machine.proofs.Accepted.{refused-same}
 use Rattle.machine.proofs.RoundLaws.{Move, process-moves-on}
+use Rattle.machine.proofs.BrokenRounds.{on-none, on-word, on-refused}
 use Rattle.machine.proofs.Arriving.{critical-next}
-use Rattle.machine.proofs.RoundAnswers.{from-used, from-here, from-next}
+use Rattle.machine.proofs.RoundAnswers.{from-used, from-here, from-next, from-broken}
 use Rattle.machine.specs.declared.RoundsAnswer.{RoundsAnswer}
 use Rattle.cells.specs.View.{rowsOf}
-use Rattle.rounds.specs.Promises.{Rounds}
+use Rattle.cells.proofs.ViewLaws.{rows-length}
+use Rattle.rounds.specs.Promises.{GoesRound, Rounds}
+use Rattle.rounds.specs.declared.Done.{Done}
 
 -- ---- a round
 
-pub to-start : (t : Table) → roundTo t 0 ≡ t
-unfolding roundTo
-to-start t = refl
+-- w says how far the n words of a round go, of which p are given and led to t
 
-pub to-next : (t v u : Table) (p : ℕ)
-    → v ≡ roundTo t p
-    → u ≡ afterWord v (roundWord v p)
-    → u ≡ roundTo t (p + 1)
-unfolding roundTo
-to-next t v u p e h =
-    h ∙ ap (λ (w : Table). afterWord w (roundWord w p)) e ∙ ap (roundTo t) (sym (add-one p))
+-- one word more
+pub on-next : (t u : Table) (n p : ℕ) (w : Went)
+    → p < n
+    → refusalOf t (roundWord t p) ≡ 0
+    → u ≡ afterWord t (roundWord t p)
+    → w ≡ roundOn t p (n - p)
+    → w ≡ roundOn u (p + 1) (n - (p + 1))
+on-next t u n p w l ok e h =
+    let i : n - p ≡ suc (n - (p + 1)) = omega arith in
+    h ∙ ap (roundOn t p) i ∙ on-word t p (n - (p + 1)) ok ∙ rw (e, add-one p) refl
 
-pub to-end : (t : Table) (p : ℕ) → p ≡ length t → roundTo t p ≡ round t
-unfolding round
-to-end t p e = ap (roundTo t) e
+-- the last one was given
+pub on-end : (t : Table) (n p : ℕ) (w : Went)
+    → n ≤ p
+    → w ≡ roundOn t p (n - p)
+    → w ≡ record { refusal = 0; table = t }
+on-end t n p w l h =
+    let i : n - p ≡ 0 = omega arith in h ∙ ap (roundOn t p) i ∙ on-none t p
+
+-- the next one is refused
+pub on-stop : (t u : Table) (n p : ℕ) (w : Went)
+    → p < n
+    → (refusalOf t (roundWord t p) ≡ 0 → ⊥)
+    → u ≡ afterWord t (roundWord t p)
+    → w ≡ roundOn t p (n - p)
+    → w ≡ record { refusal = refusalOf t (roundWord t p); table = u }
+on-stop t u n p w l ne e h =
+    let i : n - p ≡ suc (n - (p + 1)) = omega arith in
+    h
+    ∙ ap (roundOn t p) i
+    ∙ on-refused t p (n - (p + 1)) ne
+    ∙ ap (λ (v : Table). record { refusal = refusalOf t (roundWord t p); table = v })
+    (sym (e ∙ refused-same t (roundWord t p) ne))
+
+-- the words of a round of the cells x led to y
+pub goes-round : (x y : List (List ℕ)) (a : Done) (v : ℕ)
+    → length y ≡ length x
+    → roundOn (rowsOf x) 0 (length x) ≡ record { refusal = v; table = rowsOf y }
+    → a .refusal ≡ v
+    → (a .refusal ≡ 0 → a .occupied ≡ ltb 0 (critical (rowsOf y)))
+    → GoesRound x y a
+goes-round x y a v l e h told =
+    let all = ap (roundOn (rowsOf x) 0) (rows-length x) ∙ e in
+    record {
+      refusal-is = h ∙ sym (ap (λ (w : Went). w .refusal) all);
+      becomes = record { rows-are = sym (ap (λ (w : Went). w .table) all); size-is = l };
+      told = told;
+    }
 
 -- ---- who is at 30 of those that have moved
 
@@ -67,12 +107,13 @@ some-or (suc k) b =
 pub one-more : (t u : Table) (p : ℕ) (occupied there : Bool)
     → tableRefusal t ≡ 0
     → p < length t
+    → refusalOf t (roundWord t p) ≡ 0
     → u ≡ afterWord t (roundWord t p)
     → occupied ≡ seen t p
     → there ≡ isCritical (row u p)
     → (occupied || there) ≡ seen u (p + 1)
-one-more t u p occupied there z l e h k =
-    let m = subst (Move t p) (sym e) (process-moves-on t p z l .1) in
+one-more t u p occupied there z l ok e h k =
+    let m = subst (Move t p) (sym e) (process-moves-on t p z l ok) in
     ap₂ (λ (a b : Bool). a || b) h k
     ∙ some-or (count (λ q. isCritical (row t q)) p) (isCritical (row u p))
     ∙ ap (λ (c : ℕ). ltb 0 c) (sym (critical-next t u p z l m))
@@ -93,13 +134,28 @@ from-occupied (suc b) r t n = from-here b r t n
 pub from-turn : (n r : ℕ) (t u : Table)
     → r < n
     → critical t ≡ 0
-    → u ≡ round t
+    → roundOn t 0 (length t) .refusal ≡ 0
+    → u ≡ roundOn t 0 (length t) .table
     → roundsFrom (n - r) r t ≡ roundsFrom (n - (r + 1)) (r + 1) u
-from-turn n r t u l z e =
+from-turn n r t u l z ok e =
     let i : n - r ≡ suc (n - (r + 1)) = omega arith in
     ap (λ (b : ℕ). roundsFrom b r t) i
-    ∙ from-next (n - (r + 1)) r t z
+    ∙ from-next (n - (r + 1)) r t z ok
     ∙ rw (e, add-one r) refl
+
+-- a round that a refused word ends
+pub from-cut : (n r : ℕ) (t u : Table) (v : ℕ)
+    → r < n
+    → critical t ≡ 0
+    → v ≡ roundOn t 0 (length t) .refusal
+    → (v ≡ 0 → ⊥)
+    → u ≡ roundOn t 0 (length t) .table
+    → roundsFrom (n - r) r t ≡ broken v r u
+from-cut n r t u v l z e ne h =
+    let i : n - r ≡ suc (n - (r + 1)) = omega arith in
+    ap (λ (b : ℕ). roundsFrom b r t) i
+    ∙ from-broken (n - (r + 1)) r t z (λ k. ne (e ∙ k))
+    ∙ ap₂ (λ (k : ℕ) (w : Table). broken k r w) (sym e) (sym h)
 
 -- the loop's test fails, where the flag says whether somebody is at 30
 pub from-stop : (n r : ℕ) (t : Table) (flag : Bool)
@@ -111,16 +167,26 @@ from-stop n r t true l e h = from-occupied (n - r) r t (λ z. absurd (omega (ari
 from-stop n r t false l e h =
     let i : n - r ≡ 0 = omega (arith, ltb-false r n h) in ap (λ (b : ℕ). roundsFrom b r t) i ∙ from-used r t
 
--- the rounds o of the cells x ended in y, after r of them
-pub rounds-ended : (x y : List (List ℕ)) (o : Rounded) (r : ℕ) (a : RoundsAnswer)
+-- a flag as a number
+flag-is : (t : Table) (flag : Bool) → flag ≡ ltb 0 (critical t) → boolByte flag ≡ occupied t
+flag-is t flag e = ap boolByte e ∙ go (ltb 0 (critical t))
+  where
+    go : (b : Bool) → boolByte b ≡ bit b
+    go true = refl
+    go false = refl
+
+-- the rounds o of the cells x ended in y after r of them, by the refusal v or by none, and the flag tells whether
+-- somebody is at 30 there
+pub rounds-ended : (x y : List (List ℕ)) (o : Rounded) (v r : ℕ) (flag : Bool)
     → length y ≡ length x
-    → o ≡ rounded r (rowsOf y)
-    → a ≡ rounded r (rowsOf y) .answer
-    → Rounds x o y a
-rounds-ended x y o r a l e h =
+    → o ≡ broken v r (rowsOf y)
+    → flag ≡ ltb 0 (critical (rowsOf y))
+    → Rounds x o y (record { refusal = v; rounds = r; occupied = boolByte flag })
+rounds-ended x y o v r flag l e h =
     record {
       becomes = record { rows-are = sym (ap (λ (k : Rounded). k .table) e); size-is = l };
-      answer-is = h ∙ sym (ap (λ (k : Rounded). k .answer) e);
+      answer-is = ap (λ (k : ℕ). record { refusal = v; rounds = r; occupied = k }) (flag-is (rowsOf y) flag h)
+          ∙ sym (ap (λ (k : Rounded). k .answer) e);
     }
 
 -- a table that is refused with v
@@ -137,15 +203,7 @@ rounds-stopped x v e =
 pub rounds-as : {x y : List (List ℕ)} {o p : Rounded} {a : RoundsAnswer} → o ≡ p → Rounds x o y a → Rounds x p y a
 rounds-as {x} {y} {o} {p} {a} e h = subst (λ (k : Rounded). Rounds x k y a) e h
 
--- ---- the answer
-
--- a flag as a number
-pub flag-is : (t : Table) (flag : Bool) → flag ≡ ltb 0 (critical t) → boolByte flag ≡ occupied t
-flag-is t flag e = ap boolByte e ∙ go (ltb 0 (critical t))
-  where
-    go : (b : Bool) → boolByte b ≡ bit b
-    go true = refl
-    go false = refl
+-- ---- the number at 30
 
 -- what the code asks of the number at 30
 pub some-is : (k : ℕ) → not (eqb k 0) ≡ ltb 0 k
@@ -155,9 +213,3 @@ some-is (suc k) = ap not (ne-eqb (suc k) 0 (λ e. absurd (omega arith))) ∙ sym
 -- the number at 30 where the flag is not set
 pub none-is : (k : ℕ) → ltb 0 k ≡ false → k ≡ 0
 none-is k e = omega (arith, ltb-false 0 k e)
-
--- the answer after r rounds
-pub answer-is : (r : ℕ) (t : Table) (o : ℕ)
-    → o ≡ occupied t
-    → record { refusal = 0; rounds = r; occupied = o } ≡ rounded r t .answer
-answer-is r t o e = ap (λ (k : ℕ). record { refusal = 0; rounds = r; occupied = k }) e

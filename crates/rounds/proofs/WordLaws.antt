@@ -1,26 +1,28 @@
 -- What the word of a round does, kind by kind, and that it may be done.
 --
 --   stay-word, look-word, go-word     the word, by the tests of the code
---   given                             a word of kind k with argument a is allowed, and moves the table
---   rest-given, look-given, go-given  so for each kind
+--   Given k a         <=>  the word is accepted, and does what kind k does with argument a.
+--   rest-given, look-given            so it is for STAY and LOOK
+--   go-may                            GO is allowed, also where a full count refuses it
 --
 -- Assumes nothing.
 use Prim.Native.Nat.{ℕ, _<_}
-use mathlib.Core.Path.{_≡_, refl, sym, ap, _∙_}
+use mathlib.Core.Path.{_≡_, refl, sym, ap, ap₂, _∙_}
 use mathlib.Core.Bool.{true, false, _&&_, not}
+use mathlib.Core.Logic.{⊎-elim}
 use native.Mathlib.Omega.{arith}
 use lib.Dec.{eqb}
 use lib.ListN.{length}
 use borrow.Author.Tests.{ne-eqb}
 use Rattle.counting.specs.Sets.{lowest}
 use Rattle.machine.specs.Tables.{Table, row, tableRefusal}
-use Rattle.machine.specs.Words.{STAY, GO, LOOK, kindOf, processOf, wordOf}
+use Rattle.machine.specs.Words.{STAY, GO, LOOK, kindOf, processOf, argumentOf, wordOf}
 use Rattle.machine.specs.Steps.{moved, allowed, refusalOf, afterWord}
 use Rattle.machine.specs.Rounds.{roundWord}
 use Rattle.machine.proofs.Accepted.{accepted-moved, accepted-says}
 use Rattle.machine.proofs.WordLaws.{kind-wordOf, process-wordOf, argument-wordOf}
 use Rattle.machine.proofs.SoundRows.{sound-few}
-use Rattle.machine.proofs.RoundLaws.{round-word-accepted}
+use Rattle.machine.proofs.RoundLaws.{round-word-answered, round-word-accepted}
 
 -- ---- the word
 
@@ -39,43 +41,63 @@ module _ (t : Table) (p : ℕ) where
   unfolding roundWord
   look-word ne h = rw (ne-eqb l 10 ne, h) refl
 
-  go-word : (l ≡ 10 → ⊥) → (eqb l 22 && not (eqb s 0)) ≡ false → roundWord t p ≡ wordOf GO p 0
+  pub go-word : (l ≡ 10 → ⊥) → (eqb l 22 && not (eqb s 0)) ≡ false → roundWord t p ≡ wordOf GO p 0
   unfolding roundWord
   go-word ne h = rw (ne-eqb l 10 ne, h) refl
 
   -- ---- what it does
 
   pub record Given (k a : ℕ) : Type 0 where
-    pub may : allowed k (row t p) ≡ true
+    pub accepted-so : refusalOf t (roundWord t p) ≡ 0
     pub table-is : afterWord t (roundWord t p) ≡ moved t k p a
 
+  -- the parts of a word of the process
+  pub record Parts (k a : ℕ) : Type 0 where
+    pub kind-is : kindOf (wordOf k p a) ≡ k
+    pub process-is : processOf (wordOf k p a) ≡ p
+    pub argument-is : argumentOf (wordOf k p a) ≡ a
+
   module _ (z : tableRefusal t ≡ 0) (in-t : p < length t) where
-    -- the parts of the word of a round are those it is made of
-    given : (k a : ℕ) → a < 256 → roundWord t p ≡ wordOf k p a → Given k a
-    given k a low e =
+    pub parts : (k a : ℕ) → a < 256 → Parts k a
+    parts k a low =
         let few : p < 256 = omega (arith, sound-few t z) in
-        let ok : refusalOf t (wordOf k p a) ≡ 0 = sym (ap (refusalOf t) e) ∙ round-word-accepted t p z in-t in
-        let said = accepted-says t (wordOf k p a) ok in
-        let i = kind-wordOf k p a few low in
-        let j = process-wordOf k p a few low in
-        let m = argument-wordOf k p a few low in
         record {
-          may = sym (ap (λ (x : ℕ). allowed x (row t p)) i)
-              ∙ sym (ap (λ (y : ℕ). allowed (kindOf (wordOf k p a)) (row t y)) j)
-              ∙ said .allowed-there;
-          table-is = ap (afterWord t) e
-              ∙ accepted-moved t (wordOf k p a) ok
-              ∙ ap (moved t (kindOf (wordOf k p a)) (processOf (wordOf k p a))) m
-              ∙ ap (λ (y : ℕ). moved t (kindOf (wordOf k p a)) y a) j
-              ∙ ap (λ (x : ℕ). moved t x p a) i;
+          kind-is = kind-wordOf k p a few low;
+          process-is = process-wordOf k p a few low;
+          argument-is = argument-wordOf k p a few low;
         }
 
-    pub rest-given : l ≡ 10 → afterWord t (roundWord t p) ≡ t
-    unfolding moved
-    rest-given e = given STAY 0 (omega arith) (stay-word e) .table-is
+    -- away from 20 the word of a round is accepted
+    given : (k a : ℕ) → a < 256 → (l ≡ 20 → ⊥) → roundWord t p ≡ wordOf k p a → Given k a
+    given k a low away e =
+        let ok = round-word-accepted t p z in-t away in
+        let w = wordOf k p a in
+        let i = parts k a low in
+        record {
+          accepted-so = ok;
+          table-is = ap (afterWord t) e
+              ∙ accepted-moved t w (sym (ap (refusalOf t) e) ∙ ok)
+              ∙ ap (moved t (kindOf w) (processOf w)) (i .argument-is)
+              ∙ ap (λ (y : ℕ). moved t (kindOf w) y a) (i .process-is)
+              ∙ ap (λ (x : ℕ). moved t x p a) (i .kind-is);
+        }
 
-    pub look-given : lowest s < 256 → (l ≡ 10 → ⊥) → (eqb l 22 && not (eqb s 0)) ≡ true → Given LOOK (lowest s)
-    look-given low ne h = given LOOK (lowest s) low (look-word ne h)
+    pub rest-given : l ≡ 10 → Given STAY 0
+    rest-given e = given STAY 0 (omega arith) (omega arith) (stay-word e)
 
-    pub go-given : (l ≡ 10 → ⊥) → (eqb l 22 && not (eqb s 0)) ≡ false → Given GO 0
-    go-given ne h = given GO 0 (omega arith) (go-word ne h)
+    pub look-given : lowest s < 256 → l ≡ 22 → (eqb l 22 && not (eqb s 0)) ≡ true → Given LOOK (lowest s)
+    look-given low e h = given LOOK (lowest s) low (omega arith) (look-word (omega arith) h)
+
+    -- GO is allowed, also where it meets 15
+    pub go-may : (l ≡ 10 → ⊥) → (eqb l 22 && not (eqb s 0)) ≡ false → allowed GO (row t p) ≡ true
+    unfolding allowed
+    go-may ne h =
+        let w = wordOf GO p 0 in
+        let e = go-word ne h in
+        let i = parts GO 0 (omega arith) in
+        ⊎-elim
+        (λ ok.
+        let said = accepted-says t w (sym (ap (refusalOf t) e) ∙ ok) in
+        sym (ap₂ (λ (k q : ℕ). allowed k (row t q)) (i .kind-is) (i .process-is)) ∙ said .allowed-there)
+        (λ full. rw (full .0) refl)
+        (round-word-answered t p z in-t)

@@ -1,10 +1,11 @@
-// Rounds of a table in place, until some process is at 30 or the limit is used up
+// Rounds of a table in place, until some process is at 30, the limit is used up or a word is refused
 // (machine/specs/Rounds.antt). specs/Promises.antt says what they ensure.
 use cells::access::row_at;
 use cells::checks::check;
 use census::count_at;
 use census::critical;
 use machine::RoundsAnswer;
+use machine::Stepped;
 use steps::going::go;
 use steps::moving::look;
 ghost use mathlib.Core.Path.{_≡_};
@@ -15,40 +16,67 @@ ghost use Rattle.machine.specs.Rounds.{roundLimit, roundsFrom, roundsOf};
 ghost use Rattle.cells.specs.View.{rowsOf};
 ghost use Rattle.rounds.specs.Promises.{Moving, MovesOn, GoesRound, Rounds, RoundsTo};
 
-// Process p is given its word of a round, and whether that led it to 30 is told: at 10 nothing happens,
-// at 22 it looks at the lowest member of lis, and otherwise it goes on. The word is allowed, so that
-// nothing has to be asked.
-fn move_on(cells: &mut [[u16; 8]], p: u16) -> bool
+// What was done: 0, or the refusal of the word that ended it, which changed nothing; and, where it is 0,
+// whether the process of the word, or some process after a round, is at 30.
+struct Done {
+    refusal: u16,
+    occupied: bool,
+}
+
+// Process p is given its word of a round: at 10 nothing happens, at 22 it looks at the lowest member of
+// lis, and otherwise it goes on. The word is allowed, so that nothing has to be asked; GO at 20 alone may
+// be refused, by a count that is full.
+fn move_on(cells: &mut [[u16; 24]], p: u16) -> Done
     requires { ⌜ Moving (now cells) p ⌝ }
-    ensures { λ b. ⌜ MovesOn (now (cells .entry)) p (now (cells .exit)) b ⌝ }
+    ensures { λ a. ⌜ MovesOn (now (cells .entry)) p (now (cells .exit)) a ⌝ }
 {
     let r = row_at(cells, p as usize);
     if r.location == 10 {
-        return false;
+        return Done {
+            refusal: 0,
+            occupied: false,
+        };
     }
     if (r.location == 22) & (r.lis != 0) {
         let _told = look(cells, p, sets::first_of(r.lis));
-        return false;
+        return Done {
+            refusal: 0,
+            occupied: false,
+        };
     }
-    let _told = go(cells, p);
-    (r.location == 21) & (r.level == 0)
+    match go(cells, p) {
+        Stepped::Moved(_) => Done {
+            refusal: 0,
+            occupied: (r.location == 21) & (r.level == 0),
+        },
+        Stepped::Refused(why) => Done {
+            refusal: why,
+            occupied: false,
+        },
+    }
 }
 
-// One round: each process in number order is given its word. It tells whether some process is at 30
-// after it, which is one whose word led there.
-fn round(cells: &mut [[u16; 8]]) -> bool
+// One round: each process in number order is given its word, up to the first that is refused. Some
+// process is at 30 after a whole round just where the word of one led there.
+fn round(cells: &mut [[u16; 24]]) -> Done
     requires { ⌜ tableRefusal (rowsOf (now cells)) ≡ 0 ⌝ }
-    ensures { λ b. ⌜ GoesRound (now (cells .entry)) (now (cells .exit)) b ⌝ }
+    ensures { λ a. ⌜ GoesRound (now (cells .entry)) (now (cells .exit)) a ⌝ }
 {
     let n = cells.len();
     let mut occupied = false;
     let mut p = 0;
     while p < n {
-        let there = move_on(cells, p as u16);
-        occupied = occupied | there;
+        let done = move_on(cells, p as u16);
+        if done.refusal != 0 {
+            return done;
+        }
+        occupied = occupied | done.occupied;
         p += 1;
     }
-    occupied
+    Done {
+        refusal: 0,
+        occupied: occupied,
+    }
 }
 
 // The most rounds that are done at a table of n processes.
@@ -59,8 +87,9 @@ fn round_limit(n: u16) -> u16
     4 * n * n * (n + 3)
 }
 
-// Rounds at a table that is known to be sound, which is not checked again.
-fn run_rounds(cells: &mut [[u16; 8]]) -> RoundsAnswer
+// Rounds at a table that is known to be sound, which is not checked again. A round that a refused word
+// ends is not counted, and who is at 30 is asked again then.
+fn run_rounds(cells: &mut [[u16; 24]]) -> RoundsAnswer
     requires { ⌜ tableRefusal (rowsOf (now cells)) ≡ 0 ⌝ }
     ensures { λ a. ⌜ Rounds (now (cells .entry))
         (roundsFrom (roundLimit (length (now (cells .entry)))) 0 (rowsOf (now (cells .entry))))
@@ -70,7 +99,15 @@ fn run_rounds(cells: &mut [[u16; 8]]) -> RoundsAnswer
     let mut r: u16 = 0;
     let mut occupied = critical(cells) != 0;
     while !occupied & (r < limit) {
-        occupied = round(cells);
+        let done = round(cells);
+        if done.refusal != 0 {
+            return RoundsAnswer {
+                refusal: done.refusal,
+                rounds: r,
+                occupied: (critical(cells) != 0) as u16,
+            };
+        }
+        occupied = done.occupied;
         r += 1;
     }
     RoundsAnswer {
@@ -80,9 +117,10 @@ fn run_rounds(cells: &mut [[u16; 8]]) -> RoundsAnswer
     }
 }
 
-// Rounds at a table of any size and content, until some process is at 30 after a round or the limit is
-// used up. 6 or 7 for the table, and no row is changed; no round where nobody is at 20 to 24.
-pub fn rounds(cells: &mut [[u16; 8]]) -> RoundsAnswer
+// Rounds at a table of any size and content, until some process is at 30 after a round, the limit is
+// used up, or a word meets 15. 6 or 7 for the table, and no row is changed; no round where nobody is at
+// 20 to 24.
+pub fn rounds(cells: &mut [[u16; 24]]) -> RoundsAnswer
     ensures { λ a. ⌜ Rounds (now (cells .entry)) (roundsOf (rowsOf (now (cells .entry))))
         (now (cells .exit)) a ⌝ }
 {
@@ -106,7 +144,7 @@ pub fn rounds(cells: &mut [[u16; 8]]) -> RoundsAnswer
 
 // Rounds for C (include/zaguypo.h), in the lent rows.
 #[no_mangle]
-pub extern "C" fn zaguypo_rounds(rows: &mut [[u16; 8]]) -> RoundsAnswer
+pub extern "C" fn zaguypo_rounds(rows: &mut [[u16; 24]]) -> RoundsAnswer
     ensures { λ a. ⌜ RoundsTo a (rowsOf (now (rows .entry))) (rowsOf (now (rows .exit))) ⌝ }
 {
     rounds(rows)

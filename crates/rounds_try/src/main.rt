@@ -1,5 +1,5 @@
 // Rounds (MANUAL, "Rounds"): what they answer, a line each. First the longest silence of each number of
-// processes, then rounds that are not done, refused, or used up.
+// processes, then rounds that are not done, refused, used up or broken.
 use libc::STDOUT_FILENO;
 use machine::RoundsAnswer;
 
@@ -23,8 +23,22 @@ const COMES: [u32; 16] = [
     0x200f_0000,
 ];
 
+// A row at a location with act, bb, level and est, and so many passes over process 0.
+fn row(location: u16, act: u16, bb: u16, level: u16, est: u16, over: u16) -> [u16; 24] {
+    let mut r = [0u16; 24];
+    r[0] = location;
+    r[1] = act;
+    r[2] = bb;
+    r[3] = level;
+    r[4] = est;
+    r[8] = over;
+    r
+}
+
 // The row of a process in a fresh table.
-const FRESH: [u16; 8] = [10, 0, 0, 0, 0, 0, 0, 0];
+fn fresh() -> [u16; 24] {
+    row(10, 0, 0, 0, 0, 0)
+}
 
 // A number and what stands before it.
 fn figure(before: &[u8], n: u16) {
@@ -41,14 +55,26 @@ fn show(a: RoundsAnswer) {
 }
 
 // Rounds from fresh rows of n processes, once each has come.
-fn longest(n: u16, comes: &[u32], cells: &mut [[u16; 8]]) {
+fn longest(n: u16, comes: &[u32], cells: &mut [[u16; 24]]) {
     let _ran = runs::run(cells, comes);
     figure(b"processes ", n);
     show(rounds::rounds(cells));
 }
 
+// So of 2 to 16 processes.
+fn longest_of_each() {
+    let comes = COMES;
+    let r = fresh();
+    let mut n = 2;
+    while n < 17 {
+        let mut cells = [r; 16];
+        longest(n as u16, &comes[..n], &mut cells[..n]);
+        n += 1;
+    }
+}
+
 // Rounds from two rows.
-fn from(name: &[u8], first: [u16; 8], second: [u16; 8]) {
+fn from(name: &[u8], first: [u16; 24], second: [u16; 24]) {
     let mut cells = [first, second];
     io::write_all(STDOUT_FILENO, name);
     show(rounds::rounds(&mut cells));
@@ -57,39 +83,44 @@ fn from(name: &[u8], first: [u16; 8], second: [u16; 8]) {
     io::write_all(STDOUT_FILENO, b"\n");
 }
 
-fn main() {
-    longest(2, &COMES[..2], &mut [FRESH; 2]);
-    longest(3, &COMES[..3], &mut [FRESH; 3]);
-    longest(4, &COMES[..4], &mut [FRESH; 4]);
-    longest(5, &COMES[..5], &mut [FRESH; 5]);
-    longest(6, &COMES[..6], &mut [FRESH; 6]);
-    longest(7, &COMES[..7], &mut [FRESH; 7]);
-    longest(8, &COMES[..8], &mut [FRESH; 8]);
-    longest(9, &COMES[..9], &mut [FRESH; 9]);
-    longest(10, &COMES[..10], &mut [FRESH; 10]);
-    longest(11, &COMES[..11], &mut [FRESH; 11]);
-    longest(12, &COMES[..12], &mut [FRESH; 12]);
-    longest(13, &COMES[..13], &mut [FRESH; 13]);
-    longest(14, &COMES[..14], &mut [FRESH; 14]);
-    longest(15, &COMES[..15], &mut [FRESH; 15]);
-    longest(16, &COMES[..16], &mut [FRESH; 16]);
+// Rounds that are not done, or refused.
+fn not_done() {
     from(
         b"at 30 before",
-        [20, 0, 0, 0, 0, 0, 0, 0],
-        [30, 1, 0, 0, 0, 0, 0, 0],
+        row(20, 0, 0, 0, 0, 0),
+        row(30, 1, 0, 0, 0, 0),
     );
-    from(b"nobody", [40, 1, 0, 0, 0, 0, 0, 0], FRESH);
+    from(b"nobody", row(40, 1, 0, 0, 0, 0), fresh());
+    from(b"unsound", row(20, 2, 0, 0, 0, 0), fresh());
+    let mut one = [fresh()];
+    longest(1, &COMES[..1], &mut one);
+}
+
+fn main() {
+    longest_of_each();
     from(
         b"within a round",
-        [21, 1, 0, 0, 0, 0, 0, 0],
-        [20, 0, 0, 0, 0, 0, 0, 0],
+        row(21, 1, 0, 0, 0, 0),
+        row(20, 0, 0, 0, 0, 0),
     );
     // no list of words makes this table: process 1 rests and shows act
+    from(b"used up", row(21, 1, 1, 1, 2, 0), row(10, 1, 0, 0, 0, 0));
+    not_done();
     from(
-        b"used up",
-        [21, 1, 1, 1, 2, 0, 0, 0],
-        [10, 1, 0, 0, 0, 0, 0, 0],
+        b"broken",
+        row(20, 0, 0, 0, 0, 0),
+        row(20, 0, 0, 0, 0, 65535),
     );
-    from(b"unsound", [20, 2, 0, 0, 0, 0, 0, 0], FRESH);
-    longest(1, &COMES[..1], &mut [FRESH; 1]);
+    from(
+        b"broken at 30",
+        row(21, 1, 0, 0, 0, 0),
+        row(20, 0, 0, 0, 0, 65535),
+    );
+    from(
+        b"room for one",
+        row(20, 0, 0, 0, 0, 0),
+        row(20, 0, 0, 0, 0, 65534),
+    );
+    // nobody competes whom process 1 would pass
+    from(b"nobody to pass", fresh(), row(20, 0, 0, 0, 0, 65535));
 }

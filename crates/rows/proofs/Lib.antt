@@ -3,3 +3,4 @@ pub mod MaskLaws
 pub mod AllowedLaws
 pub mod CodeLaws
 pub mod SoundLaws
+pub mod PassLaws

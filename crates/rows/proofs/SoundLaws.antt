@@ -13,7 +13,7 @@ use native.Mathlib.Omega.{arith}
 use lib.Dec.{eqb, leb, ltb, leb·suc-suc}
 use lib.Bits.{bitAnd, bitOr, or-lt, or-add-and, and-le-l, and-le-r}
 use borrow.Author.Tests.{lt-ltb, le-ltb}
-use Rattle.machine.specs.Tables.{oneOf, locations, levelFits, soundRow}
+use Rattle.machine.specs.Tables.{oneOf, locations, levelFits, soundPasses, soundRow}
 use Rattle.machine.specs.declared.Row.{Row}
 use Rattle.rows.specs.Bounds.{Full}
 
@@ -45,18 +45,23 @@ shift true b x = refl
 shift false b true = refl
 shift false b false = refl
 
-pub sound-right : (n f q : ℕ) (r : Row) (fits : Bool) → Full n f
+pub sound-right : (n f q : ℕ) (r : Row) (fits own rest : Bool) → Full n f
     → fits ≡ (oneOf (r .location) locations && levelFits (r .location) (r .level))
+    → (own && rest) ≡ soundPasses n q (r .passes)
     → (ltb (bitOr (r .act) (r .bb)) 2
     && ltb (r .level) n
     && leb (bitOr (bitOr (r .est) (r .lis)) (r .ahead)) f
     && ltb (r .turn) n
     && (not (eqb q 0) || eqb (r .turn) 0)
-    && fits)
+    && fits
+    && own
+    && rest)
     ≡ soundRow n q r
-sound-right n f q r fits full e =
+sound-right n f q r fits own rest full e d =
     rw (
+      and-assoc _ own rest,
       e,
+      d,
       or-ltb 1 (r .act) (r .bb),
       within-full n f (bitOr (bitOr (r .est) (r .lis)) (r .ahead)) (full .is),
       or-ltb n (bitOr (r .est) (r .lis)) (r .ahead),

@@ -1,12 +1,15 @@
 // What a step makes of a row (machine/specs/Steps.antt). `n` is the number of processes, `p` the one
 // that moves, `c` the set of those that compete, `v` what turn[level] holds.
+use crate::passes::raised;
 use machine::Row;
 ghost use mathlib.Core.Path.{_≡_};
+ghost use mathlib.Core.Bool.{true};
 ghost use Prim.Native.Nat.{_-_, _<_};
 ghost use Rattle.sets.specs.Bounds.{Among};
-ghost use Rattle.machine.specs.Rows.{withLocation, withAct};
+ghost use Rattle.counting.specs.Sets.{without};
+ghost use Rattle.machine.specs.Rows.{withLocation, withAct, withAhead};
 ghost use Rattle.machine.specs.Shared.{asksTurn};
-ghost use Rattle.machine.specs.Steps.{entered, passed, looked, reconsidered, pushed, forgets};
+ghost use Rattle.machine.specs.Steps.{entered, passed, looked, reconsidered, pushed, raisable};
 
 // To a location, with everything else kept.
 pub fn moved_to(l: u16, r: Row) -> Row
@@ -39,18 +42,26 @@ pub fn looked(q: u16, act: u16, r: Row) -> Row
     s
 }
 
-// GO at 20: act 1, level n - 1, est all but p, ahead those that compete, to 21.
+// GO at 20: act 1, level n - 1, est all but p, ahead those that compete, each of them passed once more,
+// to 21.
 pub fn entered(n: u16, p: u16, c: u16, r: Row) -> Row
     requires { ⌜ Among n p ⌝ }
+    requires { ⌜ raisable c (r .passes) ≡ true ⌝ }
     ensures { λ s. ⌜ s ≡ entered n p c r ⌝ }
 {
-    let mut s = r;
-    s.ahead = c;
-    s.est = sets::others(n, p);
-    s.level = n - 1;
-    s.act = 1;
-    s.location = 21;
-    s
+    let passes = r.passes;
+    let more = raised(c, passes);
+    Row {
+        location: 21,
+        act: 1,
+        bb: r.bb,
+        level: n - 1,
+        est: sets::others(n, p),
+        lis: r.lis,
+        ahead: c,
+        turn: r.turn,
+        passes: more,
+    }
 }
 
 // GO at 21: to 22 with lis as est, or at level 0 to 30.
@@ -130,10 +141,10 @@ pub fn left(r: Row) -> Row
     s
 }
 
-// GO at 30 of p, at any row: p leaves ahead.
-pub fn forgets(p: u16, r: Row) -> Row
+// GO at 30 of p, at any row, but for its passes: p leaves ahead.
+pub fn outrun(p: u16, r: Row) -> Row
     requires { ⌜ p < 16 ⌝ }
-    ensures { λ s. ⌜ s ≡ forgets p r ⌝ }
+    ensures { λ s. ⌜ s ≡ withAhead (without (r .ahead) p) r ⌝ }
 {
     let mut s = r;
     s.ahead = sets::removed(r.ahead, p);

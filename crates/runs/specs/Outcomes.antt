@@ -3,14 +3,17 @@
 --   answered h c v    ==   the answer of a run that ended with tally h, last cell c and refusal v, or 0.
 --   Runs x o y r      <=>  the cells x have become y, and r is the answer, by a run with outcome o.
 --   RunsSound x o y r <=>  and the table is sound again.
+--   RunsTo ws r h t u <=>  the words ws make the table u of t, with the answer r and the tally h: what the function
+--                          for C ensures.
 --
 -- Assumes nothing.
 use Prim.Native.Nat.{ℕ}
 use mathlib.Core.Path.{_≡_}
 use mathlib.Core.List.{List}
-use Rattle.machine.specs.Tables.{tableRefusal}
-use Rattle.machine.specs.Runs.{Outcome, ranOf}
+use Rattle.machine.specs.Tables.{Table, tableRefusal}
+use Rattle.machine.specs.Runs.{Outcome, runOf, ranOf}
 use Rattle.machine.specs.declared.SharedCell.{SharedCell}
+use Rattle.machine.specs.declared.Ran.{Ran}
 use Rattle.machine.specs.declared.Tally.{Tally}
 use Rattle.cells.specs.View.{rowsOf, Becomes}
 use Rattle.runs.specs.declared.RunAnswer.{RunAnswer}
@@ -26,3 +29,6 @@ pub record Runs (x : List (List ℕ)) (o : Outcome) (y : List (List ℕ)) (r : R
 pub record RunsSound (x : List (List ℕ)) (o : Outcome) (y : List (List ℕ)) (r : RunAnswer) : Type 0 where
   pub runs : Runs x o y r
   pub sound-after : tableRefusal (rowsOf y) ≡ 0
+
+abbrev pub RunsTo : List ℕ → Ran → Tally → Table → Table → Type 0
+RunsTo ws r h t u = (u ≡ runOf t ws .table) × (r ≡ ranOf (runOf t ws)) × (h ≡ runOf t ws .tally)

@@ -11,7 +11,7 @@ ghost use mathlib.Core.Path.{_≡_};
 ghost use Rattle.machine.specs.Shared.{noCell};
 ghost use Rattle.machine.specs.Runs.{counted, zeroTally, runFrom, runOf};
 ghost use Rattle.cells.specs.View.{rowsOf};
-ghost use Rattle.runs.specs.Outcomes.{answered, Runs, RunsSound};
+ghost use Rattle.runs.specs.Outcomes.{answered, Runs, RunsSound, RunsTo};
 ghost use Rattle.runs.specs.Bounds.{Room, Runnable};
 
 // What a run hands back: how many words it took, the refusal or 0, the shared cell of the last of
@@ -67,7 +67,7 @@ pub fn untaken(refusal: u16) -> RunAnswer
 }
 
 // At most 8,192 words at a table that is known to be sound, which is not checked again.
-pub fn run_words(cells: &mut [[u16; 8]], words: &[u32]) -> RunAnswer
+pub fn run_words(cells: &mut [[u16; 24]], words: &[u32]) -> RunAnswer
     requires { ⌜ Runnable (now cells) (now words) ⌝ }
     ensures { λ r. ⌜
         RunsSound (now (cells .entry))
@@ -97,7 +97,7 @@ pub fn run_words(cells: &mut [[u16; 8]], words: &[u32]) -> RunAnswer
 
 // A run at a table of any size and content: 6 or 7 for the table, then 12 for more than 8,192
 // words, and no row is changed; else the words in order up to the first that is refused.
-pub fn run(cells: &mut [[u16; 8]], words: &[u32]) -> RunAnswer
+pub fn run(cells: &mut [[u16; 24]], words: &[u32]) -> RunAnswer
     ensures { λ r. ⌜
         Runs (now (cells .entry))
         (runOf (rowsOf (now (cells .entry))) (now (words .entry)))
@@ -112,4 +112,20 @@ pub fn run(cells: &mut [[u16; 8]], words: &[u32]) -> RunAnswer
         return untaken(machine::TOO_MANY_WORDS);
     }
     run_words(cells, words)
+}
+
+// A run of the lent rows by the words, for C (include/zaguypo.h): how many were taken, the refusal or 0,
+// and the shared cell of the last word taken. The rows are left as the taken words make them, and the
+// tally, whatever it held, is that of this run. Proved by hand: the borrow checker covers no reference
+// to a struct.
+#[no_mangle]
+pub extern "C" fn zaguypo_run_rows(rows: &mut [[u16; 24]], words: &[u32], tally: &mut Tally) -> Ran
+    ensures { λ r. ⌜
+        RunsTo (now (words .entry)) r (now (tally .exit))
+        (rowsOf (now (rows .entry))) (rowsOf (now (rows .exit)))
+        ⌝ }
+{
+    let answer = run(rows, words);
+    *tally = answer.tally;
+    answer.ran
 }

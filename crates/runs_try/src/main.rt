@@ -2,6 +2,25 @@
 use libc::STDOUT_FILENO;
 use runs::RunAnswer;
 
+// A row of eight cells with no passes.
+fn row(c: [u16; 8]) -> [u16; 24] {
+    let mut r = [0u16; 24];
+    r[0] = c[0];
+    r[1] = c[1];
+    r[2] = c[2];
+    r[3] = c[3];
+    r[4] = c[4];
+    r[5] = c[5];
+    r[6] = c[6];
+    r[7] = c[7];
+    r
+}
+
+// The row of a process that rests, in a fresh table.
+fn rests() -> [u16; 24] {
+    row([10, 0, 0, 0, 0, 0, 0, 0])
+}
+
 // A number and what stands before it.
 fn figure(before: &[u8], n: u32) {
     io::write_all(STDOUT_FILENO, before);
@@ -29,7 +48,7 @@ fn show(name: &[u8], r: RunAnswer) {
 }
 
 // The locations of two processes.
-fn locations(cells: [[u16; 8]; 2]) {
+fn locations(cells: [[u16; 24]; 2]) {
     place(b"locations ", cells[0][0]);
     place(b" ", cells[1][0]);
     io::write_all(STDOUT_FILENO, b"\n");
@@ -38,7 +57,7 @@ fn locations(cells: [[u16; 8]; 2]) {
 // STAYs of process 0, up to and over the most words of a run, and none.
 fn stays() {
     let words = [0x1000_0000; 8193];
-    let mut cells = [[10, 0, 0, 0, 0, 0, 0, 0], [10, 0, 0, 0, 0, 0, 0, 0]];
+    let mut cells = [rests(), rests()];
     show(b"none", runs::run(&mut cells, &words[..0]));
     show(b"most", runs::run(&mut cells, &words[..8192]));
     show(b"over", runs::run(&mut cells, &words));
@@ -57,7 +76,7 @@ fn arrival() {
         0x1002_0000,
         0x4000_0000,
     ];
-    let mut cells = [[10, 0, 0, 0, 0, 0, 0, 0], [10, 0, 0, 0, 0, 0, 0, 0]];
+    let mut cells = [rests(), rests()];
     show(b"arrival", runs::run(&mut cells, &words));
     locations(cells);
 }
@@ -65,14 +84,14 @@ fn arrival() {
 // Process 0 comes and gives up: two words, and no event but the COME. A second CANCEL stops the run.
 fn cancel() {
     let words = [0x2000_0000, 0x6000_0000, 0x6000_0000];
-    let mut cells = [[10, 0, 0, 0, 0, 0, 0, 0], [10, 0, 0, 0, 0, 0, 0, 0]];
+    let mut cells = [rests(), rests()];
     show(b"cancel", runs::run(&mut cells, &words));
     locations(cells);
 }
 
 // Process 0 in the critical section: a word of no kind, a word not allowed and a bad argument.
 fn stops() {
-    let mut cells = [[30, 1, 0, 0, 0, 0, 0, 0], [10, 0, 0, 0, 0, 0, 0, 0]];
+    let mut cells = [row([30, 1, 0, 0, 0, 0, 0, 0]), rests()];
     show(b"kind", runs::run(&mut cells, &[0x7000_0000]));
     show(
         b"allowed",
@@ -86,11 +105,11 @@ fn stops() {
 
 // The last word taken reads or writes a shared cell; a refused word after it changes nothing.
 fn shared() {
-    let mut at_22 = [[22, 1, 0, 1, 2, 2, 0, 0], [10, 0, 0, 0, 0, 0, 0, 0]];
+    let mut at_22 = [row([22, 1, 0, 1, 2, 2, 0, 0]), rests()];
     show(b"looks", runs::run(&mut at_22, &[0x5000_0001]));
-    let mut at_23 = [[23, 1, 1, 1, 2, 0, 0, 0], [10, 0, 0, 0, 0, 0, 0, 0]];
+    let mut at_23 = [row([23, 1, 1, 1, 2, 0, 0, 0]), rests()];
     show(b"reconsiders", runs::run(&mut at_23, &[0x4000_0000]));
-    let mut at_24 = [[24, 1, 0, 1, 2, 0, 0, 0], [10, 0, 0, 0, 0, 0, 0, 0]];
+    let mut at_24 = [row([24, 1, 0, 1, 2, 0, 0, 0]), rests()];
     show(
         b"flickers",
         runs::run(&mut at_24, &[0x3000_0001, 0x1000_0000]),
@@ -100,8 +119,8 @@ fn shared() {
 // Tables that are refused before any word is taken, and before the words are counted.
 fn tables() {
     let words = [0x1000_0000; 8193];
-    let mut one = [[10, 0, 0, 0, 0, 0, 0, 0]];
-    let mut unsound = [[10, 0, 0, 0, 0, 0, 0, 0], [11, 0, 0, 0, 0, 0, 0, 0]];
+    let mut one = [rests()];
+    let mut unsound = [rests(), row([11, 0, 0, 0, 0, 0, 0, 0])];
     show(b"one row", runs::run(&mut one, &words[..1]));
     show(b"unsound", runs::run(&mut unsound, &words[..1]));
     show(b"unsound, over", runs::run(&mut unsound, &words));

@@ -1,43 +1,48 @@
--- After COME of every process of a fresh table all are at 20 with bb 0, and after one round more a front begins on the
--- highest level.
+-- After COME of every process of a fresh table all are at 20 with bb 0 and no passes, and after one round more a front
+-- begins on the highest level.
 --
---   Came q r        <=>  r is at 20 with bb 0.
+--   Came q r        <=>  r is at 20 with bb 0 and no passes.
 --   all-come             every row is such a row after `allCome`
+--   came-unbroken        so no count is at its limit, and a round is unbroken
 --   front-begins         the first round from there leaves a front with everything due
 --
 -- Assumes nothing.
-use Prim.Native.Nat.{ℕ, zero, suc, _-_, _≤_, _<_}
+use Prim.Native.Nat.{ℕ, zero, suc, _≤_, _<_}
 use mathlib.Core.Path.{_≡_, refl, sym, _∙_, subst}
 use mathlib.Core.Bool.{true}
 use mathlib.Core.List.{List}
 use native.Mathlib.Omega.{arith}
-use lib.ListN.{length}
+use lib.ListN.{length, getD}
 use Rattle.counting.proofs.SizeLaws.{size-others}
+use Rattle.counting.specs.Ranges.{upTo}
 use Rattle.machine.specs.Rows.{withLocation}
 use Rattle.machine.specs.Tables.{Table, row, tableRefusal, fresh}
 use Rattle.machine.specs.Words.{COME, wordOf}
-use Rattle.machine.specs.Steps.{afterWord, afterWords}
-use Rattle.machine.specs.Census.{upTo}
-use Rattle.machine.specs.Rounds.{round, allCome}
+use Rattle.machine.specs.Steps.{refusalOf, afterWord, afterWords}
+use Rattle.machine.specs.Rounds.{roundWord, round, Unbroken, allCome}
 use Rattle.machine.specs.System.{assigned, Step}
 use Rattle.machine.specs.declared.Row.{Row}
-use Rattle.machine.proofs.SoundRows.{sound-few, sound-accepted, accepted-sound}
+use Rattle.machine.proofs.SoundRows.{sound-few, sound-accepted}
 use Rattle.machine.proofs.Accepted.{afterWords-snoc}
 use Rattle.machine.proofs.Soundness.{words-keep-sound, words-keep-length}
-use Rattle.machine.proofs.OneWord.{one-word}
+use Rattle.machine.proofs.OneWord.{one-room}
 use Rattle.machine.proofs.FreshRows.{fresh-sound, fresh-at-10, fresh-rests}
 use Rattle.machine.proofs.StepRows.{enteredRow}
 use Rattle.machine.proofs.RoundLaws.{Move, one-move, by-moves, round-sound, round-length}
+use Rattle.machine.proofs.BrokenRounds.{roomy-unbroken}
 use Rattle.silence.proofs.Due.{phase}
 use Rattle.silence.proofs.DueLaws.{due-unset}
 use Rattle.silence.proofs.Sweeps.{Swept, swept-none, swept-all, swept-set}
 use Rattle.silence.proofs.Front.{FrontRow, Front}
 
+abbrev NonePassed : Row → Type 0
+NonePassed r = (i : ℕ) → i < 16 → getD (r .passes) i 0 ≡ 0
+
 abbrev Rested : ℕ → Row → Type 0
-Rested q r = (r .location ≡ 10) × (r .bb ≡ 0)
+Rested q r = (r .location ≡ 10) × (r .bb ≡ 0) × NonePassed r
 
 abbrev pub Came : ℕ → Row → Type 0
-Came q r = (r .location ≡ 20) × (r .bb ≡ 0)
+Came q r = (r .location ≡ 20) × (r .bb ≡ 0) × NonePassed r
 
 -- ---- all come
 
@@ -47,7 +52,7 @@ come-next : (t : Table) (p : ℕ)
     → p < length t
     → row t p .location ≡ 10
     → afterWord t (wordOf COME p 0) ≡ assigned t p (withLocation 20)
-come-next t p z l e = one-word t _ p (accepted-sound t z) l (Step.comes e) .2
+come-next t p z l e = one-room t _ p z l (Step.comes e) (λ i f. absurd (omega arith)) .2
 
 module _ (t : Table) (h : fresh t ≡ true) where
   abbrev come : ℕ → List ℕ
@@ -58,7 +63,8 @@ module _ (t : Table) (h : fresh t ≡ true) where
 
   come-to : (p : ℕ) → p ≤ length t → Swept Rested Came (length t) p (afterWords t (come p))
   unfolding upTo afterWords
-  come-to zero l = swept-none Rested Came (length t) t (λ q i. (fresh-at-10 t h q i, fresh-rests t h q .no-bb))
+  come-to zero l = swept-none Rested Came (length t) t
+      (λ q i. let r = fresh-rests t h q in (fresh-at-10 t h q i, r .no-bb, r .none-passed))
   come-to (suc p) l =
       let u = afterWords t (come p) in
       let in-u : p < length u = omega (arith, words-keep-length t (come p)) in
@@ -66,7 +72,7 @@ module _ (t : Table) (h : fresh t ≡ true) where
       let own = before p (omega arith) .1 (omega arith) in
       let after = afterWords-snoc t (come p) (wordOf COME p 0) ∙ come-next u p (sound-after (come p)) in-u (own .0) in
       subst (Swept Rested Came (length t) (suc p)) (sym after)
-      (swept-set Rested Came (length t) u p (withLocation 20 (row u p)) in-u before (refl, own .1))
+      (swept-set Rested Came (length t) u p (withLocation 20 (row u p)) in-u before (refl, own .1, own .2))
 
   pub all-come : (q : ℕ) → q < length t → Came q (row (afterWords t (allCome (length t))) q)
   unfolding upTo
@@ -74,6 +80,12 @@ module _ (t : Table) (h : fresh t ≡ true) where
       swept-all Rested Came (length t) (afterWords t (allCome (length t))) (come-to (length t) (omega arith))
 
 -- ---- the first round
+
+pub came-unbroken : (t : Table)
+    → tableRefusal t ≡ 0
+    → ((q : ℕ) → q < length t → Came q (row t q))
+    → Unbroken t
+came-unbroken t z came = roomy-unbroken t z (λ q l e i k. omega (arith, came q l .2 i k))
 
 -- of k + 1 processes
 module _ (k : ℕ) where
@@ -106,13 +118,14 @@ module _ (k : ℕ) where
       → p < suc k
       → length t ≡ suc k
       → tableRefusal t ≡ 0
+      → refusalOf t (roundWord t p) ≡ 0
       → Move t p u
       → Swept Came Entered (suc k) p t
       → Swept Came Entered (suc k) (suc p) u
-  entered-move p t u l e z m h =
+  entered-move p t u l e z ok m h =
       let in-t : p < length t = omega arith in
       let own = h p l .1 (omega arith) in
-      subst (Swept Came Entered (suc k) (suc p)) (one-move z in-t (Move.enters (own .0)) m)
+      subst (Swept Came Entered (suc k) (suc p)) (one-move z in-t ok (Move.enters (own .0)) m)
       (swept-set Came Entered (suc k) t p (enteredRow t p) in-t h
       (entered-row t p e (sound-few t z) l (own .1)))
 
@@ -124,7 +137,8 @@ module _ (k : ℕ) where
   front-begins t z e came =
       let end =
       by-moves t (λ p v. Swept Came Entered (suc k) p v) z
-      (λ p v u l same sound m h. entered-move p v u (omega arith) (same ∙ e) sound m h)
+      (came-unbroken t z (λ q l. came q (subst (λ (n : ℕ). q < n) e l)))
+      (λ p v u l same sound after ok m h. entered-move p v u (omega arith) (same ∙ e) sound ok m h)
       (swept-none Came Entered (suc k) t came) in
       record {
         sound = round-sound t z;

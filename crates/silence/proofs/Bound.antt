@@ -22,7 +22,7 @@ use Rattle.machine.proofs.RoundLaws.{round-length}
 use Rattle.silence.proofs.Steady.{Quiet, Arrives}
 use Rattle.silence.proofs.Due.{phase}
 use Rattle.silence.proofs.ArrivalLaws.{arrives-mono, arrives-next, arrives-now}
-use Rattle.silence.proofs.QuietLaws.{quiet-in, quiet-sound, quiet-within, quiet-last}
+use Rattle.silence.proofs.QuietLaws.{quiet-in, quiet-sound, quiet-within, quiet-unbroken, quiet-last}
 use Rattle.silence.proofs.Moving.{Among}
 use Rattle.silence.proofs.OnTime.{onTime, under, below-of-test, test-of-below, phase-starts, phase-ends}
 use Rattle.silence.proofs.Down.{AllDown, down-at-start, down-at-end}
@@ -46,7 +46,8 @@ module _ (C : ℕ → Bool) (n : ℕ) where
   zero-arrives : (t : Table) (q : ℕ) → Among C n t → competes (row t q) ≡ true → row t q .level ≡ 0 → Arrives t 1
   zero-arrives t q a c z =
       let in-t = quiet-in n t (a .quiet) q (quiet-within n t (a .quiet) q c) in
-      let there = level-zero-wins t q (a .quiet .steady .sound) in-t (quiet-last n t (a .quiet) q c z) z in
+      let there = level-zero-wins t q (a .quiet .steady .sound) (quiet-unbroken n t (a .quiet)) in-t
+      (quiet-last n t (a .quiet) q c z) z in
       arrives-now t 0 (critical-at (round t) q (omega (arith, round-length t)) there)
 
   -- ---- phases

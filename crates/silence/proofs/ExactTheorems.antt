@@ -11,9 +11,9 @@ use lib.ListN.{length}
 use Rattle.machine.specs.Tables.{Table, fresh}
 use Rattle.machine.specs.Steps.{afterWords}
 use Rattle.machine.specs.Census.{critical}
-use Rattle.machine.specs.Rounds.{rounds, Silent, silenceBound, allCome}
+use Rattle.machine.specs.Rounds.{rounds, Unbroken, Silent, silenceBound, allCome}
 use Rattle.silence.proofs.FrontEnds.{first-least}
-use Rattle.silence.proofs.LongestSilence.{come-silent, come-pending, come-first}
+use Rattle.silence.proofs.LongestSilence.{come-silent, come-pending, come-unbroken, come-first}
 
 -- The longest silence. From every fresh table, once each process has come, nobody is at 30 after any number of rounds
 -- below `silenceBound`, and somebody is after just so many.
@@ -34,15 +34,24 @@ silence-attained = come-first
 pub silence-there : (t : Table) → fresh t ≡ true → Silent (afterWords t (allCome (length t)))
 silence-there t h = (come-silent t h, come-pending t h)
 
+-- And no word of its first round is refused.
+-- Excludes: a longest silence that the engine's rounds do not go through, since a count meets 15 in it.
+-- Not empty: as above.
+pub silence-unbroken : (t : Table) → fresh t ≡ true → Unbroken (afterWords t (allCome (length t)))
+silence-unbroken = come-unbroken
+
 -- So no smaller bound would do: a number of rounds that is enough after every list of words, from one fresh table, is
--- at least `silenceBound`.
+-- at least `silenceBound`, even if it is asked to be enough only where the first round is unbroken.
 -- Excludes: a sharper bound, at whatever number of processes, from whatever fresh table.
 -- Not empty: as above; `silenceBound` itself is such a number, by `silence-ends` in Theorems.antt.
 pub silence-least : (t : Table) (b : ℕ)
     → fresh t ≡ true
-    → ((ws : List ℕ) → Silent (afterWords t ws) → (r : ℕ) × (r ≤ b) × (1 ≤ critical (rounds r (afterWords t ws))))
+    → ((ws : List ℕ)
+    → Silent (afterWords t ws)
+    → Unbroken (afterWords t ws)
+    → (r : ℕ) × (r ≤ b) × (1 ≤ critical (rounds r (afterWords t ws))))
     → silenceBound (length t) ≤ b
 silence-least t b h enough =
     first-least (silenceBound (length t)) b (afterWords t (allCome (length t)))
     (silence-attained t h)
-    (enough (allCome (length t)) (silence-there t h))
+    (enough (allCome (length t)) (silence-there t h) (silence-unbroken t h))

@@ -1,6 +1,6 @@
 -- The first round of a silence: somebody is at 30 after it, or the table is quiet.
 --
---   first-round    so it is, from a steady table with nobody at 30 and somebody pending
+--   first-round    so it is, from a steady table with nobody at 30 and somebody pending, where the round is unbroken
 --
 -- Assumes nothing.
 use Prim.Native.Nat.{ℕ, _≤_, _<_}
@@ -14,7 +14,7 @@ use lib.ListN.{length}
 use Rattle.counting.proofs.CountLaws.{count-pos, count-find, count-witness}
 use Rattle.machine.specs.Tables.{Table, row, oneOf}
 use Rattle.machine.specs.Census.{isCritical, critical}
-use Rattle.machine.specs.Rounds.{round, isPending, pending}
+use Rattle.machine.specs.Rounds.{round, Unbroken, isPending, pending}
 use Rattle.machine.specs.declared.Row.{Row}
 use Rattle.machine.proofs.SoundRows.{sound-row}
 use Rattle.machine.proofs.StepRows.{stepRow, step-becomes}
@@ -25,19 +25,19 @@ use Rattle.silence.proofs.Kept.{step-keeps-steady}
 use Rattle.silence.proofs.Landing.{Lands, lands}
 use Rattle.silence.proofs.LastRound.{critical-at}
 
-module _ (t : Table) (s : Steady t) (none : critical t ≡ 0) where
+module _ (t : Table) (s : Steady t) (whole : Unbroken t) (none : critical t ≡ 0) where
   nobody-at-30 : (q : ℕ) → q < length t → row t q .location ≡ 30 → ⊥
   nobody-at-30 q l e = let some = critical-at t q l e in omega arith
 
   round-steady : Steady (round t)
   round-steady =
-      by-moves t (λ p v. Steady v) (s .sound)
-      (λ p v u l n z m h. step-keeps-steady v u p z (subst (λ (k : ℕ). p < k) (sym n) l) (move-step m) h) s
+      by-moves t (λ p v. Steady v) (s .sound) whole
+      (λ p v u l n z y ok m h. step-keeps-steady v u p z y (subst (λ (k : ℕ). p < k) (sym n) l) (move-step m) h) s
 
   -- after the round q is where its own move led it
   round-lands : (q : ℕ) → q < length t → Lands (row t q) (row (round t) q)
   round-lands q l =
-      let o = own-move t q (s .sound) l in
+      let o = own-move t q (s .sound) whole l in
       let v = o .before in
       let in-v : q < length v = subst (λ (k : ℕ). q < k) (sym (o .same-size)) l in
       let b = step-becomes v q in-v (sound-row v (o .sound-before) q in-v .level-low) (move-step (o .moves)) in

@@ -7,7 +7,7 @@
 --   Front n l c t     <=>  t is sound, and has n such rows; turn[q] is q above l, and at l once everybody pushed there.
 --
 --   front-turn        no turn cell decides whether a row is such a row
---   front-silent      nobody is at 30
+--   front-silent, front-unbroken    nobody is at 30, nor at 20, so that a round is unbroken
 --
 -- Processes 0 to l are the front; a process q above it was left behind on level q, for turn[q] is its own number.
 -- Assumes nothing.
@@ -22,7 +22,9 @@ use Rattle.counting.proofs.CountLaws.{count-none}
 use Rattle.machine.specs.Rows.{withTurn}
 use Rattle.machine.specs.Tables.{Table, row, tableRefusal}
 use Rattle.machine.specs.Census.{isCritical, critical}
+use Rattle.machine.specs.Rounds.{Unbroken}
 use Rattle.machine.specs.declared.Row.{Row}
+use Rattle.machine.proofs.BrokenRounds.{entered-unbroken}
 use Rattle.silence.proofs.Due.{due}
 
 pub record Low (n l c : ℕ) (r : Row) : Type 0 where
@@ -85,3 +87,8 @@ front-silent n l c t f =
     (λ q i.
     let a = front-inside (f .rows q (omega (arith, f .size-is))) .1 in
     ne-eqb (row t q .location) 30 (λ e. omega arith))
+
+pub front-unbroken : (n l c : ℕ) (t : Table) → Front n l c t → Unbroken t
+front-unbroken n l c t f =
+    entered-unbroken t (f .sound)
+    (λ q i e. omega (arith, e, front-inside (f .rows q (omega (arith, f .size-is))) .0))

@@ -20,7 +20,7 @@ use Rattle.machine.proofs.RoundLaws.{round-length, rounds-zero, rounds-suc}
 use Rattle.silence.proofs.Due.{phase}
 use Rattle.silence.proofs.Steady.{Arrives}
 use Rattle.silence.proofs.LastRound.{level-zero-wins, critical-at}
-use Rattle.silence.proofs.Front.{Low, Front, front-silent}
+use Rattle.silence.proofs.Front.{Low, Front, front-silent, front-unbroken}
 use Rattle.silence.proofs.FrontRounds.{Next, front-round}
 
 abbrev pub First : ℕ → Table → Type 0
@@ -46,7 +46,8 @@ first-least m b t h (r, l, some) = go (decLt r m)
 -- the front has come down to level 0, where process 0 is alone
 front-wins : (n c : ℕ) (t : Table) → Front n 0 c t → First 1 t
 front-wins n c t f =
-    let wins = level-zero-wins t 0 (f .sound) in-t (at-21 (decLe 22 (row t 0 .location))) (own .level-is) in
+    let wins = level-zero-wins t 0 (f .sound) (front-unbroken n 0 c t f) in-t
+    (at-21 (decLe 22 (row t 0 .location))) (own .level-is) in
     first-later 0 t (front-silent n 0 c t f) (
       λ r l. absurd (omega arith),
       subst (λ (u : Table). 1 ≤ critical u) (sym (rounds-zero (round t)))

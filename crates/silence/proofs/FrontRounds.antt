@@ -25,7 +25,7 @@ use Rattle.machine.proofs.StepRows.{pushedRow}
 use Rattle.machine.proofs.RoundLaws.{Move, round-sound, round-length, by-moves}
 use Rattle.silence.proofs.Due.{phase}
 use Rattle.silence.proofs.Sweeps.{Swept, swept-none, swept-all, swept-set}
-use Rattle.silence.proofs.Front.{FrontRow, Front, front-turn, front-inside}
+use Rattle.silence.proofs.Front.{FrontRow, Front, front-turn, front-inside, front-unbroken}
 use Rattle.silence.proofs.Strides.{Stride, Advances, stride-turn, move-advances}
 use Rattle.silence.proofs.Strides.Advances.{strides, push}
 use Rattle.silence.proofs.FrontMoves.{high-stride, low-stride, last-stride, low-push, pushed-low, stride-due}
@@ -187,8 +187,8 @@ front-round n l c j d t some next f = go next after
     after : During n l c j d n (round t)
     after =
         subst (λ (m : ℕ). During n l c j d m (round t)) (f .size-is)
-        (by-moves t (λ p v. During n l c j d p v) (f .sound)
-        (λ p v u i size z m h.
+        (by-moves t (λ p v. During n l c j d p v) (f .sound) (front-unbroken n l c t f)
+        (λ p v u i size z y ok m h.
         during-move n l c j d some next p v (omega (arith, f .size-is)) (size ∙ f .size-is) z h u m)
         begun)
 

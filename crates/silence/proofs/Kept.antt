@@ -1,6 +1,6 @@
 -- Every step keeps a table steady, so that it is steady after every list of words from a fresh table.
 --
---   step-keeps-steady    one step of a process
+--   step-keeps-steady    one step of a process, to a sound table
 --   fresh-steady         a fresh table
 --   steady-after         a list of words from it
 --
@@ -23,8 +23,7 @@ use Rattle.machine.specs.System.Step.{lowers, to-push, waits, skips, flickers-2
 use Rattle.machine.specs.System.Step.{cancels}
 use Rattle.machine.specs.declared.Row.{Row}
 use Rattle.machine.proofs.SoundRows.{sound-row, sound-few, sound-accepted}
-use Rattle.machine.proofs.Soundness.{step-keeps-sound}
-use Rattle.machine.proofs.Accepted.{always}
+use Rattle.machine.proofs.Soundness.{always}
 use Rattle.machine.proofs.Assignments.{competes-at}
 use Rattle.machine.proofs.StepRows.{stepRow, step-keeps-rows}
 use Rattle.machine.proofs.BbInside.{step-keeps-bb-inside}
@@ -106,8 +105,14 @@ module _ (t : Table) (p : ℕ) (z : tableRefusal t ≡ 0) (l : p < length t) (s 
         est-others = step-keeps-rows t p l i Others x (others-only x) (λ q ne. s .rows q .est-others) q;
       }
 
-pub step-keeps-steady : (t u : Table) (p : ℕ) → tableRefusal t ≡ 0 → p < length t → Step t p u → Steady t → Steady u
-step-keeps-steady t u p z l x s = record { sound = step-keeps-sound t u p z l x; rows = rows-after t p z l s x }
+pub step-keeps-steady : (t u : Table) (p : ℕ)
+    → tableRefusal t ≡ 0
+    → tableRefusal u ≡ 0
+    → p < length t
+    → Step t p u
+    → Steady t
+    → Steady u
+step-keeps-steady t u p z y l x s = record { sound = y; rows = rows-after t p z l s x }
 
 pub fresh-steady : (t : Table) → fresh t ≡ true → Steady t
 fresh-steady t h =

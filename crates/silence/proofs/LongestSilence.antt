@@ -1,6 +1,7 @@
 -- The longest silence: after COME of every process of a fresh table, as many rounds as the bound has.
 --
 --   come-silent, come-pending    nobody is at 30, and somebody is pending
+--   come-unbroken                no word of the first round is refused
 --   come-first                   some process is at 30 after `silenceBound` rounds, and after fewer nobody is
 --
 -- Assumes nothing.
@@ -15,12 +16,12 @@ use Rattle.counting.proofs.CountLaws.{count-none, count-pos}
 use Rattle.machine.specs.Tables.{Table, row, tableRefusal, fresh}
 use Rattle.machine.specs.Steps.{afterWords}
 use Rattle.machine.specs.Census.{isCritical, critical}
-use Rattle.machine.specs.Rounds.{round, isPending, pending, silenceBound, allCome}
+use Rattle.machine.specs.Rounds.{round, Unbroken, isPending, pending, silenceBound, allCome}
 use Rattle.machine.proofs.SoundRows.{sound-rows, sound-accepted}
 use Rattle.machine.proofs.Soundness.{words-keep-sound, words-keep-length}
 use Rattle.machine.proofs.FreshRows.{fresh-sound}
 use Rattle.silence.proofs.PhaseLaws.{bound-is}
-use Rattle.silence.proofs.AllCome.{all-come, front-begins}
+use Rattle.silence.proofs.AllCome.{all-come, came-unbroken, front-begins}
 use Rattle.silence.proofs.FrontEnds.{First, first-later, front-arrives}
 
 module _ (t : Table) (h : fresh t ≡ true) where
@@ -46,6 +47,9 @@ module _ (t : Table) (h : fresh t ≡ true) where
       let first : 0 < length come = omega (arith, sound-rows come come-sound .0) in
       count-pos (λ q. isPending (row come q)) (length come) 0 first
       (ap (λ (v : ℕ). leb 20 v && leb v 24) (at-20 0 first))
+
+  pub come-unbroken : Unbroken come
+  come-unbroken = came-unbroken come come-sound (λ q l. all-come t h q (omega (arith, same-size)))
 
   pub come-first : First (silenceBound (length t)) come
   come-first =

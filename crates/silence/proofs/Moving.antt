@@ -1,7 +1,7 @@
 -- A move in a quiet table leads to 30, or leaves the table quiet, with the same competitors.
 --
 --   Among C n t     <=>  t is quiet, of n processes, and just those that have C compete.
---   quiet-moves          a move from such a table leads to 30 or to such a table
+--   quiet-moves          a move from such a table to a sound one leads to 30 or to such a table
 --
 -- Assumes nothing.
 use Prim.Native.Nat.{ℕ, _<_}
@@ -12,7 +12,7 @@ use lib.Dec.{eqb, leb}
 use lib.ListN.{length}
 use borrow.Author.Tests.{eqb-true}
 use Rattle.counting.proofs.TestLaws.{or-cases, beq-true}
-use Rattle.machine.specs.Tables.{Table, row, oneOf, competes}
+use Rattle.machine.specs.Tables.{Table, row, oneOf, tableRefusal, competes}
 use Rattle.machine.specs.Rounds.{isPending}
 use Rattle.machine.specs.declared.Row.{Row}
 use Rattle.machine.proofs.OneOfLaws.{by-test}
@@ -47,8 +47,8 @@ module _ (n : ℕ) (t : Table) (p : ℕ) (l : p < n) (h : Quiet n t) where
       (or-cases (eqb v 30) (oneOf v quietPlaces) (a .0))
 
 module _ (C : ℕ → Bool) (n : ℕ) (t u : Table) (p : ℕ) (l : p < n) (a : Among C n t) (m : Move t p u) where
-  pub quiet-moves : (row u p .location ≡ 30) ⊎ Among C n u
-  quiet-moves = go (onward n t p l h m)
+  pub quiet-moves : tableRefusal u ≡ 0 → (row u p .location ≡ 30) ⊎ Among C n u
+  quiet-moves y = go (onward n t p l h m)
     where
       h : Quiet n t
       h = a .quiet
@@ -69,7 +69,7 @@ module _ (C : ℕ → Bool) (n : ℕ) (t u : Table) (p : ℕ) (l : p < n) (a : A
           let one = h .somebody in
           let quiet : Quiet n u =
           record {
-            steady = step-keeps-steady t u p (h .steady .sound) in-t (move-step m) (h .steady);
+            steady = step-keeps-steady t u p (h .steady .sound) y in-t (move-step m) (h .steady);
             size-is = step-becomes t p in-t i (move-step m) .same-size ∙ h .size-is;
             places = places;
             somebody = (one .0, same (one .0) ∙ sym (a .competing (one .0)) ∙ one .1);

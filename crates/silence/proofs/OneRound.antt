@@ -14,10 +14,11 @@ use native.Mathlib.Omega.{arith}
 use lib.ListN.{length}
 use Rattle.machine.specs.Tables.{Table, row, tableRefusal}
 use Rattle.machine.specs.Census.{critical}
-use Rattle.machine.specs.Rounds.{round}
+use Rattle.machine.specs.Steps.{refusalOf}
+use Rattle.machine.specs.Rounds.{roundWord, round}
 use Rattle.machine.proofs.Frames.{step-others}
 use Rattle.machine.proofs.RoundLaws.{Move, move-step, by-moves, round-length}
-use Rattle.silence.proofs.QuietLaws.{quiet-within, quiet-never}
+use Rattle.silence.proofs.QuietLaws.{quiet-within, quiet-never, quiet-unbroken}
 use Rattle.silence.proofs.Pace.{pace, pace-first, pace-last, pace-spends}
 use Rattle.silence.proofs.Moving.{Among, quiet-moves}
 use Rattle.silence.proofs.OnTime.{OnTime, onTime, onTime-mono}
@@ -53,10 +54,10 @@ module _ (C : ℕ → Bool) (n : ℕ) (t : Table) where
   abbrev After : ℕ → Table → Type 0
   After p v = ((i : ℕ) × (i < p) × (row v i .location ≡ 30)) ⊎ Goes C n t (λ j. pace j p) v
 
-  move-goes-on : (p : ℕ) (v u : Table) → p < n → Move v p u → After p v → After (suc p) u
-  move-goes-on p v u l m (inl (i, k, e)) =
+  move-goes-on : (p : ℕ) (v u : Table) → p < n → tableRefusal u ≡ 0 → Move v p u → After p v → After (suc p) u
+  move-goes-on p v u l y m (inl (i, k, e)) =
       inl (i, omega arith, step-others v u p i (move-step m) (λ z. omega arith) .location-same ∙ e)
-  move-goes-on p v u l m (inr h) = go (quiet-moves C n v u p l (h .among) m)
+  move-goes-on p v u l y m (inr h) = go (quiet-moves C n v u p l (h .among) m y)
     where
       go : (row u p .location ≡ 30) ⊎ Among C n u → After (suc p) u
       go (inl e) = inl (p, omega arith, e)
@@ -73,7 +74,7 @@ module _ (C : ℕ → Bool) (n : ℕ) (t : Table) where
           })
 
   pub round-goes-on : Among C n t → (1 ≤ critical (round t)) ⊎ Goes C n t (λ j q. j) (round t)
-  round-goes-on a = go (by-moves t After (a .quiet .steady .sound) each (inr start))
+  round-goes-on a = go (by-moves t After (a .quiet .steady .sound) (quiet-unbroken n t (a .quiet)) each (inr start))
     where
       size-is : length t ≡ n
       size-is = a .quiet .size-is
@@ -87,10 +88,12 @@ module _ (C : ℕ → Bool) (n : ℕ) (t : Table) where
           → p < length t
           → length v ≡ length t
           → tableRefusal v ≡ 0
+          → tableRefusal u ≡ 0
+          → refusalOf v (roundWord v p) ≡ 0
           → Move v p u
           → After p v
           → After (suc p) u
-      each p v u l e z m h = move-goes-on p v u (omega arith) m h
+      each p v u l e z y ok m h = move-goes-on p v u (omega arith) y m h
 
       go : After (length t) (round t) → (1 ≤ critical (round t)) ⊎ Goes C n t (λ j q. j) (round t)
       go (inl (i, l, e)) = inl (critical-at (round t) i (omega (arith, round-length t)) e)

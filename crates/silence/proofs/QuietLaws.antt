@@ -4,6 +4,7 @@
 --   quiet-in, quiet-level      a process has a row, and so has its level
 --   quiet-within               who competes is a process of the table
 --   quiet-never                nobody is at another location than those of a quiet table
+--   quiet-unbroken             so nobody is at 20, and a round is unbroken
 --   quiet-waits, quiet-last    who competes is at 21 to 24, and with level 0 at 21
 --   quiet-seen                 who shows act competes
 --   est-fits                   est of one who competes has at most n - 1 members
@@ -28,10 +29,12 @@ use Rattle.counting.proofs.SizeLaws.{size-le, size-under, size-without-in, size
 use Rattle.counting.proofs.SetLaws.{member-below}
 use Rattle.machine.specs.Rows.{withEst, withLis}
 use Rattle.machine.specs.Tables.{Table, row, oneOf, competes}
+use Rattle.machine.specs.Rounds.{Unbroken}
 use Rattle.machine.proofs.OneOfLaws.{by-one}
 use Rattle.machine.proofs.SoundRows.{SoundRow, sound-row, sound-few}
 use Rattle.machine.proofs.Assignments.{competes-at, competes-within}
 use Rattle.machine.proofs.StepRows.{pushedRow}
+use Rattle.machine.proofs.BrokenRounds.{entered-unbroken}
 use Rattle.silence.proofs.Steady.{waitingPlaces, quietPlaces, Quiet}
 use Rattle.silence.proofs.Due.{left, due, phase}
 use Rattle.silence.proofs.DueLaws.{left-21, left-22, left-23, left-24, left-pos, due-set, due-unset}
@@ -57,6 +60,11 @@ module _ (n : ℕ) (t : Table) (h : Quiet n t) where
   -- a process is at none of the other locations
   pub quiet-never : (q v : ℕ) → q < n → row t q .location ≡ v → oneOf v quietPlaces ≡ false → ⊥
   quiet-never q v l e z = false≢true (sym z ∙ sym (ap (λ (x : ℕ). oneOf x quietPlaces) e) ∙ h .places q l)
+
+  pub quiet-unbroken : Unbroken t
+  quiet-unbroken =
+      entered-unbroken t (h .steady .sound)
+      (λ q l e. quiet-never q 20 (subst (λ (x : ℕ). q < x) (h .size-is) l) e refl)
 
   -- who competes waits at one of four locations
   pub quiet-waits : (q : ℕ) → competes (row t q) ≡ true → oneOf (row t q .location) waitingPlaces ≡ true

@@ -1,4 +1,5 @@
--- From a steady table with nobody at 30 and somebody pending, the rounds of the bound bring some process to 30.
+-- From a steady table with nobody at 30 and somebody pending, the rounds of the bound bring some process to 30 if the
+-- first of them is unbroken.
 --
 --   within-bound    some process is at 30 within it: the first round, and those of the quiet table that it leaves
 --
@@ -10,7 +11,7 @@ use native.Mathlib.Omega.{arith}
 use lib.ListN.{length}
 use Rattle.machine.specs.Tables.{Table}
 use Rattle.machine.specs.Census.{critical}
-use Rattle.machine.specs.Rounds.{round, pending, silenceBound}
+use Rattle.machine.specs.Rounds.{round, Unbroken, pending, silenceBound}
 use Rattle.machine.proofs.SoundRows.{sound-rows}
 use Rattle.silence.proofs.Steady.{Steady, Quiet, Arrives}
 use Rattle.silence.proofs.Due.{phase}
@@ -21,10 +22,11 @@ use Rattle.silence.proofs.Bound.{quiet-ends}
 
 pub within-bound : (t : Table)
     → Steady t
+    → Unbroken t
     → critical t ≡ 0
     → 1 ≤ pending t
     → Arrives t (silenceBound (length t))
-within-bound t s none some = sized (length t) refl (first-round t s none some)
+within-bound t s whole none some = sized (length t) refl (first-round t s whole none some)
   where
     -- the first round leads to 30 or to a quiet table
     rest : (k : ℕ) → (1 ≤ critical (round t)) ⊎ Quiet (suc k) (round t) → Arrives t (suc (phase (suc k) * k + 1))

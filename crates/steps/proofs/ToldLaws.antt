@@ -102,10 +102,6 @@ module _ {x y : List (List ℕ)} {p : ℕ} {s : Told} (a : ℕ) where
       subst (λ (i : ℕ). Moves x i p a y s) (sym e)
       (record { told-is = m .told-is ∙ told; becomes = becomes-as (m .becomes) none })
 
-  pub go-moves : Goes x p y s → Moves x GO p a y s
-  unfolding moved cellAt
-  go-moves = any-argument GO GO refl refl refl
-
   pub come-moves : (k : ℕ) → k ≡ COME → Moves x COME p 0 y s → Moves x k p a y s
   unfolding moved cellAt
   come-moves k = any-argument COME k refl refl

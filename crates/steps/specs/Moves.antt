@@ -2,6 +2,7 @@
 --
 --   kindEvent k r     ==   the event of an allowed kind at a row, read before the step; goEvent r is that of GO.
 --   kindTold k p a r  ==   what the step tells of it, of process p with argument a.
+--   rowRefusal t k p a  ==  the first of 10 and 11 that applies, or 0: all that refuses a word but 15.
 --   Ready x p         <=>  process p of the cells x can move: what a sound table gives.
 --   At x p l          <=>  it can, and is at location l.
 --   Free x k p        <=>  it can, and kind k is allowed where it is.
@@ -15,16 +16,16 @@
 -- Assumes nothing.
 use Prim.Native.Nat.{ℕ, _^_, _≤_, _<_}
 use mathlib.Core.Path.{_≡_}
-use mathlib.Core.Bool.{true, cond, _&&_}
+use mathlib.Core.Bool.{true, cond, _&&_, not}
 use mathlib.Core.Logic.{_⊎_}
 use mathlib.Core.List.{List}
 use lib.Dec.{eqb}
 use lib.ListN.{length}
-use Rattle.machine.specs.Refusals.{accepted}
-use Rattle.machine.specs.Tables.{row}
+use Rattle.machine.specs.Refusals.{accepted, notAllowed, badArgument}
+use Rattle.machine.specs.Tables.{Table, row}
 use Rattle.machine.specs.Words.{STAY, COME, GO, CANCEL, isKind}
 use Rattle.machine.specs.Shared.{cellAt}
-use Rattle.machine.specs.Steps.{moved, allowed, refusalAt}
+use Rattle.machine.specs.Steps.{moved, allowed, argumentFits, refusalAt}
 use Rattle.machine.specs.declared.Row.{Row}
 use Rattle.machine.specs.declared.Event.{Event}
 use Rattle.machine.specs.declared.Told.{Told}
@@ -44,6 +45,13 @@ kindEvent k r = cond (eqb k COME) Event.Come (cond (eqb k GO) (goEvent r) Event.
 
 abbrev pub kindTold : ℕ → ℕ → ℕ → Row → Told
 kindTold k p a r = record { event = kindEvent k r; cell = cellAt k p a r }
+
+-- ---- what refuses, but for the counts
+
+abbrev pub rowRefusal : Table → ℕ → ℕ → ℕ → ℕ
+rowRefusal t k p a =
+    cond (not (allowed k (row t p))) notAllowed
+    (cond (not (argumentFits (length t) k (row t p) a)) badArgument accepted)
 
 -- ---- what the functions require
 

@@ -7,16 +7,17 @@ use cells::access::turn_to;
 use cells::sweeps::competitors;
 use cells::sweeps::forget;
 use machine::Event;
+use machine::Stepped;
 use machine::Told;
 ghost use lib.ListN.{set};
 ghost use Rattle.machine.specs.Rows.{withLocation};
 ghost use Rattle.machine.specs.Tables.{row};
 ghost use Rattle.machine.specs.Words.{GO};
 ghost use Rattle.cells.specs.View.{rowsOf, Becomes};
-ghost use Rattle.steps.specs.Moves.{Ready, At, Free, Goes};
+ghost use Rattle.steps.specs.Moves.{Ready, At, Free, Goes, Takes};
 
 // Process p goes to a location, with everything else kept.
-pub(crate) fn go_to(cells: &mut [[u16; 8]], p: u16, l: u16)
+pub(crate) fn go_to(cells: &mut [[u16; 24]], p: u16, l: u16)
     requires { ⌜ Ready (now cells) p ⌝ }
     ensures { λ _. ⌜ Becomes (now (cells .entry))
         (set (rowsOf (now (cells .entry))) p (withLocation l (row (rowsOf (now (cells .entry))) p)))
@@ -26,20 +27,25 @@ pub(crate) fn go_to(cells: &mut [[u16; 8]], p: u16, l: u16)
     put_row(cells, p as usize, rows::moves::moved_to(l, r));
 }
 
-// GO at 20: to 21, where process p competes.
-fn enter(cells: &mut [[u16; 8]], p: u16) -> Told
+// GO at 20: to 21, where process p competes; or 15, where it has passed one of those that compete
+// 65,535 times.
+fn enter(cells: &mut [[u16; 24]], p: u16) -> Stepped
     requires { ⌜ At (now cells) p 20 ⌝ }
-    ensures { λ s. ⌜ Goes (now (cells .entry)) p (now (cells .exit)) s ⌝ }
+    ensures { λ s. ⌜ Takes (now (cells .entry)) GO p 0 (now (cells .exit)) s ⌝ }
 {
     let n = cells.len() as u16;
     let c = competitors(cells);
     let r = row_at(cells, p as usize);
+    let passes = r.passes;
+    if !rows::passes::raisable(c, passes) {
+        return Stepped::Refused(machine::PASSES_FULL);
+    }
     put_row(cells, p as usize, rows::moves::entered(n, p, c, r));
-    Told::act_written(p)
+    Stepped::Moved(Told::act_written(p))
 }
 
 // GO at 21: to 22, or at level 0 into the critical section.
-fn pass(cells: &mut [[u16; 8]], p: u16) -> Told
+fn pass(cells: &mut [[u16; 24]], p: u16) -> Told
     requires { ⌜ At (now cells) p 21 ⌝ }
     ensures { λ s. ⌜ Goes (now (cells .entry)) p (now (cells .exit)) s ⌝ }
 {
@@ -52,7 +58,7 @@ fn pass(cells: &mut [[u16; 8]], p: u16) -> Told
 }
 
 // GO at 22: to 23.
-fn end_pass(cells: &mut [[u16; 8]], p: u16) -> Told
+fn end_pass(cells: &mut [[u16; 24]], p: u16) -> Told
     requires { ⌜ At (now cells) p 22 ⌝ }
     ensures { λ s. ⌜ Goes (now (cells .entry)) p (now (cells .exit)) s ⌝ }
 {
@@ -61,7 +67,7 @@ fn end_pass(cells: &mut [[u16; 8]], p: u16) -> Told
 }
 
 // GO at 23: what est, bb and the turn cell of its level say, where est and bb ask for that cell.
-fn reconsider(cells: &mut [[u16; 8]], p: u16) -> Told
+fn reconsider(cells: &mut [[u16; 24]], p: u16) -> Told
     requires { ⌜ At (now cells) p 23 ⌝ }
     ensures { λ s. ⌜ Goes (now (cells .entry)) p (now (cells .exit)) s ⌝ }
 {
@@ -75,7 +81,7 @@ fn reconsider(cells: &mut [[u16; 8]], p: u16) -> Told
 }
 
 // GO at 24. The turn cell is written after the row of p, for it may stand in that row.
-fn push(cells: &mut [[u16; 8]], p: u16) -> Told
+fn push(cells: &mut [[u16; 24]], p: u16) -> Told
     requires { ⌜ At (now cells) p 24 ⌝ }
     ensures { λ s. ⌜ Goes (now (cells .entry)) p (now (cells .exit)) s ⌝ }
 {
@@ -87,8 +93,8 @@ fn push(cells: &mut [[u16; 8]], p: u16) -> Told
     Told::turn_written(r.level)
 }
 
-// GO at 30: out of the critical section and out of every ahead set.
-fn leave(cells: &mut [[u16; 8]], p: u16) -> Told
+// GO at 30: out of the critical section, and out of every ahead set and every count of passes.
+fn leave(cells: &mut [[u16; 24]], p: u16) -> Told
     requires { ⌜ At (now cells) p 30 ⌝ }
     ensures { λ s. ⌜ Goes (now (cells .entry)) p (now (cells .exit)) s ⌝ }
 {
@@ -98,7 +104,7 @@ fn leave(cells: &mut [[u16; 8]], p: u16) -> Told
 }
 
 // GO at 40: back to 10.
-fn rest(cells: &mut [[u16; 8]], p: u16) -> Told
+fn rest(cells: &mut [[u16; 24]], p: u16) -> Told
     requires { ⌜ At (now cells) p 40 ⌝ }
     ensures { λ s. ⌜ Goes (now (cells .entry)) p (now (cells .exit)) s ⌝ }
 {
@@ -107,20 +113,20 @@ fn rest(cells: &mut [[u16; 8]], p: u16) -> Told
     Told::act_written(p)
 }
 
-// GO of process p where it is allowed. What is left for the last arm is 40: as a case of its own it
-// makes a run of two processes 7 percent slower.
-pub fn go(cells: &mut [[u16; 8]], p: u16) -> Told
+// GO of process p where it is allowed: what it tells, or 15. What is left for the last arm is 40: as a
+// case of its own it makes a run of two processes 7 percent slower.
+pub fn go(cells: &mut [[u16; 24]], p: u16) -> Stepped
     requires { ⌜ Free (now cells) GO p ⌝ }
-    ensures { λ s. ⌜ Goes (now (cells .entry)) p (now (cells .exit)) s ⌝ }
+    ensures { λ s. ⌜ Takes (now (cells .entry)) GO p 0 (now (cells .exit)) s ⌝ }
 {
     let l = row_at(cells, p as usize).location;
     match l {
         20 => enter(cells, p),
-        21 => pass(cells, p),
-        22 => end_pass(cells, p),
-        23 => reconsider(cells, p),
-        24 => push(cells, p),
-        30 => leave(cells, p),
-        _ => rest(cells, p),
+        21 => Stepped::Moved(pass(cells, p)),
+        22 => Stepped::Moved(end_pass(cells, p)),
+        23 => Stepped::Moved(reconsider(cells, p)),
+        24 => Stepped::Moved(push(cells, p)),
+        30 => Stepped::Moved(leave(cells, p)),
+        _ => Stepped::Moved(rest(cells, p)),
     }
 }

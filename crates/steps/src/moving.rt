@@ -10,7 +10,7 @@ ghost use Rattle.machine.specs.Words.{COME, FLICKER, LOOK, CANCEL};
 ghost use Rattle.steps.specs.Moves.{Ready, Free, Sees, Moves};
 
 // COME of process p: to 20.
-pub(crate) fn come(cells: &mut [[u16; 8]], p: u16) -> Told
+pub(crate) fn come(cells: &mut [[u16; 24]], p: u16) -> Told
     requires { ⌜ Ready (now cells) p ⌝ }
     ensures { λ s. ⌜ Moves (now (cells .entry)) COME p 0 (now (cells .exit)) s ⌝ }
 {
@@ -19,7 +19,7 @@ pub(crate) fn come(cells: &mut [[u16; 8]], p: u16) -> Told
 }
 
 // FLICKER of process p: at 24 the turn cell of its level becomes `a`, elsewhere its act.
-pub(crate) fn flicker(cells: &mut [[u16; 8]], p: u16, a: u16) -> Told
+pub(crate) fn flicker(cells: &mut [[u16; 24]], p: u16, a: u16) -> Told
     requires { ⌜ Free (now cells) FLICKER p ⌝ }
     ensures { λ s. ⌜ Moves (now (cells .entry)) FLICKER p a (now (cells .exit)) s ⌝ }
 {
@@ -33,7 +33,7 @@ pub(crate) fn flicker(cells: &mut [[u16; 8]], p: u16, a: u16) -> Told
 }
 
 // LOOK of process p at q.
-pub fn look(cells: &mut [[u16; 8]], p: u16, q: u16) -> Told
+pub fn look(cells: &mut [[u16; 24]], p: u16, q: u16) -> Told
     requires { ⌜ Sees (now cells) p q ⌝ }
     ensures { λ s. ⌜ Moves (now (cells .entry)) LOOK p q (now (cells .exit)) s ⌝ }
 {
@@ -44,7 +44,7 @@ pub fn look(cells: &mut [[u16; 8]], p: u16, q: u16) -> Told
 }
 
 // CANCEL of process p: to 40, where its act is still what the last FLICKER left.
-pub(crate) fn cancel(cells: &mut [[u16; 8]], p: u16) -> Told
+pub(crate) fn cancel(cells: &mut [[u16; 24]], p: u16) -> Told
     requires { ⌜ Ready (now cells) p ⌝ }
     ensures { λ s. ⌜ Moves (now (cells .entry)) CANCEL p 0 (now (cells .exit)) s ⌝ }
 {

@@ -13,7 +13,7 @@ ghost use Rattle.steps.specs.Stepping.{Steps};
 // The step of a word at a table that is known to be sound, which is not checked again: what it
 // tells of an accepted word; else the number of the refusal, and no row is changed. The frequent
 // kinds come first.
-pub fn advance(cells: &mut [[u16; 8]], word: u32) -> Stepped
+pub fn advance(cells: &mut [[u16; 24]], word: u32) -> Stepped
     requires { ⌜ tableRefusal (rowsOf (now cells)) ≡ 0 ⌝ }
     ensures { λ s. ⌜ Steps (now (cells .entry)) word (now (cells .exit)) s ⌝ }
 {
@@ -41,7 +41,7 @@ pub fn advance(cells: &mut [[u16; 8]], word: u32) -> Stepped
 
 // The step of a word at a table of any size and content: what it tells of an accepted word;
 // else the number of the refusal, of the table or of the word, and no row is changed.
-pub fn step(cells: &mut [[u16; 8]], word: u32) -> Stepped
+pub fn step(cells: &mut [[u16; 24]], word: u32) -> Stepped
     ensures { λ s. ⌜ Steps (now (cells .entry)) word (now (cells .exit)) s ⌝ }
 {
     let unsound = check(cells);

@@ -11,14 +11,14 @@ use machine::Stepped;
 use machine::Told;
 ghost use mathlib.Core.Path.{_≡_};
 ghost use Rattle.machine.specs.Words.{FLICKER, GO, LOOK};
-ghost use Rattle.machine.specs.Steps.{refusalAt};
 ghost use Rattle.cells.specs.View.{rowsOf};
-ghost use Rattle.steps.specs.Moves.{Ready, Asked, Jumping, Takes};
+ghost use Rattle.steps.specs.Moves.{rowRefusal, Ready, Asked, Jumping, Takes};
 
-// 0, or the refusal of a kind and an argument at the row of p: 10, then 11.
-fn refusal_at(cells: &[[u16; 8]], kind: u16, p: u16, a: u16) -> u16
+// 0, or the refusal of a kind and an argument at the row of p: 10, then 11. What is left of a refusal,
+// 15, GO finds at 20, with the competitors that it counts.
+fn refusal_at(cells: &[[u16; 24]], kind: u16, p: u16, a: u16) -> u16
     requires { ⌜ Asked (now cells) kind p ⌝ }
-    ensures { λ v. ⌜ v ≡ refusalAt (rowsOf (now (cells .entry))) kind p a ⌝ }
+    ensures { λ v. ⌜ v ≡ rowRefusal (rowsOf (now (cells .entry))) kind p a ⌝ }
 {
     let r = row_at(cells, p as usize);
     let there = rows::kinds::allowed(kind, r);
@@ -33,7 +33,7 @@ fn refusal_at(cells: &[[u16; 8]], kind: u16, p: u16, a: u16) -> u16
 }
 
 // LOOK of process p at `a`.
-pub(crate) fn take_look(cells: &mut [[u16; 8]], p: u16, a: u16) -> Stepped
+pub(crate) fn take_look(cells: &mut [[u16; 24]], p: u16, a: u16) -> Stepped
     requires { ⌜ Ready (now cells) p ⌝ }
     ensures { λ s. ⌜ Takes (now (cells .entry)) LOOK p a (now (cells .exit)) s ⌝ }
 {
@@ -45,7 +45,7 @@ pub(crate) fn take_look(cells: &mut [[u16; 8]], p: u16, a: u16) -> Stepped
 }
 
 // GO of process p.
-pub(crate) fn take_go(cells: &mut [[u16; 8]], p: u16, a: u16) -> Stepped
+pub(crate) fn take_go(cells: &mut [[u16; 24]], p: u16, a: u16) -> Stepped
     requires { ⌜ Ready (now cells) p ⌝ }
     ensures { λ s. ⌜ Takes (now (cells .entry)) GO p a (now (cells .exit)) s ⌝ }
 {
@@ -53,11 +53,11 @@ pub(crate) fn take_go(cells: &mut [[u16; 8]], p: u16, a: u16) -> Stepped
     if refusal != 0 {
         return Stepped::Refused(refusal);
     }
-    Stepped::Moved(go(cells, p))
+    go(cells, p)
 }
 
 // FLICKER of process p to `a`.
-pub(crate) fn take_flicker(cells: &mut [[u16; 8]], p: u16, a: u16) -> Stepped
+pub(crate) fn take_flicker(cells: &mut [[u16; 24]], p: u16, a: u16) -> Stepped
     requires { ⌜ Ready (now cells) p ⌝ }
     ensures { λ s. ⌜ Takes (now (cells .entry)) FLICKER p a (now (cells .exit)) s ⌝ }
 {
@@ -71,7 +71,7 @@ pub(crate) fn take_flicker(cells: &mut [[u16; 8]], p: u16, a: u16) -> Stepped
 // STAY, COME or CANCEL of process p, the kinds that change no cell but the location. One function for
 // the three: with five cases or more the compiler makes the choice of a kind a jump through a table,
 // which is slower.
-pub(crate) fn take_jump(cells: &mut [[u16; 8]], kind: u16, p: u16, a: u16) -> Stepped
+pub(crate) fn take_jump(cells: &mut [[u16; 24]], kind: u16, p: u16, a: u16) -> Stepped
     requires { ⌜ Jumping (now cells) kind p ⌝ }
     ensures { λ s. ⌜ Takes (now (cells .entry)) kind p a (now (cells .exit)) s ⌝ }
 {

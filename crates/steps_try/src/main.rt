@@ -63,6 +63,20 @@ const ALONE: [u32; 21] = [
     0x4000_0000,
 ];
 
+// A row of eight cells with no passes.
+fn row(c: [u16; 8]) -> [u16; 24] {
+    let mut r = [0u16; 24];
+    r[0] = c[0];
+    r[1] = c[1];
+    r[2] = c[2];
+    r[3] = c[3];
+    r[4] = c[4];
+    r[5] = c[5];
+    r[6] = c[6];
+    r[7] = c[7];
+    r
+}
+
 // Writes a label and a number below 100.
 fn say(label: &[u8], value: usize) {
     io::write_all(1, label);
@@ -74,8 +88,13 @@ fn say(label: &[u8], value: usize) {
     io::write_all(1, &last);
 }
 
+// A cell as the number that `say` takes.
+fn wide(v: u16) -> usize {
+    v as usize
+}
+
 // The row of process q, or one at rest where there is none.
-fn row_of(cells: &[[u16; 8]], q: usize) -> Row {
+fn row_of(cells: &[[u16; 24]], q: usize) -> Row {
     if cells.len() <= q {
         return Row::IDLE;
     }
@@ -91,7 +110,7 @@ fn refusal_of(answer: Stepped) -> usize {
 }
 
 // How many words of a list the step accepts, each given in turn.
-fn accepted(cells: &mut [[u16; 8]], words: &[u32]) -> usize {
+fn accepted(cells: &mut [[u16; 24]], words: &[u32]) -> usize {
     let mut taken = 0;
     let mut i = 0;
     while i < words.len() {
@@ -105,7 +124,7 @@ fn accepted(cells: &mut [[u16; 8]], words: &[u32]) -> usize {
 
 // Both led to 24 seeing each other, GO for 0, GO for 1; then one more pass each.
 fn pair() {
-    let mut cells = [[0u16; 8]; 2];
+    let mut cells = [[0u16; 24]; 2];
     make_fresh(&mut cells);
     say(
         b"both to 24, words accepted ",
@@ -116,20 +135,20 @@ fn pair() {
     show_levels(&cells);
 }
 
-fn show_sets(cells: &[[u16; 8]]) {
+fn show_sets(cells: &[[u16; 24]]) {
     say(b"turn[1] ", row_of(cells, 1).turn as usize);
     say(b"ahead of 0 ", row_of(cells, 0).ahead as usize);
     say(b"ahead of 1 ", row_of(cells, 1).ahead as usize);
 }
 
-fn show_levels(cells: &[[u16; 8]]) {
+fn show_levels(cells: &[[u16; 24]]) {
     say(b"level of 0 ", row_of(cells, 0).level as usize);
     say(b"level of 1 ", row_of(cells, 1).level as usize);
     say(b"location of 1 ", row_of(cells, 1).location as usize);
 }
 
 // How many words bring a lone process to 30; 0 where it is not there.
-fn alone(cells: &mut [[u16; 8]]) -> usize {
+fn alone(cells: &mut [[u16; 24]]) -> usize {
     make_fresh(cells);
     let taken = accepted(cells, &ALONE);
     if row_of(cells, 0).location == 30 {
@@ -140,7 +159,7 @@ fn alone(cells: &mut [[u16; 8]]) -> usize {
 }
 
 // The same among the first n rows.
-fn alone_among(room: &mut [[u16; 8]], n: usize) -> usize {
+fn alone_among(room: &mut [[u16; 24]], n: usize) -> usize {
     if room.len() < n {
         return 0;
     }
@@ -149,7 +168,7 @@ fn alone_among(room: &mut [[u16; 8]], n: usize) -> usize {
 
 // For each number of processes.
 fn every_size() {
-    let mut room = [[0u16; 8]; 16];
+    let mut room = [[0u16; 24]; 16];
     let mut n = 2;
     while n <= 16 {
         say(b"processes ", n);
@@ -160,9 +179,9 @@ fn every_size() {
 
 // GO at 24 of process 1 at level 1, whose own row holds the turn cell.
 fn own_turn() {
-    let mut cells = [[0u16; 8]; 3];
+    let mut cells = [[0u16; 24]; 3];
     make_fresh(&mut cells);
-    cells[1] = [24, 1, 0, 1, 5, 0, 0, 0];
+    cells[1] = row([24, 1, 0, 1, 5, 0, 0, 0]);
     say(
         b"own turn cell, refusal ",
         refusal_of(step(&mut cells, 0x4001_0000)),
@@ -178,36 +197,51 @@ fn show_row(r: Row) {
 }
 
 // CANCEL of process 0 at 20, with every cell of its row set to what it may hold there, and with 0 in
-// the ahead set of process 1: the location alone changes.
+// the ahead set of process 1, which has passed it: the location alone changes.
 fn cancels() {
-    let mut cells = [[20, 1, 1, 1, 3, 3, 2, 0], [21, 1, 0, 1, 1, 0, 1, 1]];
-    let mut r = row_of(&cells, 0);
-    let s = row_of(&cells, 1);
+    let mut cells = [
+        row([20, 1, 1, 1, 3, 3, 2, 0]),
+        row([21, 1, 0, 1, 1, 0, 1, 1]),
+    ];
+    cells[0][9] = 65535;
+    cells[1][8] = 1;
+    let mut was = cells;
     say(
         b"cancel, refusal ",
         refusal_of(step(&mut cells, 0x6000_0000)),
     );
-    say(b"location ", row_of(&cells, 0).location as usize);
-    r.location = 40;
-    if same_row(r, row_of(&cells, 0)) & same_row(s, row_of(&cells, 1)) {
+    say(b"location ", wide(cells[0][0]));
+    was[0][0] = 40;
+    if same_row(was[0], cells[0]) & same_row(was[1], cells[1]) {
         io::write_all(1, b"all else kept\n");
     }
 }
 
-// Whether two rows are the same.
-fn same_row(r: Row, s: Row) -> bool {
-    (r.location == s.location)
-        & (r.act == s.act)
-        & (r.bb == s.bb)
-        & (r.level == s.level)
-        & (r.est == s.est)
-        & (r.lis == s.lis)
-        & (r.ahead == s.ahead)
-        & (r.turn == s.turn)
+// Process 0 enters while process 1 competes, which is counted; 1 leaves, which clears the count.
+fn passes() {
+    let mut cells = [
+        row([20, 0, 0, 0, 0, 0, 0, 0]),
+        row([30, 1, 0, 0, 0, 0, 0, 0]),
+    ];
+    step_all(&mut cells, &[0x4000_0000]);
+    say(b"passes of 0 over 1 ", wide(cells[0][9]));
+    step_all(&mut cells, &[0x4001_0000]);
+    say(b"passes of 0 over 1 ", wide(cells[0][9]));
+}
+
+// Whether two rows are the same, cells and passes.
+fn same_row(r: [u16; 24], s: [u16; 24]) -> bool {
+    let mut same = true;
+    for i in 0..24 {
+        if r[i] != s[i] {
+            same = false;
+        }
+    }
+    same
 }
 
 // The refusal of a word at the first n rows.
-fn step_among(room: &mut [[u16; 8]], n: usize, word: u32) -> usize {
+fn step_among(room: &mut [[u16; 24]], n: usize, word: u32) -> usize {
     if room.len() < n {
         return 0;
     }
@@ -216,12 +250,10 @@ fn step_among(room: &mut [[u16; 8]], n: usize, word: u32) -> usize {
 
 // The refusal of a word at two rows, of which the step is lent the first n; then whether both rows
 // are as before.
-fn refuses(first: [u16; 8], n: usize, word: u32) {
-    let mut cells = [first, [10, 0, 0, 0, 0, 0, 0, 0]];
-    let r = row_of(&cells, 0);
-    let s = row_of(&cells, 1);
+fn refuses(first: [u16; 24], second: [u16; 24], n: usize, word: u32) {
+    let mut cells = [first, second];
     say(b"refusal ", step_among(&mut cells, n, word));
-    if same_row(r, row_of(&cells, 0)) & same_row(s, row_of(&cells, 1)) {
+    if same_row(first, cells[0]) & same_row(second, cells[1]) {
         io::write_all(1, b"rows kept\n");
     }
 }
@@ -231,18 +263,23 @@ fn main() {
     every_size();
     own_turn();
     cancels();
-    let rests = [10, 0, 0, 0, 0, 0, 0, 0];
-    let writes = [20, 0, 0, 0, 0, 0, 0, 0];
-    let competes = [21, 1, 0, 1, 2, 0, 0, 0];
-    let lost = [11, 0, 0, 0, 0, 0, 0, 0];
-    refuses(rests, 1, 0x2000_0000);
-    refuses(lost, 2, 0x2000_0000);
-    refuses(rests, 2, 0x0000_0000);
-    refuses(rests, 2, 0x2002_0000);
-    refuses(rests, 2, 0x4000_0000);
-    refuses(rests, 2, 0x2000_0001);
-    refuses(writes, 2, 0x7000_0000);
-    refuses(rests, 2, 0x6000_0001);
-    refuses(competes, 2, 0x6000_0000);
-    refuses(writes, 2, 0x6000_0001);
+    passes();
+    let rests = row([10, 0, 0, 0, 0, 0, 0, 0]);
+    let mut writes = row([20, 0, 0, 0, 0, 0, 0, 0]);
+    let competes = row([21, 1, 0, 1, 2, 0, 0, 0]);
+    let lost = row([11, 0, 0, 0, 0, 0, 0, 0]);
+    refuses(rests, rests, 1, 0x2000_0000);
+    refuses(lost, rests, 2, 0x2000_0000);
+    refuses(rests, rests, 2, 0x0000_0000);
+    refuses(rests, rests, 2, 0x2002_0000);
+    refuses(rests, rests, 2, 0x4000_0000);
+    refuses(rests, rests, 2, 0x2000_0001);
+    refuses(writes, rests, 2, 0x7000_0000);
+    refuses(rests, rests, 2, 0x6000_0001);
+    refuses(competes, rests, 2, 0x6000_0000);
+    refuses(writes, rests, 2, 0x6000_0001);
+    // the most passes over process 1, which competes: 15, and 11 before it
+    writes[9] = 65535;
+    refuses(writes, competes, 2, 0x4000_0000);
+    refuses(writes, competes, 2, 0x4000_0001);
 }

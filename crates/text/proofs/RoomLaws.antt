@@ -11,7 +11,7 @@ use Rattle.counting.proofs.TestLaws.{cond-le}
 use Rattle.machine.specs.Refusals.{accepted, tooManyWords, badBytes}
 use Rattle.machine.specs.Tables.{Table, row, tableRefusal, locations}
 use Rattle.machine.specs.Words.{kindOf, processOf, argumentOf, formed}
-use Rattle.machine.specs.Steps.{allowed, argumentFits, wordRefusal, refusalOf, afterWord, cellOf}
+use Rattle.machine.specs.Steps.{allowed, argumentFits, overflows, wordRefusal, refusalOf, afterWord, cellOf}
 use Rattle.machine.specs.Runs.{limit}
 use Rattle.machine.specs.Text.{inputText, imageText, postsText, doneText, stopText, line}
 use Rattle.machine.specs.Text.{wordFields, doneLine, stopLine, runLines}
@@ -39,9 +39,9 @@ length-stopLine i n few small = length-line stopText (then 3 (omega arith) (last
 pub length-input : length (line inputText (badBytes ∷ [])) ≤ headRoom
 length-input = let long = length-line inputText {ns = badBytes ∷ []} (last 1 (omega arith)) in omega arith
 
-pub length-image : (place why : ℕ) → place < 100 → why < 100 → length (line imageText (place ∷ why ∷ [])) ≤ headRoom
+pub length-image : (place why : ℕ) → place < 1000 → why < 100 → length (line imageText (place ∷ why ∷ [])) ≤ headRoom
 length-image place why h k =
-    let long = length-line imageText {ns = place ∷ why ∷ []} (then 1 (omega arith) (last 1 (omega arith))) in
+    let long = length-line imageText {ns = place ∷ why ∷ []} (then 2 (omega arith) (last 1 (omega arith))) in
     omega arith
 
 pub length-posts : (n : ℕ) → n ≤ 16 → length (line postsText (n ∷ [])) ≤ 9
@@ -67,16 +67,17 @@ module _ (t : Table) (sound : tableRefusal t ≡ 0) where
       leb-true _ _ (by-test (λ v. leb (suc v) 100) l locations refl (sound-row t sound p h .location-known))
 
   -- a word's refusal has two digits
-  refusal-low : (w : ℕ) → refusalOf t w ≤ 11
+  refusal-low : (w : ℕ) → refusalOf t w ≤ 15
   unfolding refusalOf wordRefusal
   refusal-low w =
       let k = kindOf w in
       let p = processOf w in
-      let at = cond-le (not (argumentFits (length t) k (row t p) (argumentOf w))) 11 0 11 (omega arith) (omega arith) in
-      let there = cond-le (not (allowed k (row t p))) 10 _ 11 (omega arith) at in
-      let known = cond-le (not (ltb p (length t))) 9 _ 11 (omega arith) there in
-      let word = cond-le (not (formed w)) 8 _ 11 (omega arith) known in
-      cond-le (eqb (tableRefusal t) accepted) _ (tableRefusal t) 11 word (omega (arith, sound))
+      let last = cond-le (overflows t k p) 15 0 15 (omega arith) (omega arith) in
+      let at = cond-le (not (argumentFits (length t) k (row t p) (argumentOf w))) 11 _ 15 (omega arith) last in
+      let there = cond-le (not (allowed k (row t p))) 10 _ 15 (omega arith) at in
+      let known = cond-le (not (ltb p (length t))) 9 _ 15 (omega arith) there in
+      let word = cond-le (not (formed w)) 8 _ 15 (omega arith) known in
+      cond-le (eqb (tableRefusal t) accepted) _ (tableRefusal t) 15 word (omega (arith, sound))
 
 module _ (t : Table) (i w : ℕ) (sound : tableRefusal t ≡ 0) (few : i < limit) where
   length-taken : takes t w ≡ true → length (lineOf t i w) ≤ lineRoom

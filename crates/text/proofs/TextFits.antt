@@ -1,20 +1,19 @@
 -- Every text fits textRoom bytes. Assumes nothing.
 use mathlib.Core.Path.{_≡_, refl, sym, subst, _∙_}
-use mathlib.Core.Bool.{Bool, true, false, not, _&&_, and-eq-true-iff}
+use mathlib.Core.Bool.{Bool, true, false, not, _&&_}
 use mathlib.Core.List.{List, [], _∷_}
 use Prim.Native.Nat.{ℕ, suc, _+_, _≤_, _<_}
 use native.Mathlib.Decide.{ℕ-discrete, decLe}
 use native.Mathlib.Nat.{min-le-right}
 use native.Mathlib.Omega.{arith}
-use borrow.Author.Tests.{leb-true}
-use lib.Dec.{eqb, leb}
+use lib.Dec.{eqb}
 use lib.ListN.{length, getD, drop, length-append}
 use Rattle.counting.proofs.TestLaws.{split, cond-le}
 use Rattle.machine.specs.Refusals.{accepted}
 use Rattle.machine.specs.Tables.{levelFits, tableRefusal}
 use Rattle.machine.specs.Runs.{limit}
-use Rattle.machine.specs.Images.{Slot, slots, STATE, imageLength, headerOf, sizeIn, isHeader, locationIn, levelIn}
-use Rattle.machine.specs.Images.{inRange, fitsSlot, slotRefusal, firstRefusal, imageRefusal}
+use Rattle.machine.specs.Images.{Slot, STATE, saysPasses, sizeIn, isHeader, lengthIn, slotsIn, locationIn, levelIn}
+use Rattle.machine.specs.Images.{inRange, offDiagonal, fitsSlot, slotRefusal, firstRefusal, imageRefusal}
 use Rattle.machine.specs.Bytes.{wordsIn, bytesFit}
 use Rattle.machine.specs.Inputs.{imagePart, eventPart, Input, inputOf}
 use Rattle.machine.specs.Inputs.Input.{BadBytes, BadImage, TooMany, Ready}
@@ -24,8 +23,10 @@ use Rattle.machine.specs.declared.Found.{Found}
 use Rattle.machine.proofs.SoundRows.{sound-few}
 use Rattle.machine.proofs.InputLaws.{words-bad-image, bytes-bad, bytes-words}
 use Rattle.image_theorems.proofs.Slots.{length-slots}
+use Rattle.image_theorems.proofs.Headers.{header-facts}
 use Rattle.image_theorems.proofs.Reading.{refused-header, refused-length, refused-words}
 use Rattle.image_theorems.proofs.InputTheorems.{table-fits, holds-ready, holds-too-many}
+use Rattle.images.proofs.CountLaws.{either-low}
 use Rattle.text.specs.Printing.{textRoom}
 use Rattle.text.proofs.RoomLaws.{length-input, length-image, length-posts, length-many, length-runLines}
 
@@ -41,7 +42,7 @@ unfolding slotRefusal
 slot-low n s w =
     let misfit = eqb (s .kind) STATE && not (levelFits (locationIn w) (levelIn w)) in
     let unfit = cond-le misfit 5 0 5 (omega arith) (omega arith) in
-    let over = cond-le (not (inRange n (s .kind) w)) 4 _ 5 (omega arith) unfit in
+    let over = cond-le (not (offDiagonal s w && inRange n (s .kind) w)) 4 _ 5 (omega arith) unfit in
     cond-le (not (fitsSlot s w)) 3 _ 5 (omega arith) over
 
 first-low : (n i m : ℕ) (ss : List Slot) (ws : List ℕ) → i + length ss ≤ m → Low m (firstRefusal n i ss ws)
@@ -58,39 +59,32 @@ first-low n i m (s ∷ ss) (w ∷ ws) h =
     (λ e. first-low n (suc i) m ss ws (omega arith))
     (λ e. record { number = slot-low n s w; place = omega arith })
 
-image-low : (ws : List ℕ) → Low 80 (imageRefusal ws)
-image-low ws = go (isHeader (getD ws 0 0)) refl (ℕ-discrete (length ws) (imageLength n)) where
-  n : ℕ
-  n = sizeIn (getD ws 0 0)
+image-low : (ws : List ℕ) → Low 336 (imageRefusal ws)
+image-low ws = go (isHeader head) refl (ℕ-discrete (length ws) (lengthIn head)) where
+  head : ℕ
+  head = getD ws 0 0
 
-  some : isHeader (getD ws 0 0) ≡ true → (2 ≤ n) × (n ≤ 16)
-  some e =
-      let w = getD ws 0 0 in
-      let both = and-eq-true-iff (leb (headerOf 2) w) (leb w (headerOf 16)) .0 e in
-      let low = leb-true (headerOf 2) w (both .0) in
-      let high = leb-true w (headerOf 16) (both .1) in
-      (omega arith, omega arith)
+  -- no image is longer than that of 16 processes
+  long : isHeader head ≡ true → lengthIn head ≤ 336
+  long e = either-low (saysPasses head) (sizeIn head) (header-facts head e .few)
 
-  go : (b : Bool) → isHeader (getD ws 0 0) ≡ b → Dec (length ws ≡ imageLength n) → Low 80 (imageRefusal ws)
+  go : (b : Bool) → isHeader head ≡ b → Dec (length ws ≡ lengthIn head) → Low 336 (imageRefusal ws)
   go false e l =
-      subst (Low 80) (sym (refused-header ws n refl e)) (record { number = omega arith; place = omega arith })
+      subst (Low 336) (sym (refused-header ws e)) (record { number = omega arith; place = omega arith })
   go true e (yes l) =
-      subst (Low 80) (sym (refused-words ws n refl e l))
-      (first-low n 1 80 (slots n) (drop 1 ws)
-      (omega (arith, some e .1, length-slots n (omega (arith, some e .0)))))
+      subst (Low 336) (sym (refused-words ws e l))
+      (first-low (sizeIn head) 1 336 (slotsIn head) (drop 1 ws)
+      (omega (arith, long e, length-slots (saysPasses head) (sizeIn head) (omega (arith, header-facts head e .some)))))
   go true e (no l) =
-      subst (Low 80) (sym (refused-length ws n refl e l))
-      (record {
-        number = omega arith;
-        place = omega (arith, some e .1, min-le-right (length ws) (imageLength n));
-      })
+      subst (Low 336) (sym (refused-length ws e l))
+      (record { number = omega arith; place = omega (arith, long e, min-le-right (length ws) (lengthIn head)) })
 
 -- ---- what an input holds
 
--- numbers of two digits; a sound table; and at most as many words as a run takes
+-- numbers of three digits and of two; a sound table; and at most as many words as a run takes
 abbrev pub Bounded : Input → Type 0
 Bounded BadBytes = Unit {0}
-Bounded (BadImage place why) = (place < 100) × (why < 100)
+Bounded (BadImage place why) = (place < 1000) × (why < 100)
 Bounded (TooMany t) = tableRefusal t ≡ accepted
 Bounded (Ready t ws) = (tableRefusal t ≡ accepted) × (length ws ≤ limit)
 

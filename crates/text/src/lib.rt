@@ -18,7 +18,7 @@ pub fn print_run(input: &[u8], out: &mut [u8]) -> usize
         × (now (out .exit) ≡ printedIn (now (input .entry)) (now (out .entry)) .lent) ⌝ }
 {
     let mut words = [0u32; machine::INPUT_WORDS];
-    let mut cells = [[0u16; 8]; machine::MOST_PROCESSES];
+    let mut cells = [[0u16; 24]; machine::MOST_PROCESSES];
     let opened = inputs::open_input(input, &mut words, &mut cells);
     if out.len() < machine::TEXT_BYTES {
         let length = text_length(opened, &words, cells);

@@ -20,7 +20,7 @@ const LINE_BYTES: usize = 22;
 const HEAD_BYTES: usize = 22;
 
 // Where the lines of a run that start at place `at` end.
-fn run_end(at: usize, cells: &mut [[u16; 8]], words: &[u32]) -> usize
+fn run_end(at: usize, cells: &mut [[u16; 24]], words: &[u32]) -> usize
     requires { ⌜ LinesReady (now cells) at (now words) ⌝ }
     ensures { λ r. ⌜
         r ≡ at + length (runLines (rowsOf (now (cells .entry))) 0 (now (words .entry)))
@@ -52,7 +52,7 @@ fn run_end(at: usize, cells: &mut [[u16; 8]], words: &[u32]) -> usize
 pub(crate) fn text_length(
     opened: Opened,
     words: &[u32],
-    cells: [[u16; 8]; machine::MOST_PROCESSES],
+    cells: [[u16; 24]; machine::MOST_PROCESSES],
 ) -> usize
     requires { ⌜ Answers opened (now words) cells ⌝ }
     ensures { λ r. ⌜ r ≡ length (openedText opened (now (words .entry)) cells) ⌝ }

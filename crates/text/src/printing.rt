@@ -34,7 +34,7 @@ pub(crate) fn put_opened(
     out: &mut [u8],
     opened: Opened,
     words: &[u32],
-    cells: &mut [[u16; 8]],
+    cells: &mut [[u16; 24]],
 ) -> usize
     requires { ⌜ TextReady opened (now words) (now cells) (now out) ⌝ }
     ensures { λ r. ⌜

@@ -25,7 +25,7 @@ pub enum Line {
 }
 
 // The location of process p; 0 where there is no such process.
-fn location_at(cells: &[[u16; 8]], p: u16) -> u32
+fn location_at(cells: &[[u16; 24]], p: u16) -> u32
     ensures { λ l. ⌜ l ≡ row (rowsOf (now (cells .entry))) p .location ⌝ }
 {
     if p as usize >= cells.len() {
@@ -35,7 +35,7 @@ fn location_at(cells: &[[u16; 8]], p: u16) -> u32
 }
 
 // How many processes are at 30, counted: where a run starts.
-pub(crate) fn count_critical(cells: &[[u16; 8]]) -> u32
+pub(crate) fn count_critical(cells: &[[u16; 24]]) -> u32
     requires { ⌜ length (now cells) ≤ 16 ⌝ }
     ensures { λ n. ⌜ n ≡ critical (rowsOf (now (cells .entry))) ⌝ }
 {
@@ -59,7 +59,7 @@ fn carried(event: Event, inside: u32) -> u32
 pub(crate) fn put_word(
     out: &mut [u8],
     at: usize,
-    cells: &mut [[u16; 8]],
+    cells: &mut [[u16; 24]],
     inside: u32,
     place: u32,
     word: u32,
@@ -90,7 +90,7 @@ pub(crate) fn put_word(
 }
 
 // A line for each word up to the first that is refused, and the last line.
-pub(crate) fn put_run(out: &mut [u8], at: usize, cells: &mut [[u16; 8]], words: &[u32]) -> usize
+pub(crate) fn put_run(out: &mut [u8], at: usize, cells: &mut [[u16; 24]], words: &[u32]) -> usize
     requires { ⌜ RunReady (now cells) (now out) at (now words) ⌝ }
     ensures { λ r. ⌜
         Appended (now (out .entry)) at (runLines (rowsOf (now (cells .entry))) 0 (now (words .entry)))

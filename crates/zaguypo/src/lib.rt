@@ -15,10 +15,10 @@ ghost use Rattle.inputs.specs.Opening.{Roomy};
 ghost use Rattle.zaguypo.specs.Calls.{CallsTo, Writable};
 
 // The most words of a short input.
-const FEW: usize = 256;
+const FEW: usize = 512;
 
 // The image of the table in the cells, at the start of the lent bytes.
-fn write_image(cells: &[[u16; 8]], image: &mut [u8])
+fn write_image(cells: &[[u16; 24]], image: &mut [u8])
     requires { ⌜ Writable (now cells) (now image) ⌝ }
     ensures { λ _. ⌜
         now (image .exit) ≡ placed (now (image .entry)) 0 (bytesOf (imageOf (rowsOf (now (cells .entry)))))
@@ -38,7 +38,7 @@ fn number_of(taken: u32, refusal: u32) -> u64
 }
 
 // The run of the event words from the table in the cells: 13, or the run.
-fn run_table(cells: &mut [[u16; 8]], words: &[u32], image: &mut [u8]) -> u64
+fn run_table(cells: &mut [[u16; 24]], words: &[u32], image: &mut [u8]) -> u64
     requires { ⌜ Runnable (now cells) (now words) ⌝ }
     ensures { λ r. ⌜
         CallsTo (callFor (Input.Ready (rowsOf (now (cells .entry))) (now (words .entry))) (now (image .entry)))
@@ -59,7 +59,7 @@ fn run_input(input: &[u8], words: &mut [u32], image: &mut [u8]) -> u64
     requires { ⌜ Roomy (now input) (now words) ⌝ }
     ensures { λ r. ⌜ CallsTo (callOf (now (input .entry)) (now (image .entry))) (now (image .exit)) r ⌝ }
 {
-    let mut cells = [[0u16; 8]; machine::MOST_PROCESSES];
+    let mut cells = [[0u16; 24]; machine::MOST_PROCESSES];
     match inputs::open_input(input, words, &mut cells) {
         Opened::BadBytes => machine::BAD_BYTES as u64,
         Opened::BadImage { place: _, number } => number as u64,
@@ -72,7 +72,7 @@ fn run_input(input: &[u8], words: &mut [u32], image: &mut [u8]) -> u64
 
 // The run that the input bytes hold, an image and then event words, lowest byte first. Answers 256
 // times the number of words taken plus the refusal or 0, and leaves the image of the last table at
-// the start of the lent bytes, 20 a process. Refusals 14, 1 to 5, 12 and 13 leave the lent bytes as
+// the start of the lent bytes, 4 × (5N + N × N). Refusals 14, 1 to 5, 12 and 13 leave the lent bytes as
 // given. A short input has its own room for words: what the longest needs takes longer to clear than
 // to run.
 #[no_mangle]

@@ -20,6 +20,13 @@ static void print_idle(uint32_t n) {
     print_words(words, idle_image(words, n));
 }
 
+/* the same with the bare image */
+static void print_bare_idle(uint32_t n) {
+    uint32_t words[ZAGUYPO_IMAGE_WORDS(16)];
+    print_start();
+    print_words(words, idle_bare_image(words, n));
+}
+
 /* The text fills the first of the lent bytes, or none of them changes; its length is the answer either way. */
 static void prints_into(const char *what, const char *text, size_t length, size_t bytes) {
     struct lent input = lend(print_input, print_length), lent = lend(NULL, bytes);
@@ -41,11 +48,11 @@ static void prints(const char *what, const char *text) {
     prints_into(what, text, length, length + 100);
 }
 
-static void print_example(void) {
-    static const uint32_t seven[7] = {0x20000000, 0x40000000, 0x40000000, 0x50000001, 0x40000000, 0x40000000, 0x40000000};
-    print_idle(2);
+/* after either image of two idle processes */
+static void print_example(void (*idle)(uint32_t)) {
+    idle(2);
     prints("no words", "posts 2\ndone 0\n");
-    print_words(seven, 7);
+    print_words(SEVEN, 7);
     prints("the example",
            "posts 2\n"
            "0 0 10 20 0 -\n"
@@ -119,7 +126,7 @@ static void print_two_at_30(void) {
     uint32_t words[ZAGUYPO_IMAGE_WORDS(3)];
     idle_image(words, 3);
     words[1] |= 0x6200, words[5] |= 0x6200, words[9] |= 0x2200;
-    print_start(), print_words(words, 15), print_words(nine, 9);
+    print_start(), print_words(words, 24), print_words(nine, 9);
     prints("two at 30",
            "posts 3\n"
            "0 0 30 40 1 -\n"
@@ -138,7 +145,7 @@ static void print_departures(void) {
     uint32_t words[ZAGUYPO_IMAGE_WORDS(16)];
     idle_image(words, 16);
     for (int q = 0; q < 16; q++) words[1 + 4 * q] |= 0x6200;
-    print_start(), print_words(words, 80);
+    print_start(), print_words(words, ZAGUYPO_IMAGE_WORDS(16));
     char *at = text + sprintf(text, "posts 16\n");
     for (unsigned q = 0; q < 16; q++) {
         print_word(0x40000000 + 0x10000 * q);
@@ -150,23 +157,35 @@ static void print_departures(void) {
 
 /* the image of two idle processes with one word changed */
 static void print_changed(const char *what, size_t place, uint32_t word, const char *text) {
-    uint32_t words[10];
+    uint32_t words[14];
     idle_image(words, 2);
     words[place] = word;
-    print_start(), print_words(words, 10), prints(what, text);
+    print_start(), print_words(words, 14), prints(what, text);
 }
 
 static void print_bad_images(void) {
     print_start(), prints("no bytes", "image 0 1\n");
     print_length = 3, prints("3 bytes", "input 14\n");
-    print_start(), print_word(0x80000010), prints("a header alone", "image 1 2\n");
-    print_idle(2), print_length -= 4, prints("a cut image of 2", "image 9 2\n");
-    print_idle(16), print_length -= 4, prints("a cut image of 16", "image 79 2\n");
+    print_start(), print_word(0x80000010), prints("a bare header alone", "image 1 2\n");
+    print_start(), print_word(0x81000010), prints("a header alone", "image 1 2\n");
+    print_bare_idle(2), print_length -= 4, prints("a cut bare image of 2", "image 9 2\n");
+    print_bare_idle(16), print_length -= 4, prints("a cut bare image of 16", "image 79 2\n");
+    print_idle(2), print_length -= 4, prints("a cut image of 2", "image 13 2\n");
+    print_idle(16), print_length -= 4, prints("a cut image of 16", "image 335 2\n");
     print_changed("header of 1", 0, 0x80000001, "image 0 1\n");
     print_changed("header of 17", 0, 0x80000011, "image 0 1\n");
+    print_changed("header of 1, with counts", 0, 0x81000001, "image 0 1\n");
+    print_changed("header of 17, with counts", 0, 0x81000011, "image 0 1\n");
+    print_changed("no header", 0, 0x82000002, "image 0 1\n");
     print_changed("number of another process", 6, 0xA0000000, "image 6 3\n");
     print_changed("turn 2 of 2", 9, 0xD0010002, "image 9 4\n");
     print_changed("level 0 at 22", 1, 0x90003000, "image 1 5\n");
+    print_changed("kind D for E", 12, 0xD1000000, "image 12 3\n");
+    print_changed("count of another q", 12, 0xE0000000, "image 12 3\n");
+    print_changed("count over another r", 12, 0xE1010000, "image 12 3\n");
+    print_changed("spare bit 20 of a count", 12, 0xE1100000, "image 12 3\n");
+    print_changed("0 over itself", 10, 0xE0000001, "image 10 4\n");
+    print_changed("1 over itself", 13, 0xE101FFFF, "image 13 4\n");
 }
 
 /* a word that stops a run after two others */
@@ -188,7 +207,25 @@ static void print_stops(void) {
     print_stop("CANCEL at 10", 0x60010000, "stop 2 10\n");
 }
 
-/* Two processes and STAYs: 8,192 are taken, more are not, and past 33,088 bytes there is no input. */
+/* Process 0, which has passed process 1 as often as can be counted, comes and cannot enter; an argument is refused before that.
+   After a bare header the same counts are words that no kind allows. */
+static void print_full(void) {
+    uint32_t words[14];
+    idle_image(words, 2);
+    words[5] |= 0x2201, words[11] |= 0xFFFF;
+    print_start(), print_words(words, 14), print_word(0x20000000), print_word(0x40000000), print_word(0x10000000);
+    prints("15", "posts 2\n0 0 10 20 0 -\nstop 1 15\n");
+    print_start(), print_words(words, 14), print_word(0x20000000), print_word(0x40000001);
+    prints("11 before 15", "posts 2\n0 0 10 20 0 -\nstop 1 11\n");
+    words[11]--;
+    print_start(), print_words(words, 14), print_word(0x20000000), print_word(0x40000000);
+    prints("the last pass that is counted", "posts 2\n0 0 10 20 0 -\n1 0 20 21 0 wa0\ndone 2\n");
+    words[0] = 0x80000002;
+    print_start(), print_words(words, 14);
+    prints("counts after a bare image", "posts 2\nstop 0 8\n");
+}
+
+/* Two processes and STAYs: 8,192 are taken, more are not, and past 34,112 bytes there is no input. */
 static void print_limits(void) {
     static char text[LONG_TEXT];
     char *at = text + sprintf(text, "posts 2\n");
@@ -201,8 +238,8 @@ static void print_limits(void) {
     prints("8,192 words", text);
     print_word(0x10010000), prints("8,193 words", "posts 2\nstop 0 12\n");
     while (print_length < ZAGUYPO_INPUT_BYTES) print_word(0x10010000);
-    prints("33,088 bytes", "posts 2\nstop 0 12\n");
-    print_word(0x10010000), prints("33,092 bytes", "input 14\n");
+    prints("34,112 bytes", "posts 2\nstop 0 12\n");
+    print_word(0x10010000), prints("34,116 bytes", "input 14\n");
 }
 
 /* The longest text of all, 179,133 bytes: 15 processes are at 30, and the last of 16 flickers turn[15] for the longest
@@ -213,7 +250,7 @@ static void print_longest(void) {
     idle_image(words, 16);
     for (int q = 0; q < 15; q++) words[1 + 4 * q] |= 0x6200;
     words[1 + 4 * 15] |= 0x520F;
-    print_start(), print_words(words, 80);
+    print_start(), print_words(words, ZAGUYPO_IMAGE_WORDS(16));
     char *at = text + sprintf(text, "posts 16\n");
     for (unsigned i = 0; i < 8192; i++) {
         print_word(0x300F0000 + i % 16);
@@ -226,13 +263,14 @@ static void print_longest(void) {
 }
 
 static void print(void) {
-    print_example();
+    print_example(print_idle), print_example(print_bare_idle);
     print_cancel();
     print_cells();
     print_two_at_30();
     print_departures();
     print_bad_images();
     print_stops();
+    print_full();
     print_limits();
     print_longest();
 }

@@ -16,13 +16,14 @@ static void writes(const char *what, const struct zaguypo_row *table, size_t siz
 static void write_refused(const char *what, const struct zaguypo_row *table, size_t size, unsigned refusal) {
     writes(what, table, size, 0, refusal, NULL);
     writes(what, table, size, 9, refusal, NULL);
-    writes(what, table, size, 200, refusal, NULL);
+    writes(what, table, size, 400, refusal, NULL);
 }
 
 static void write_whole(const char *what, const struct zaguypo_row *table, size_t n, const uint32_t *image) {
     size_t count = ZAGUYPO_IMAGE_WORDS(n);
     writes(what, table, n, 0, 13, NULL);
     writes(what, table, n, 1, 13, NULL);
+    writes(what, table, n, BARE_WORDS(n), 13, NULL);
     writes(what, table, n, count - 1, 13, NULL);
     writes(what, table, n, count, 0, image);
     writes(what, table, n, count + 1, 0, image);

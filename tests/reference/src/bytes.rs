@@ -1,12 +1,12 @@
 //! The run on bytes, as it is called from C: words of 4 bytes, lowest byte first, an image and then the event words.
 
-use crate::image::{header, image_length, read, write};
+use crate::image::{image_length, read, write, Header};
 use crate::refusal;
 use crate::row::Table;
 use crate::run::{take_all, MOST_WORDS};
 
 /// The image of 16 processes and 8,192 words.
-pub const MOST_BYTES: usize = 33_088;
+pub const MOST_BYTES: usize = 34_112;
 
 /// An input that can be run: its table, and the bytes of its event words.
 pub(crate) struct Input<'a> {
@@ -25,20 +25,21 @@ pub(crate) fn words(bytes: &[u8]) -> impl ExactSizeIterator<Item = u32> + '_ {
     bytes.as_chunks().0.iter().map(|&word| u32::from_le_bytes(word))
 }
 
-/// Divides an input after the 5N words of its image, or takes all as image if there are fewer.
+/// Divides an input after the words of its image, as many as its header asks for, or takes all as image if there are
+/// fewer.
 pub(crate) fn read_input(bytes: &[u8]) -> Result<Input<'_>, Bad> {
     if bytes.len() % 4 != 0 || bytes.len() > MOST_BYTES {
         return Err(Bad::Bytes);
     }
-    let n = words(bytes).next().and_then(header).unwrap_or(0);
-    let (image, events) = bytes.split_at(bytes.len().min(4 * image_length(n).max(1)));
+    let length = words(bytes).next().and_then(Header::of).map_or(1, Header::length);
+    let (image, events) = bytes.split_at(bytes.len().min(4 * length));
     match read(words(image)) {
         Ok(table) => Ok(Input { table, events }),
         Err((refusal, place)) => Err(Bad::Image { refusal, place }),
     }
 }
 
-/// The run from C: 256 times the words taken plus the refusal. The image after the taken words fills the first 20N lent bytes;
+/// The run from C: 256 times the words taken plus the refusal. The image after the taken words fills the first lent bytes;
 /// with a refusal of 14, 1 to 5, 12 or 13 the lent bytes stay as given.
 pub fn c_call(input: &[u8], lent: &mut [u8]) -> u64 {
     let Input { mut table, events } = match read_input(input) {
@@ -54,6 +55,6 @@ pub fn c_call(input: &[u8], lent: &mut [u8]) -> u64 {
     };
     let ran = take_all(&mut table, words(events), |_| ());
     let mut cells = lent.as_chunks_mut().0.iter_mut();
-    write(&table, |word| *cells.next().expect("20N bytes") = word.to_le_bytes());
+    write(&table, |word| *cells.next().expect("as many bytes as an image has") = word.to_le_bytes());
     256 * u64::from(ran.taken) + u64::from(ran.refusal)
 }

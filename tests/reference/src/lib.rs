@@ -47,4 +47,5 @@ pub mod refusal {
     pub const TOO_MANY_WORDS: u16 = 12;
     pub const LENT_TOO_FEW: u16 = 13;
     pub const INPUT_BYTES: u16 = 14;
+    pub const FULL_COUNT: u16 = 15;
 }

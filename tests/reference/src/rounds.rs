@@ -23,7 +23,8 @@ const AT_30: u64 = 1 << 30;
 const PENDING: u64 = 0b11111 << 20;
 
 /// Does rounds in the lent rows until some process is at 30 after one, or the most are done. With a process at 30
-/// beforehand, or with nobody at 20 to 24, it does none. A refused table is left as given.
+/// beforehand, or with nobody at 20 to 24, it does none. A refused table is left as given. A refused word breaks its round,
+/// which is not counted; what the round has done stays.
 pub fn rounds(rows: &mut [Row]) -> Rounded {
     let refusal = check(rows);
     if refusal != refusal::NONE {
@@ -35,14 +36,20 @@ pub fn rounds(rows: &mut [Row]) -> Rounded {
     let mut machine = Machine::new(rows);
     let mut rounds = 0;
     while !occupied && rounds < most {
-        occupied = round(&mut machine);
-        rounds += 1;
+        match round(&mut machine, &mut occupied) {
+            Ok(()) => rounds += 1,
+            Err(refusal) => return Rounded { refusal, rounds, occupied: occupied.into() },
+        }
     }
     Rounded { refusal, rounds, occupied: occupied.into() }
 }
 
-/// One round. Each process moves once, so that some process is at 30 after it exactly if a word led there.
+/// One round, up to a word that is refused. Each process moves once, so that some process is at 30 after it exactly if a
+/// word led there.
 #[inline]
-fn round(machine: &mut Machine) -> bool {
-    (0..machine.rows().len()).fold(false, |occupied, p| occupied | (machine.advance(p) == 30))
+fn round(machine: &mut Machine, occupied: &mut bool) -> Result<(), u16> {
+    (0..machine.rows().len()).try_for_each(|p| {
+        *occupied |= machine.advance(p)? == 30;
+        Ok(())
+    })
 }

@@ -9,7 +9,8 @@ pub const LOCATIONS: [u16; 8] = [10, 20, 21, 22, 23, 24, 30, 40];
 pub const FEWEST: usize = 2;
 pub const MOST: usize = 16;
 
-/// One process. `est`, `lis` and `ahead` have bit q for process q; row k holds the shared cell turn[k] in `turn`.
+/// One process. `est`, `lis` and `ahead` have bit q for process q; row k holds the shared cell turn[k] in `turn`; `passes`
+/// of q has at r how often q entered while r competed.
 #[repr(C)]
 #[derive(Clone, Copy, Debug, Default, PartialEq, Eq)]
 pub struct Row {
@@ -21,10 +22,17 @@ pub struct Row {
     pub lis: u16,
     pub ahead: u16,
     pub turn: u16,
+    pub passes: [u16; MOST],
 }
 
 impl Row {
-    pub const IDLE: Row = Row { loc: 10, act: 0, bb: 0, level: 0, est: 0, lis: 0, ahead: 0, turn: 0 };
+    pub const IDLE: Row =
+        Row { loc: 10, act: 0, bb: 0, level: 0, est: 0, lis: 0, ahead: 0, turn: 0, passes: [0; MOST] };
+
+    /// The row with no passes.
+    pub fn without_passes(self) -> Row {
+        Row { passes: [0; MOST], ..self }
+    }
 
     /// Competing is being at 21 to 30.
     #[inline]
@@ -32,7 +40,8 @@ impl Row {
         (21..=30).contains(&self.loc)
     }
 
-    /// Whether every cell is in its range, without a branch: in a table that is sound the location is all that varies.
+    /// Whether each of the eight cells is in its range, without a branch: in a table that is sound the location is all
+    /// that varies.
     #[inline]
     fn is_sound(&self, n: usize) -> bool {
         (self.loc <= LOCATIONS[7])
@@ -101,11 +110,23 @@ pub fn check(rows: &[Row]) -> u16 {
     let n = rows.len();
     if !(FEWEST..=MOST).contains(&n) {
         refusal::ROW_COUNT
-    } else if rows[0].turn == 0 && rows.iter().all(|row| row.is_sound(n)) {
+    } else if rows[0].turn == 0 && rows.iter().all(|row| row.is_sound(n)) && passes_are_sound(rows) {
         refusal::NONE
     } else {
         refusal::UNSOUND
     }
+}
+
+/// Whether nobody has passes over itself, or over a process that is not there. All rows are put together before one look
+/// at what stands past the last process.
+fn passes_are_sound(rows: &[Row]) -> bool {
+    let (mut own, mut all) = (0, [0; MOST]);
+    for (q, row) in rows.iter().enumerate() {
+        own |= row.passes[q % MOST];
+        all.iter_mut().zip(row.passes).for_each(|(any, count)| *any |= count);
+    }
+    let past = (0..MOST).fold(0, |past, r| past | if r < rows.len() { 0 } else { all[r] });
+    own | past == 0
 }
 
 /// The set of competing processes.

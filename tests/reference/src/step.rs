@@ -1,9 +1,9 @@
-//! One step on rows in place (manual, "Steps", "Ahead sets" and "Shared cells"; but for CANCEL, the paper, sections 3.2
-//! and 3.4).
+//! One step on rows in place (manual, "Steps", "Ahead sets", "Passes" and "Shared cells"; but for CANCEL, the paper,
+//! sections 3.2 and 3.4; the passes are those of section 4.1).
 
 use crate::cell::{Cell, READ, TURN};
 use crate::refusal;
-use crate::row::{check, code, competing, everyone, only, Row, LOCATIONS};
+use crate::row::{check, code, competing, everyone, only, Row, LOCATIONS, MOST};
 use crate::word::{split, Parts, CANCEL, COME, FLICKER, GO, LOOK, STAY};
 
 /// What an accepted word did: process p went from `before` to `after`, which may be the same location, and used a cell
@@ -103,28 +103,28 @@ impl<'a> Machine<'a> {
     }
 
     /// Gives process p its word of a round, and answers the location that it leads to: STAY at 10, LOOK at the lowest
-    /// member of lis at 22, GO elsewhere and where lis is empty. Every table takes it.
+    /// member of lis at 22, GO elsewhere and where lis is empty. Every table takes it, but for an entry that would carry
+    /// a count too far.
     #[inline(always)]
-    pub fn advance(&mut self, p: usize) -> u16 {
+    pub fn advance(&mut self, p: usize) -> Result<u16, u16> {
         let row = &mut self.rows[p];
         let lis = row.lis;
-        let led = match row.loc {
-            10 => return 10,
-            20 => self.enter(p, 0),
-            21 => self.pass(p, 0),
-            22 if lis != 0 => Ok(self.look_at(p, lis.trailing_zeros() as usize)),
-            22 => none(0, 23),
-            23 => self.reconsider(p, 0),
-            24 => self.push(p, 0),
-            30 => self.leave(p, 0),
+        let (after, _) = match row.loc {
+            10 => return Ok(10),
+            20 => self.enter(p, 0)?,
+            21 => self.pass(p, 0)?,
+            22 if lis != 0 => self.look_at(p, lis.trailing_zeros() as usize),
+            22 => none(0, 23)?,
+            23 => self.reconsider(p, 0)?,
+            24 => self.push(p, 0)?,
+            30 => self.leave(p, 0)?,
             _ => {
                 row.act = 0;
-                none(0, 10)
+                none(0, 10)?
             }
         };
-        let (after, _) = led.expect("argument 0 is what GO asks for");
         self.rows[p].loc = after;
-        after
+        Ok(after)
     }
 
     /// All processes but p.
@@ -142,12 +142,13 @@ impl<'a> Machine<'a> {
         Ok((24, Cell::turn_written(level)))
     }
 
-    /// GO at 20: process p competes from now on.
+    /// GO at 20: process p passes all that compete, and competes from now on.
     #[inline(always)]
     fn enter(&mut self, p: usize, argument: u32) -> Result<Led, u16> {
         demand(argument == 0)?;
         let (n, others) = (self.rows.len(), self.others(p));
         let row = &mut self.rows[p];
+        row.passes = one_more(row.passes, self.competing).ok_or(refusal::FULL_COUNT)?;
         row.act = 1;
         row.level = n as u16 - 1;
         row.est = others;
@@ -180,11 +181,14 @@ impl<'a> Machine<'a> {
         Ok((21, Cell::turn_written(level)))
     }
 
-    /// GO at 30: p leaves every ahead set, and competes no longer.
+    /// GO at 30: p leaves every ahead set, nobody has passes over it any more, and it competes no longer.
     #[inline(always)]
     fn leave(&mut self, p: usize, argument: u32) -> Result<Led, u16> {
         demand(argument == 0)?;
-        self.rows.iter_mut().for_each(|row| row.ahead &= !only(p));
+        for row in self.rows.iter_mut() {
+            row.ahead &= !only(p);
+            row.passes[p % MOST] = 0;
+        }
         self.competing &= self.others(p);
         Ok((40, Cell::NONE))
     }
@@ -229,6 +233,18 @@ impl<'a> Machine<'a> {
         let cell = Cell { access: used * READ, variable: used * TURN, index: used * level };
         Ok((if pushes { 24 } else { 21 }, cell))
     }
+}
+
+/// Counts with one more for each member of a set, or none where one is full; without a branch for each.
+#[inline(always)]
+fn one_more(mut counts: [u16; MOST], set: u16) -> Option<[u16; MOST]> {
+    let mut full = false;
+    for (r, count) in counts.iter_mut().enumerate() {
+        let one = u16::from(set & only(r) != 0);
+        *count = count.wrapping_add(one);
+        full |= *count < one;
+    }
+    (!full).then_some(counts)
 }
 
 /// A kind at the location of a code.

@@ -7,7 +7,7 @@ use lib.ListN.{getD}
 use borrow.Author.Needs.{needs}
 use Rattle.counting.proofs.CountLaws.{bit-le-one}
 use Rattle.census.specs.Series.{moreAt}
-use Rattle.census.proofs.ArrayLaws.{filled, filled-start, filled-next, filled-end}
+use Rattle.counting.proofs.RangeLaws.{filled, filled-start, filled-next, filled-end}
 use Rattle.census.proofs.one_more.Statement.{statement}
 use Rattle.census.proofs.one_more.Tie as tie
 

@@ -1,8 +1,11 @@
--- `images_try::say_around` is safe: an image of at most 16 processes fits 90 words. Assumes nothing.
+-- `images_try::say_around` is safe: an image of at most 16 processes fits 340 words. Assumes nothing.
+use Prim.Native.Nat.{_≤_}
 use mathlib.Core.Path.{sym}
+use native.Mathlib.Omega.{arith}
 use lib.ListN.{length}
 use lib.Seq.{length-take-le}
 use borrow.Author.Needs.{needs}
+use Rattle.images.proofs.CountLaws.{image-low}
 use Rattle.images_try.proofs.say_around.Statement.{statement}
 use Rattle.images_try.proofs.say_around.Tie as tie
 
@@ -24,13 +27,23 @@ say-requires c κs = search needs
 slice-aggregate-say : tie.Need-slice-aggregate-say
 slice-aggregate-say c = search needs
 
+-- an image of at most 16 processes has at most 336 words
+within : (i : tie.After-image-words) → i .image-words .result ≤ 336
+within i = omega (arith, i .image-words .ensures, image-low _ (i .before .before .pre))
+
 array-share-prefix-first : tie.Need-array-share-prefix-first
-array-share-prefix-first c = search needs
+array-share-prefix-first c =
+    omega (arith, within (c .before .before .before .before .before), c .before .before .before .write .kept .1 .0)
 
 slice-aggregate-read-cells : tie.Need-slice-aggregate-read-cells
 slice-aggregate-read-cells c =
     sym (length-take-le (c .before .before .before .before .before .before .image-words .result)
-    (c .before .before .before .before .write .last .1 .0) (search needs))
+    (c .before .before .before .before .write .last .1 .0)
+    (omega (
+      arith,
+      within (c .before .before .before .before .before .before),
+      c .before .before .before .before .write .kept .1 .0,
+    )))
 
 slice-aggregate-read-cells-2 : tie.Need-slice-aggregate-read-cells-2
 slice-aggregate-read-cells-2 c = search needs

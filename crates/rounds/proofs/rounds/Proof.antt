@@ -10,8 +10,7 @@ use Rattle.machine.proofs.RoundAnswers.{rounds-refused, rounds-none, rounds-som
 use Rattle.cells.specs.View.{rowsOf}
 use Rattle.cells.proofs.ViewLaws.{rows-length}
 use Rattle.rounds.proofs.LimitLaws.{few-cells}
-use Rattle.rounds.proofs.RoundLaws.{rounds-ended, rounds-stopped, rounds-as, flag-is, some-is}
-use Rattle.rounds.proofs.RoundLaws.{answer-is}
+use Rattle.rounds.proofs.RoundLaws.{rounds-ended, rounds-stopped, rounds-as, some-is}
 use Rattle.rounds.proofs.rounds.Statement.{statement}
 use Rattle.rounds.proofs.rounds.Tie as tie
 
@@ -53,8 +52,7 @@ returns-2 c =
     let x = e .before .before .before .args .cells .now in
     let none = sym (i .before .count-at .ensures) ∙ i .if2 .taken in
     let at-30 = some-is (c .critical .result) ∙ ap (λ (k : ℕ). ltb 0 k) (c .critical .ensures) in
-    rounds-ended x x _ 0 _ refl (rounds-none (rowsOf x) (sound e) none)
-    (answer-is 0 (rowsOf x) _ (flag-is (rowsOf x) _ at-30))
+    rounds-ended x x _ 0 0 _ refl (rounds-none (rowsOf x) (sound e) none) at-30
 
 run-rounds-requires : tie.Need-run-rounds-requires
 run-rounds-requires c κs = sound (c .before .before .before .before)

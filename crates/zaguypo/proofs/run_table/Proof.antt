@@ -3,10 +3,12 @@ use native.Mathlib.Omega.{arith}
 use mathlib.Core.Path.{ap}
 use Prim.Native.Nat.{_≤_}
 use lib.ListN.{length}
+use Rattle.machine.specs.Images.{imageLength}
 use Rattle.machine.proofs.SoundRows.{sound-rows}
 use Rattle.machine.specs.declared.Ran.{Ran}
 use Rattle.cells.specs.View.{rowsOf}
 use Rattle.cells.proofs.ViewLaws.{rows-length}
+use Rattle.images.proofs.CountLaws.{image-low}
 use Rattle.zaguypo.proofs.CallLaws.{calls-short, calls-ran}
 use borrow.Author.Needs.{needs}
 use Rattle.zaguypo.proofs.run_table.Statement.{statement}
@@ -20,7 +22,8 @@ image-words-requires : tie.Need-image-words-requires
 image-words-requires c κs = omega (arith, few (c .before .before))
 
 mul-if1 : tie.Need-mul-if1
-mul-if1 c = omega (arith, few (c .before .before .before), c .image-words .ensures)
+mul-if1 c =
+    omega (arith, c .image-words .ensures, image-low _ (few (c .before .before .before)))
 
 cast-result : tie.Need-cast-result
 cast-result c = search needs
@@ -30,7 +33,7 @@ returns c =
     let i = c .before in
     let a = i .before .before .before .args in
     calls-short (rowsOf (a .cells .now)) (a .words .now) (a .image .now)
-    (omega (arith, rows-length (a .cells .now), i .image-words .ensures, c .if1 .taken))
+    (omega (arith, ap imageLength (rows-length (a .cells .now)), i .image-words .ensures, c .if1 .taken))
 
 run-words-requires : tie.Need-run-words-requires
 run-words-requires c κs = search needs
@@ -44,11 +47,10 @@ write-image-requires c κs =
       room =
           omega (
             arith,
-            rows-length (w .run-words .last .0),
-            w .run-words .kept .0,
+            ap imageLength (rows-length (w .run-words .last .0)),
+            ap imageLength (w .run-words .kept .0),
             e .if1 .left,
             e .before .image-words .ensures,
-            rows-length (e .before .before .before .before .args .cells .now),
           );
     }
 
@@ -71,7 +73,7 @@ returns-2 c =
     let run = w .run-words in
     let ran = run .ensures .runs .ran-is in
     calls-ran (rowsOf (a .cells .now)) (a .words .now) (a .image .now)
-    (omega (arith, rows-length (a .cells .now), i .image-words .ensures, e .if1 .left))
+    (omega (arith, ap imageLength (rows-length (a .cells .now)), i .image-words .ensures, e .if1 .left))
     (rowsOf (run .last .0)) (put .last .1 .0) _ _ (c .number-of .result)
     (run .ensures .runs .becomes .rows-are)
     (ap (λ (r : Ran). r .taken) ran)

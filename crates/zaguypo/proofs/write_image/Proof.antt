@@ -13,6 +13,7 @@ use Rattle.cells.specs.View.{rowsOf}
 use Rattle.cells.proofs.ViewLaws.{rows-length}
 use Rattle.counting.specs.Placing.{placed}
 use Rattle.counting.proofs.PlacingLaws.{take-first}
+use Rattle.images.proofs.CountLaws.{image-low}
 use borrow.Author.Needs.{needs}
 use Rattle.zaguypo.proofs.write_image.Statement.{statement}
 use Rattle.zaguypo.proofs.write_image.Tie as tie
@@ -31,12 +32,13 @@ sizes s =
     let facts = sound-rows (rowsOf x) (s .pre .sound) in
     let size = rows-length x in
     let zeros = length-replicate {A = ℕ} (imageLength 16) 0 in
-    (omega (arith, facts .0), omega (arith, facts .1))
+    (omega (arith, facts .0), omega (arith, image-low (length x) (omega (arith, facts .1, size)), zeros))
 
 write-cells-requires : tie.Need-write-cells-requires
 write-cells-requires c κs =
     let s = c .before .before in
-    record { is-sound = s .pre .sound; long = omega (arith, rows-length (s .args .cells .now), sizes s .1) }
+    let size = ap imageLength (rows-length (s .args .cells .now)) in
+    record { is-sound = s .pre .sound; long = omega (arith, size, sizes s .1) }
 
 image-words-requires : tie.Need-image-words-requires
 image-words-requires c κs = let s = c .before .before .before .before in omega (arith, sizes s .1, few s)
@@ -61,7 +63,7 @@ pack-requires c κs =
     let w = i .before .before in
     let words = length-take-le _ (w .write-cells .last .1 .0) (within i) in
     let s = w .before .before .before in
-    omega (arith, s .pre .room, rows-length (s .args .cells .now), i .image-words .ensures)
+    omega (arith, s .pre .room, ap imageLength (rows-length (s .args .cells .now)), i .image-words .ensures)
 
 same-length : tie.Need-same-length
 same-length c = search needs
@@ -74,7 +76,8 @@ returns c =
     let x = start .args .cells .now in
     let all = i .image-words .result in
     let image = length-image (rowsOf x) (omega (arith, sizes start .0, rows-length x)) in
-    let long : length (imageOf (rowsOf x)) ≡ all = omega (arith, rows-length x, i .image-words .ensures) in
+    let long : length (imageOf (rowsOf x)) ≡ all =
+    omega (arith, image, ap imageLength (rows-length x), i .image-words .ensures) in
     let words : take all (w .write-cells .last .1 .0) ≡ imageOf (rowsOf x) =
     ap (take all) (w .write-cells .ensures) ∙ take-first _ (imageOf (rowsOf x)) all long in
     c .before .before .pack .ensures ∙ ap (λ (l : List ℕ). placed (start .args .image .now) 0 (bytesOf l)) words

@@ -16,7 +16,7 @@ slice-aggregate-run-input : tie.Need-slice-aggregate-run-input
 slice-aggregate-run-input c = search needs
 
 run-input-requires : tie.Need-run-input-requires
-run-input-requires c κs = λ fit. omega (arith, length-replicate {A = ℕ} 256 0)
+run-input-requires c κs = λ fit. omega (arith, length-replicate {A = ℕ} 512 0)
 
 same-length : tie.Need-same-length
 same-length c = search needs

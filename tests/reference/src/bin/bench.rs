@@ -6,6 +6,7 @@
 use reference::compare::{Engine, Reference};
 use reference::generate::inputs::{image_of, to_bytes};
 use reference::generate::schedule::deep_run;
+use reference::image::image_length;
 use reference::text::MOST_TEXT;
 use reference::{Row, Tally};
 use std::hint::black_box;
@@ -72,6 +73,10 @@ fn input(n: usize, count: usize) -> Vec<u8> {
     [to_bytes(&image_of(&rows)), to_bytes(&words)].concat()
 }
 
+fn image_bytes(n: usize) -> usize {
+    4 * image_length(n)
+}
+
 fn one_call(engine: &impl Engine, input: &[u8], image: &mut [u8]) {
     black_box(engine.call(black_box(input), black_box(image)));
 }
@@ -79,7 +84,7 @@ fn one_call(engine: &impl Engine, input: &[u8], image: &mut [u8]) {
 /// The call from C on a deep run, a word.
 fn call(linked: &impl Engine, n: usize, repetitions: usize) {
     let input = input(n, WORDS);
-    let (mut a, mut b) = (vec![0; 20 * n], vec![0; 20 * n]);
+    let (mut a, mut b) = (vec![0; image_bytes(n)], vec![0; image_bytes(n)]);
     let mut ours = || one_call(linked, &input, &mut a);
     let mut theirs = || one_call(&Reference, &input, &mut b);
     measure(&format!("C call, {WORDS} words, N = {n}, a word"), repetitions, WORDS, &mut ours, &mut theirs);
@@ -87,9 +92,9 @@ fn call(linked: &impl Engine, n: usize, repetitions: usize) {
 
 /// The call from C on an image after a deep run and no words: the image is read and written.
 fn images(linked: &impl Engine, n: usize, repetitions: usize) {
-    let mut input_bytes = vec![0; 20 * n];
+    let mut input_bytes = vec![0; image_bytes(n)];
     one_call(&Reference, &input(n, WORDS - 1), &mut input_bytes);
-    let (mut a, mut b) = (vec![0; 20 * n], vec![0; 20 * n]);
+    let (mut a, mut b) = (vec![0; image_bytes(n)], vec![0; image_bytes(n)]);
     let mut ours = || (0..1000).for_each(|_| one_call(linked, &input_bytes, &mut a));
     let mut theirs = || (0..1000).for_each(|_| one_call(&Reference, &input_bytes, &mut b));
     measure(&format!("image read and written, N = {n}, a call"), repetitions, 1000, &mut ours, &mut theirs);

@@ -1,8 +1,8 @@
 //! Walks through every table that two processes reach from a fresh one, and three from zeros: the linked library, or the
 //! reference where none is linked, beside the naive model.
 //!
-//!     walk            three lines for each walk, the first with the most memory that the program has had; then
-//!                     `walked: ..`
+//!     walk            three lines for each walk, the first with the most memory that the program has had, and a fourth
+//!                     for two processes; then `walked: ..`
 //!     walk --control  the naive model alone, which lets two of three processes be at 30 if est is kept at GO 24; with
 //!                     cells that are not told, so that the order of two words matters though none is seen to clash;
 //!                     and with rounds that never end or end too late
@@ -12,7 +12,7 @@
 
 use reference::compare::{Case, Engine, Hex, Naive};
 use reference::naive::Fault;
-use reference::walk::{control, Beside, Exchange, Figures, Finding, Found, Silence, Walk};
+use reference::walk::{control, Beside, Exchange, Figures, Finding, Found, Full, Silence, Visited, Walk};
 use reference::walk::{EVERY_OF_2, SHORTEST, TOO_LONG, UNTOLD, ZEROS_OF_2, ZEROS_OF_3};
 use reference::Tally;
 use std::time::Instant;
@@ -50,16 +50,15 @@ fn walks(engine: &dyn Engine) -> bool {
 
 fn passes(walk: &Walk, engine: &dyn Engine) -> bool {
     let start = Instant::now();
-    match (walk.over)(&Beside { engine, fault: Fault::None }) {
+    match (walk.over)(&Beside { engine, fault: Fault::None, passes: true }) {
         Ok(figures) => {
             let seconds = start.elapsed().as_secs_f64();
             println!("walk {}: {}, {seconds:.1} s, {} MB", walk.name, shown(&figures), most_memory());
-            println!("exchange {}: {}", walk.name, exchanged(&figures.exchange));
-            println!("rounds {}: {}", walk.name, rounded(&figures.silence));
+            lines(&figures.visited).iter().for_each(|(what, line)| println!("{what} {}: {line}", walk.name));
             let Walk { expected, .. } = walk;
             if figures != *expected {
-                let (pairs, rounds) = (exchanged(&expected.exchange), rounded(&expected.silence));
-                println!("EXPECTED: {}; {pairs}; {rounds}", shown(expected));
+                println!("EXPECTED {}: {}", walk.name, shown(expected));
+                lines(&expected.visited).iter().for_each(|(what, line)| println!("EXPECTED {what}: {line}"));
             }
             figures == *expected
         }
@@ -75,11 +74,25 @@ fn shown(Figures { tables, accepted, refused, .. }: &Figures) -> String {
     format!("{tables} tables, {accepted} accepted words, {refused} refused")
 }
 
-fn exchanged(Exchange { apart, ahead_differs, clashing, clash_differs }: &Exchange) -> String {
+/// What was counted beside tables and words, a line each; of passes where there were any.
+fn lines(Visited { exchange, silence, full }: &Visited) -> Vec<(&'static str, String)> {
+    let mut lines = vec![("exchange", exchanged(exchange)), ("rounds", rounded(silence))];
+    if full.words > 0 {
+        lines.push(("passes", with_passes(full)));
+    }
+    lines
+}
+
+fn exchanged(exchange: &Exchange) -> String {
+    let Exchange { apart, ahead_differs, passes_differ, clashing, clash_differs, full } = exchange;
     format!(
-        "{apart} pairs without a clash, the order shows in ahead sets in {ahead_differs}; \
-         {clashing} with a clash, the order matters in {clash_differs}"
+        "{apart} pairs without a clash, the order shows in ahead sets in {ahead_differs}, in passes in {passes_differ}; \
+         {clashing} with a clash, the order matters in {clash_differs}; {full} with a full count"
     )
+}
+
+fn with_passes(Full { words, entries, exits, full }: &Full) -> String {
+    format!("{words} words with passes few or full, {entries} entries, {exits} exits, {full} refused with 15")
 }
 
 fn rounded(Silence { tables, rounds, most }: &Silence) -> String {
@@ -121,7 +134,7 @@ fn controls() -> bool {
 
 /// The naive model with a fault on both sides, so that they agree: two words whose order matters are found.
 fn exchange_fails(fault: Fault) -> bool {
-    match (ZEROS_OF_2.over)(&Beside { engine: &Naive(fault), fault }) {
+    match (ZEROS_OF_2.over)(&Beside { engine: &Naive(fault), fault, passes: true }) {
         Err(Found { finding: Finding::Exchange(cases), words, .. }) => {
             println!("control exchange, {fault:?}: after {} words the order of two matters", words.len());
             cases.iter().for_each(|case| println!("  {case}\n  leads to {}", case.answer(&Naive(fault))));
@@ -133,7 +146,7 @@ fn exchange_fails(fault: Fault) -> bool {
 
 /// The same: rounds that lead nobody to 30 in time are found.
 fn rounds_fail(fault: Fault) -> bool {
-    match (ZEROS_OF_2.over)(&Beside { engine: &Naive(fault), fault }) {
+    match (ZEROS_OF_2.over)(&Beside { engine: &Naive(fault), fault, passes: true }) {
         Err(Found { finding: Finding::Silence(case), words, .. }) => {
             println!("control rounds, {fault:?}: after {} words there are too many", words.len());
             println!("  {case}\n  lead to {}", case.answer(&Naive(fault)));

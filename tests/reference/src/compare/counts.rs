@@ -1,5 +1,6 @@
 //! What a comparison has met, so that it cannot go blind.
 
+use super::passes::Passes;
 use super::rounds::Rounds;
 use super::{Answer, Case, Kind};
 use crate::bytes::{read_input, words};
@@ -27,11 +28,11 @@ pub struct Cells {
 
 /// Calls by kind, refusals by kind and number, words taken; for each number of processes the CANCELs among these, the
 /// lines of printed runs with two or more at 30, and visits of each location; lines with ten or more at 30; cells told;
-/// what rounds answered.
+/// what rounds answered; passes and the forms of images.
 #[derive(Clone, Debug, Default)]
 pub struct Counts {
     pub calls: [u64; Kind::ALL.len()],
-    pub refusals: [[u64; 15]; Kind::ALL.len()],
+    pub refusals: [[u64; REFUSALS]; Kind::ALL.len()],
     pub words: u64,
     pub cancels: [u64; MOST + 1],
     pub together: [u64; MOST + 1],
@@ -39,7 +40,11 @@ pub struct Counts {
     pub visits: [[u64; LOCATIONS.len()]; MOST + 1],
     pub cells: Cells,
     pub rounds: Rounds,
+    pub passes: Passes,
 }
+
+/// The refusals by number, and 0.
+const REFUSALS: usize = 16;
 
 impl Counts {
     pub fn note(&mut self, case: &Case, answer: &Answer) {
@@ -48,8 +53,9 @@ impl Counts {
         self.refusals[kind][answer.refusal() as usize] += 1;
         self.cells.note(answer);
         self.rounds.note(answer);
+        self.passes.note(case, answer);
         match (case, answer.refusal()) {
-            (_, 1..=7 | 12..) => {}
+            (_, 1..=7 | 12..=14) => {}
             (Case::Call { input, .. }, _) => self.walk_input(&input.bytes, false),
             (Case::Print { input, .. }, _) => self.walk_input(&input.bytes, true),
             (Case::Text { bytes }, _) => self.walk_input(bytes, true),
@@ -86,11 +92,12 @@ impl Counts {
     /// The refusals that calls of a kind can meet.
     fn possible(kind: Kind) -> &'static [usize] {
         match kind {
-            Kind::Call | Kind::Print => &[0, 1, 2, 3, 4, 5, 8, 9, 10, 11, 12, 13, 14],
-            Kind::Text => &[0, 1, 2, 3, 4, 5, 8, 9, 10, 11, 12, 14],
-            Kind::Step => &[0, 6, 7, 8, 9, 10, 11],
-            Kind::Run => &[0, 6, 7, 8, 9, 10, 11, 12],
-            Kind::Census | Kind::Rounds => &[0, 6, 7],
+            Kind::Call | Kind::Print => &[0, 1, 2, 3, 4, 5, 8, 9, 10, 11, 12, 13, 14, 15],
+            Kind::Text => &[0, 1, 2, 3, 4, 5, 8, 9, 10, 11, 12, 14, 15],
+            Kind::Step => &[0, 6, 7, 8, 9, 10, 11, 15],
+            Kind::Run => &[0, 6, 7, 8, 9, 10, 11, 12, 15],
+            Kind::Census => &[0, 6, 7],
+            Kind::Rounds => &[0, 6, 7, 15],
             Kind::Fresh => &[0, 6],
             Kind::TakeApart => &[0, 8, 9],
             Kind::PutTogether => &[0, 8, 9, 11],
@@ -130,6 +137,7 @@ impl Counts {
         if self.calls[Kind::Rounds as usize] > 0 {
             unseen.extend(self.rounds.unseen());
         }
+        unseen.extend(self.passes.unseen(|kind| self.calls[kind as usize] > 0));
         unseen
     }
 
@@ -152,8 +160,8 @@ impl Counts {
     }
 
     /// Refusal numbers met, all kinds together.
-    pub fn met(&self) -> [u64; 15] {
-        let mut sum = [0; 15];
+    pub fn met(&self) -> [u64; REFUSALS] {
+        let mut sum = [0; REFUSALS];
         for met in &self.refusals {
             sum.iter_mut().zip(met).for_each(|(sum, met)| *sum += met);
         }
@@ -176,7 +184,7 @@ impl Counts {
         let refusals = self.met().into_iter().enumerate().map(|(number, met)| (number.to_string(), met));
         let visits = LOCATIONS.iter().map(|loc| loc.to_string()).zip(total);
         out + &format!(
-            "\nsummary: seed {seed}: calls [{}] words {} cancels {} lines with two at 30 {}, with ten {} {} {} \
+            "\nsummary: seed {seed}: calls [{}] words {} cancels {} lines with two at 30 {}, with ten {} {} {} {} \
              refusals [{}] visits [{}]",
             listed(calls),
             self.words,
@@ -185,6 +193,7 @@ impl Counts {
             self.ten_together,
             self.cells.report(),
             self.rounds.report(),
+            self.passes.report(),
             listed(refusals),
             listed(visits)
         )

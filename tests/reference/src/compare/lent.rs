@@ -16,7 +16,7 @@ impl Guarded for u32 {
 }
 
 impl Guarded for Row {
-    const GUARD: Row = Row { loc: 1, act: 2, bb: 3, level: 4, est: 5, lis: 6, ahead: 7, turn: 8 };
+    const GUARD: Row = Row { loc: 1, act: 2, bb: 3, level: 4, est: 5, lis: 6, ahead: 7, turn: 8, passes: [9; 16] };
 }
 
 impl Guarded for Tally {

@@ -3,10 +3,10 @@
 use super::{Case, Kind};
 use crate::generate::inputs::{input, lone_image, some_count, some_size, some_table, Input};
 use crate::generate::rounds::table_for_rounds;
-use crate::generate::schedule::{faulty_word, schedule};
+use crate::generate::schedule::{faulty_word, full_entry, schedule};
 use crate::generate::tables::{damage_rows, old_rows};
 use crate::generate::Random;
-use crate::image::{header, image_length};
+use crate::image::{image_length, short_length, Header};
 use crate::row::{Row, MOST};
 use crate::run::MOST_WORDS;
 use crate::text::MOST_TEXT;
@@ -36,7 +36,8 @@ pub fn make_case(rng: &mut Random, kind: Kind) -> Case {
         Kind::WriteImage => {
             let rows = lent_rows(rng);
             let exact = image_length(rows.len());
-            let lent = rng.pick(&[exact, exact, exact.saturating_sub(1), exact + 1, exact + 9, 0]);
+            let few = exact.saturating_sub(1);
+            let lent = rng.pick(&[exact, exact, exact, few, few, exact + 1, exact + 9, short_length(rows.len()), 0]);
             Case::WriteImage { rows, lent }
         }
     }
@@ -79,10 +80,10 @@ fn next_word(rng: &mut Random, rows: &[Row]) -> u32 {
         0 => schedule(rng, rows, 1, 0)[0],
         _ => 0x4000_0000,
     };
-    if !rows.is_empty() && rng.chance(1, 3) {
-        faulty_word(rng, rows, good)
-    } else {
-        good
+    match rng.below(9) {
+        0..=2 if !rows.is_empty() => faulty_word(rng, rows, good),
+        3 if !rows.is_empty() => full_entry(rng, rows),
+        _ => good,
     }
 }
 
@@ -126,7 +127,7 @@ fn make_print(rng: &mut Random) -> Case {
 /// An image with about as many rows lent as its header asks for, or as every image may ask for.
 fn make_read(rng: &mut Random) -> Case {
     let words = lone_image(rng);
-    let exact = words.first().and_then(|&word| header(word)).unwrap_or(2);
+    let exact = words.first().and_then(|&word| Header::of(word)).map_or(2, |header| header.n);
     let count = match rng.below(16) {
         0 | 1 => exact - 1,
         2 | 3 => exact + 1,

@@ -8,6 +8,7 @@ mod lent;
 #[cfg(feature = "linked")]
 mod linked;
 mod making;
+mod passes;
 mod pieces;
 mod rounds;
 mod show;
@@ -20,6 +21,7 @@ pub use engine::{Engine, Naive, Reference};
 #[cfg(feature = "linked")]
 pub use linked::Linked;
 pub use making::make_case;
+pub use passes::{Images, Passes};
 pub use rounds::Rounds;
 pub use show::Hex;
 pub use shrink::shrink;

@@ -2,8 +2,8 @@
 
 use super::Case;
 use crate::bytes::{read_input, words};
-use crate::generate::inputs::{image_of, to_bytes};
-use crate::image::read;
+use crate::generate::inputs::{image_of, short_image_of, to_bytes};
+use crate::image::{image_length, read, Header};
 use crate::row::Row;
 
 fn bytes_of(case: &Case) -> Option<&[u8]> {
@@ -19,12 +19,30 @@ fn events_from(bytes: &[u8]) -> usize {
     read_input(bytes).map_or(0, |input| bytes.len() - input.events.len())
 }
 
+/// How many bytes are asked for to be lent for the image after an input; 0 where that cannot be run.
+fn asked_for(bytes: &[u8]) -> usize {
+    read_input(bytes).map_or(0, |input| 4 * image_length(input.table.len()))
+}
+
+/// The header of words.
+fn header_of(mut words: impl Iterator<Item = u32>) -> Option<Header> {
+    words.next().and_then(Header::of)
+}
+
+/// The image of rows in the form that a header is of.
+fn image_like(header: Option<Header>, rows: &[Row]) -> Vec<u32> {
+    match header {
+        Some(Header { passes: false, .. }) => short_image_of(rows),
+        _ => image_of(rows),
+    }
+}
+
 /// The case with other bytes in, which is lent as much too little or too much as before.
 fn with_bytes(case: &Case, new: Vec<u8>) -> Case {
     let mut case = case.clone();
     match &mut case {
         Case::Call { input, .. } => {
-            input.lent = (input.lent + events_from(&new)).saturating_sub(events_from(&input.bytes));
+            input.lent = (input.lent + asked_for(&new)).saturating_sub(asked_for(&input.bytes));
             input.bytes = new;
         }
         Case::Print { input, .. } => {
@@ -80,17 +98,33 @@ pub fn rows_of(case: &Case) -> Option<Vec<Row>> {
 pub fn with_rows(case: &Case, new: Vec<Row>) -> Case {
     let sound = crate::check(&new) == 0;
     if let Some(bytes) = bytes_of(case).filter(|_| sound) {
-        return with_bytes(case, [&to_bytes(&image_of(&new)), &bytes[events_from(bytes)..]].concat());
+        let image = image_like(header_of(words(bytes)), &new);
+        return with_bytes(case, [&to_bytes(&image), &bytes[events_from(bytes)..]].concat());
     }
     let mut case = case.clone();
     match &mut case {
         Case::Step { rows, .. } | Case::Run { rows, .. } | Case::Census { rows } => *rows = new,
         Case::Rounds { rows } | Case::Fresh { rows } | Case::WriteImage { rows, .. } => *rows = new,
         Case::ReadImage { words, rows } if sound => {
-            rows.truncate((rows.len() + new.len()).saturating_sub(words.len() / 5));
-            *words = image_of(&new);
+            let header = header_of(words.iter().copied());
+            rows.truncate((rows.len() + new.len()).saturating_sub(header.map_or(0, |header| header.n)));
+            *words = image_like(header, &new);
         }
         _ => {}
+    }
+    case
+}
+
+/// The case with its image in the short form, which has no passes.
+pub fn in_short_form(case: &Case) -> Case {
+    let Some(rows) = rows_of(case) else { return case.clone() };
+    let image = short_image_of(&rows);
+    if let Some(bytes) = bytes_of(case) {
+        return with_bytes(case, [&to_bytes(&image), &bytes[events_from(bytes)..]].concat());
+    }
+    let mut case = case.clone();
+    if let Case::ReadImage { words, .. } = &mut case {
+        *words = image;
     }
     case
 }

@@ -1,6 +1,7 @@
 //! How the rounds of a comparison ended.
 
 use super::Answer;
+use crate::refusal;
 use crate::rounds::most_rounds;
 use crate::row::MOST;
 use crate::Rounded;
@@ -16,19 +17,23 @@ pub struct Rounds {
     pub occupied: u64,
     /// No round was done, since nobody was at 20 to 24 or at 30.
     pub nobody: u64,
+    /// A word broke the first round, with nobody at 30 then, or with some process.
+    pub broken: [u64; 2],
     /// All rounds that were done.
     pub done: u64,
 }
 
 impl Rounds {
     pub fn note(&mut self, answer: &Answer) {
-        let Answer::Rounds { rounded: Rounded { refusal: 0, rounds, occupied }, rows } = answer else { return };
+        let Answer::Rounds { rounded: Rounded { refusal, rounds, occupied }, rows } = answer else { return };
         let n = rows.inside.len();
         self.done += u64::from(*rounds);
-        match (rounds, occupied) {
-            (0, 0) => self.nobody += 1,
-            (0, _) => self.occupied += 1,
-            (_, 0) => self.used_up[n] += u64::from(*rounds == most_rounds(n)),
+        match (*refusal, rounds, occupied) {
+            (refusal::FULL_COUNT, ..) => self.broken[usize::from(*occupied != 0)] += 1,
+            (1.., ..) => {}
+            (_, 0, 0) => self.nobody += 1,
+            (_, 0, _) => self.occupied += 1,
+            (_, _, 0) => self.used_up[n] += u64::from(*rounds == most_rounds(n)),
             _ => self.arrived[n] += 1,
         }
     }
@@ -41,16 +46,19 @@ impl Rounds {
             (self.used_up.iter().sum(), "no limit of rounds that is used up"),
             (self.occupied, "no rounds asked for with a process at 30"),
             (self.nobody, "no rounds asked for with nobody at 20 to 24 or 30"),
+            (self.broken[0], "no round broken with nobody at 30"),
+            (self.broken[1], "no round broken with a process at 30"),
         ];
         unseen.extend(others.iter().filter(|(met, _)| *met == 0).map(|(_, what)| what.to_string()));
         unseen
     }
 
     pub fn report(&self) -> String {
-        let Rounds { arrived, used_up, occupied, nobody, done } = self;
+        let Rounds { arrived, used_up, occupied, nobody, broken: [unoccupied, broken], done } = self;
         let [arrived, used_up] = [arrived, used_up].map(|met| met.iter().sum::<u64>());
         format!(
-            "rounds [to 30: {arrived}, used up: {used_up}, at 30 before: {occupied}, nobody: {nobody}, all: {done}]"
+            "rounds [to 30: {arrived}, used up: {used_up}, at 30 before: {occupied}, nobody: {nobody}, \
+             broken: {unoccupied}, broken with one at 30: {broken}, all: {done}]"
         )
     }
 }

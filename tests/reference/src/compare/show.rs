@@ -3,6 +3,7 @@
 use super::lent::{Lent, FILL};
 use super::{Answer, Case};
 use crate::generate::inputs::Input;
+use crate::row::MOST;
 use crate::{PartsAnswer, Ran, Reading, Rounded, Row, StepAnswer, Tally, WordAnswer};
 use std::fmt;
 
@@ -30,6 +31,9 @@ fn show_rows(f: &mut fmt::Formatter, rows: &[Row]) -> fmt::Result {
             "\n    {p:2}: loc {} act {} bb {} level {} est {:04X} lis {:04X} ahead {:04X} turn {}",
             row.loc, row.act, row.bb, row.level, row.est, row.lis, row.ahead, row.turn
         )?;
+        if row.passes != [0; MOST] {
+            write!(f, " passes {:?}", row.passes)?;
+        }
     }
     Ok(())
 }

@@ -1,8 +1,9 @@
-//! Greedy shrinking: words out, bits to 0, rows to idle, less lent, as long as the difference stays.
+//! Greedy shrinking: words out, bits to 0, rows to idle, images to the short form, less lent, as long as the difference
+//! stays.
 
-use super::pieces::{lent_of, rows_of, with_lent, with_rows, with_words, word_list};
-use super::Case;
-use crate::row::Row;
+use super::pieces::{in_short_form, lent_of, rows_of, with_lent, with_rows, with_words, word_list};
+use super::{Case, Kind};
+use crate::row::{Row, MOST};
 use crate::Tally;
 
 /// The most cases tried; a printing program is a process for each.
@@ -40,9 +41,10 @@ impl Shrinker<'_> {
         let later = self.later_start();
         let fewer = self.fewer_words();
         let rows = self.simpler_rows();
+        let short = has_image(&self.best) && self.keep(in_short_form(&self.best));
         let bits = self.clear_bits();
         let lent = self.less_lent();
-        later | fewer | rows | bits | lent
+        later | fewer | rows | short | bits | lent
     }
 
     /// Starts from the rows after the first words, as many of them as can be.
@@ -131,6 +133,12 @@ impl Shrinker<'_> {
     }
 }
 
+/// Whether the case has an image that can be read.
+fn has_image(case: &Case) -> bool {
+    let kinds = [Kind::Call, Kind::Text, Kind::Print, Kind::ReadImage];
+    kinds.contains(&case.kind()) && rows_of(case).is_some()
+}
+
 /// Ways to make one row simpler.
 fn simpler_forms() -> Vec<Box<dyn Fn(Row) -> Row>> {
     let mut forms: Vec<Box<dyn Fn(Row) -> Row>> = vec![
@@ -140,13 +148,20 @@ fn simpler_forms() -> Vec<Box<dyn Fn(Row) -> Row>> {
         Box::new(|row| Row { level: 0, ..row }),
         Box::new(|row| Row { level: row.level.min(1), ..row }),
         Box::new(|row| Row { turn: 0, ..row }),
+        Box::new(Row::without_passes),
     ];
     for bit in 0..16 {
         forms.push(Box::new(move |row| Row { est: row.est & !(1 << bit), ..row }));
         forms.push(Box::new(move |row| Row { lis: row.lis & !(1 << bit), ..row }));
         forms.push(Box::new(move |row| Row { ahead: row.ahead & !(1 << bit), ..row }));
+        forms.push(Box::new(move |row| Row { passes: with_0(row.passes, bit), ..row }));
     }
     forms
+}
+
+fn with_0(mut passes: [u16; MOST], r: usize) -> [u16; MOST] {
+    passes[r] = 0;
+    passes
 }
 
 /// The case with its first words done, if they are all taken.
@@ -171,6 +186,15 @@ fn closed_up(set: u16, r: usize) -> u16 {
     (u64::from(set) & low | (u64::from(set) >> 1) & !low) as u16
 }
 
+/// Passes once r is gone from among the processes.
+fn moved_up(mut passes: [u16; MOST], r: usize) -> [u16; MOST] {
+    if r < MOST {
+        passes.copy_within(r + 1.., r);
+        passes[MOST - 1] = 0;
+    }
+    passes
+}
+
 /// The case without process r: those above move down by one, in rows, sets, cells and words.
 fn without_process(case: &Case, r: usize) -> Case {
     let Some(mut rows) = rows_of(case) else { return case.clone() };
@@ -183,6 +207,7 @@ fn without_process(case: &Case, r: usize) -> Case {
         row.est = closed_up(row.est, r);
         row.lis = closed_up(row.lis, r);
         row.ahead = closed_up(row.ahead, r);
+        row.passes = moved_up(row.passes, r);
         row.level = renumbered(row.level, r).min(top);
         row.turn = renumbered(row.turn, r).min(top);
     }

@@ -8,13 +8,14 @@ use crate::Tally;
 
 /// A sound table of n processes.
 pub fn table_for_rounds(rng: &mut Random, n: usize) -> Vec<Row> {
-    match rng.below(16) {
+    match rng.below(18) {
         0..=5 => nobody_at_30(rng, n),
         6..=9 => made_by_a_list(rng, n),
         10 | 11 => after_every_come(rng, n),
         12 => placed(rng, n, &[10, 20, 40], Some(20)),
         13 => placed(rng, n, &[10, 40], Some(40)),
         14 => placed(rng, n, &[40], None),
+        15 | 16 => broken(rng, n),
         _ => sound_table(rng, n),
     }
 }
@@ -47,6 +48,18 @@ fn nobody_at_30(rng: &mut Random, n: usize) -> Vec<Row> {
             row.act = 0;
         }
     }
+    rows
+}
+
+/// Any sound table with nobody at 30, and with a process at 20 whose count is full over one that competes, or will once it
+/// has entered; another may come to 30 before the round is broken.
+fn broken(rng: &mut Random, n: usize) -> Vec<Row> {
+    let mut rows = nobody_at_30(rng, n);
+    let p = rng.below(n);
+    let q = (p + rng.within(1, n - 1)) % n;
+    rows[p].loc = 20;
+    rows[p].passes[q] = rng.pick(&[u16::MAX, u16::MAX, u16::MAX - 1]);
+    rows[q] = Row { loc: rng.pick(&[20, 21]), level: 0, ..rows[q] };
     rows
 }
 

@@ -1,7 +1,7 @@
 //! Schedules: words chosen with the rows at hand, so that runs go deep, and words that are refused for a known reason.
 
 use super::Random;
-use crate::row::{everyone, Row};
+use crate::row::{competing, everyone, Row, MOST};
 use crate::step::Machine;
 use crate::word::{join, CANCEL, COME, FLICKER, GO, LOOK, STAY};
 
@@ -61,7 +61,14 @@ fn lowest(rows: &[Row], set: u16, chosen: usize) -> usize {
     (0..rows.len()).filter(|&p| set >> p & 1 == 1).fold(chosen, |best, p| if rank(p) < rank(best) { p } else { best })
 }
 
-/// A word that is allowed for process p. Of those that go on from 20, one in ten cancels.
+/// Whether an entry of process p would carry a count too far.
+fn is_full(rows: &[Row], p: usize) -> bool {
+    let competing = competing(rows);
+    rows[p].passes.iter().enumerate().any(|(r, &count)| count == u16::MAX && competing >> r & 1 == 1)
+}
+
+/// A word that is allowed for process p. Of those that go on from 20, one in ten cancels; of those whose entry would be
+/// refused for a count, three in four.
 fn word_for(rng: &mut Random, rows: &[Row], p: usize, mood: &Mood) -> u32 {
     let row = &rows[p];
     let flickers = rng.chance(mood.flickers, 16);
@@ -70,6 +77,7 @@ fn word_for(rng: &mut Random, rows: &[Row], p: usize, mood: &Mood) -> u32 {
         10 => (COME, 0),
         20 | 40 if flickers => (FLICKER, rng.below(2)),
         24 if flickers => (FLICKER, rng.below(rows.len())),
+        20 if is_full(rows, p) && rng.chance(3, 4) => (CANCEL, 0),
         20 if rng.chance(1, 10) => (CANCEL, 0),
         22 if row.lis != 0 => (LOOK, rng.member(row.lis)),
         _ => (GO, 0),
@@ -77,8 +85,8 @@ fn word_for(rng: &mut Random, rows: &[Row], p: usize, mood: &Mood) -> u32 {
     join(kind, p as u32, argument as u32)
 }
 
-/// `count` words, each accepted in its turn from the given rows; `faulty` of them are replaced by words that may be refused,
-/// and the schedule goes on as if they had been left out.
+/// `count` words, each accepted in its turn from the given rows, but for entries that meet a full count; `faulty` of them
+/// are replaced by words that may be refused. The schedule goes on as if those that are refused had been left out.
 pub fn schedule(rng: &mut Random, start: &[Row], count: usize, faulty: usize) -> Vec<u32> {
     let mut rows = start.to_vec();
     let mut words = Vec::with_capacity(count);
@@ -111,7 +119,7 @@ pub fn faulty_word(rng: &mut Random, rows: &[Row], good: u32) -> u32 {
     let n = rows.len();
     let any = rng.below(n.max(1));
     let kind = rng.within(1, 6) as u32;
-    match rng.below(10) {
+    match rng.below(12) {
         0 => good & 0x0FFF_FFFF | (rng.pick(&[0, 7, 8, 9, 14, 15])) << 28,
         1 => good | 1 << rng.pick(&[8, 9, 12, 15, 24, 25, 27]),
         2 => good & 0xFF00_FFFF | (rng.pick(&[n, n + 1, 15, 16, 17, 128, 255]) as u32) << 16,
@@ -121,8 +129,21 @@ pub fn faulty_word(rng: &mut Random, rows: &[Row], good: u32) -> u32 {
         6 => wrong_argument(rng, rows),
         7 => good ^ 1 << rng.below(32),
         8 => join(rng.pick(&[GO, LOOK, CANCEL]), any as u32, rng.pick(&[0, 0, 1, 16])),
+        9 | 10 => full_entry(rng, rows),
         _ => rng.next() as u32,
     }
+}
+
+/// A word about a count that is full: GO of a process whose entry would carry one too far, with an argument at times, or
+/// GO or another kind of one that is not at 20.
+pub fn full_entry(rng: &mut Random, rows: &[Row]) -> u32 {
+    let n = rows.len().min(MOST);
+    let from = rng.below(n);
+    let about = |at_20: bool| move |p: &usize| (rows[*p].loc == 20) == at_20 && is_full(rows, *p);
+    let all = || (0..n).map(|i| (from + i) % n);
+    let p = all().find(about(rng.chance(7, 8))).or_else(|| all().find(|&p| rows[p].loc == 20)).unwrap_or(from);
+    let kind = if rng.chance(7, 8) { GO } else { rng.within(1, 6) as u32 };
+    join(kind, p as u32, rng.pick(&[0, 0, 1, 16]))
 }
 
 /// A long run of accepted words from a fresh table.

@@ -1,7 +1,7 @@
 //! Start tables: fresh, random sound, and unsound; and rows of any content.
 
 use super::Random;
-use crate::row::{everyone, Row, LOCATIONS};
+use crate::row::{everyone, Row, LOCATIONS, MOST};
 
 /// Fresh (manual, "Tables"): level, est, lis and turn are anything sound.
 pub fn fresh_table(rng: &mut Random, n: usize) -> Vec<Row> {
@@ -10,16 +10,18 @@ pub fn fresh_table(rng: &mut Random, n: usize) -> Vec<Row> {
     }
     let mut rows = sound_table(rng, n);
     for row in &mut rows {
-        *row = Row { loc: 10, act: 0, bb: 0, ahead: 0, ..*row };
+        *row = Row { loc: 10, act: 0, bb: 0, ahead: 0, passes: [0; MOST], ..*row };
     }
     rows
 }
 
-/// Any sound table, reachable or not. In a crowded one most are at 30, or at 21 with level 0, whence they arrive.
+/// Any sound table, reachable or not. In a crowded one most are at 30, or at 21 with level 0, whence they arrive. Most have
+/// passes, some of them near the most that a count can be, so that some entries are refused.
 pub fn sound_table(rng: &mut Random, n: usize) -> Vec<Row> {
     let most_level = rng.pick(&[n, n, 2, 3]).min(n);
     let most_code = rng.pick(&[8, 8, 8, 7]);
     let crowded = rng.chance(1, 8);
+    let passes = rng.pick(&PASSES);
     (0..n)
         .map(|k| {
             let in_crowd = crowded && rng.chance(7, 8);
@@ -39,9 +41,38 @@ pub fn sound_table(rng: &mut Random, n: usize) -> Vec<Row> {
                 lis: some_set(rng, n),
                 ahead: some_set(rng, n),
                 turn: if k == 0 { 0 } else { rng.below(n) as u16 },
+                passes: some_passes(rng, n, k, passes),
             }
         })
         .collect()
+}
+
+/// How many of the counts of a table are near the most, one in so many, and how many others are any; 0 is none.
+#[derive(Clone, Copy)]
+struct Passes {
+    near_full: usize,
+    any: usize,
+}
+
+const PASSES: [Passes; 5] = [
+    Passes { near_full: 0, any: 0 },
+    Passes { near_full: 0, any: 2 },
+    Passes { near_full: 24, any: 3 },
+    Passes { near_full: 6, any: 0 },
+    Passes { near_full: 2, any: 2 },
+];
+
+/// The passes of process q of n: none over itself.
+fn some_passes(rng: &mut Random, n: usize, q: usize, Passes { near_full, any }: Passes) -> [u16; MOST] {
+    let mut passes = [0; MOST];
+    for r in (0..n).filter(|&r| r != q) {
+        if near_full > 0 && rng.chance(1, near_full) {
+            passes[r] = rng.pick(&[65_533, 65_534, 65_535, 65_535]);
+        } else if any > 0 && rng.chance(1, any) {
+            passes[r] = if rng.chance(1, 2) { rng.below(4) as u16 } else { rng.next() as u16 };
+        }
+    }
+    passes
 }
 
 /// Rows of any content, as they may be lent to be written over.
@@ -57,6 +88,7 @@ pub fn old_rows(rng: &mut Random, count: usize) -> Vec<Row> {
             lis: cell(),
             ahead: cell(),
             turn: cell(),
+            passes: std::array::from_fn(|_| cell()),
         })
         .collect()
 }
@@ -82,7 +114,7 @@ pub fn damage_rows(rng: &mut Random, rows: &mut [Row]) {
     let k = if rng.chance(1, 4) { 0 } else { rng.below(n) };
     let edge = n as u16;
     let row = &mut rows[k];
-    match rng.below(12) {
+    match rng.below(16) {
         0 => row.loc = rng.next() as u16,
         1 => row.loc = rng.pick(&[0, 1, 9, 11, 19, 25, 29, 31, 39, 41, 50, 64 + 10, 266, 65535]),
         2 => row.act = rng.pick(&[2, 3, 256, 65535]),
@@ -94,6 +126,9 @@ pub fn damage_rows(rng: &mut Random, rows: &mut [Row]) {
         8 => row.turn = rng.pick(&[1, edge - 1, edge, edge + 1, 255, 256, 65535]),
         9 => *row = Row { loc: rng.pick(&[22, 23, 24]), level: 0, ..*row },
         10 => *row = Row { loc: 30, level: rng.below(n) as u16, ..*row },
+        11 | 12 => row.passes[k % MOST] = rng.pick(&[0, 1, 256, 65_535]),
+        13 => row.passes[rng.within(n.min(MOST) - 1, MOST - 1)] = rng.pick(&[0, 1, 256, 65_535]),
+        14 => row.passes[rng.below(MOST)] = rng.next() as u16,
         _ => rows[0].turn = rng.pick(&[0, 1, 2, 256]),
     }
 }

@@ -2,14 +2,19 @@
 
 use super::calls::{take_words, too_many};
 use super::cells::printed;
-use super::image::{header, read, write};
+use super::image::{header, read, words_asked_for, write, Header};
 use super::Fault;
 use crate::Ran;
 
 /// The words of an input, or 14.
 fn words_in(bytes: &[u8], fault: Fault) -> Result<Vec<u32>, u16> {
     let odd = bytes.len() % 4 != 0 && fault != Fault::OddBytesDropped;
-    if odd || (bytes.len() > 33_088 && fault != Fault::ByteLimitIgnored) {
+    let most = match fault {
+        Fault::ByteLimitIgnored => usize::MAX,
+        Fault::ByteLimitWithoutPasses => 33_088,
+        _ => 34_112,
+    };
+    if odd || bytes.len() > most {
         return Err(14);
     }
     let value = |word: &[u8]| (0..4).map(|i| u32::from(word[i]) * 256u32.pow(i as u32)).sum();
@@ -17,11 +22,13 @@ fn words_in(bytes: &[u8], fault: Fault) -> Result<Vec<u32>, u16> {
 }
 
 /// The image and the event words of an input.
-fn divide(words: &[u32]) -> (&[u32], &[u32]) {
-    match header(words) {
-        Some(n) if words.len() > 5 * n => (&words[..5 * n], &words[5 * n..]),
-        _ => (words, &[]),
-    }
+fn divide(words: &[u32], fault: Fault) -> (&[u32], &[u32]) {
+    let length = match header(words, fault) {
+        Some(Header { n, .. }) if fault == Fault::CutWithoutPasses => 5 * n,
+        Some(header) => header.length(),
+        None => words.len(),
+    };
+    words.split_at(length.min(words.len()))
 }
 
 pub fn c_call(input: &[u8], lent: &mut [u8], fault: Fault) -> u64 {
@@ -29,12 +36,13 @@ pub fn c_call(input: &[u8], lent: &mut [u8], fault: Fault) -> u64 {
         Ok(words) => words,
         Err(refusal) => return refusal.into(),
     };
-    let (image, events) = divide(&words);
+    let (image, events) = divide(&words, fault);
     let mut system = match read(image, fault) {
         Ok(system) => system,
         Err((refusal, _)) => return refusal.into(),
     };
-    let lent_too_few = lent.len() < 20 * system.n() || (fault == Fault::LentMustBeWords && lent.len() % 4 != 0);
+    let asked_for = 4 * words_asked_for(system.n(), fault);
+    let lent_too_few = lent.len() < asked_for || (fault == Fault::LentMustBeWords && lent.len() % 4 != 0);
     if lent_too_few && fault == Fault::LentBeforeWordCount {
         return 13;
     }
@@ -46,13 +54,12 @@ pub fn c_call(input: &[u8], lent: &mut [u8], fault: Fault) -> u64 {
     }
     let ran = take_words(&mut system, events, fault, |_, _| ());
     if !(fault == Fault::NoImageOnStop && ran.refusal != 0) {
-        for (place, word) in write(&system).iter().enumerate() {
-            for i in 0..4 {
-                lent[4 * place + i] = (word / 256u32.pow(i as u32) % 256) as u8;
-            }
+        let bytes = write(&system, fault).into_iter().flat_map(|word| (0..4).map(move |i| word / 256u32.pow(i) % 256));
+        for (cell, byte) in lent.iter_mut().zip(bytes) {
+            *cell = byte as u8;
         }
         if fault == Fault::ImageFillsAllLent {
-            lent[20 * system.n()..].fill(0);
+            lent[asked_for..].fill(0);
         }
     }
     256 * u64::from(ran.taken) + u64::from(ran.refusal)
@@ -63,7 +70,7 @@ pub fn text(input: &[u8], fault: Fault) -> String {
         Ok(words) => words,
         Err(refusal) => return format!("input {refusal}\n"),
     };
-    let (image, events) = divide(&words);
+    let (image, events) = divide(&words, fault);
     let mut system = match read(image, fault) {
         Ok(system) => system,
         Err((refusal, place)) => return format!("image {place} {refusal}\n"),

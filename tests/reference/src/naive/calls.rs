@@ -1,6 +1,7 @@
 //! The calls on lent rows: the fresh table, steps, runs and the census.
 
 use super::cells::answered;
+use super::passes::spoil_refused;
 use super::step::{carry_out, judge, take, would_use, Moved};
 use super::system::{size, System};
 use super::Fault;
@@ -19,7 +20,11 @@ pub fn fresh(rows: &mut [Row], fault: Fault) -> u16 {
     System::fresh(n).to_rows(rows);
     if fault == Fault::FreshKeepsWhatMayBeAnything {
         for (row, old) in rows.iter_mut().zip(old) {
-            *row = Row { loc: 10, act: 0, bb: 0, ahead: 0, ..old };
+            *row = Row { loc: 10, act: 0, bb: 0, ahead: 0, passes: [0; 16], ..old };
+        }
+    } else if fault == Fault::FreshKeepsPasses {
+        for (row, old) in rows.iter_mut().zip(old) {
+            row.passes = old.passes;
         }
     }
     0
@@ -57,7 +62,14 @@ impl Standing {
             Err(refusal) if self.fault == Fault::RefusedWordUsesCell => {
                 StepAnswer { refusal, cell: answered(would_use(system, word, refusal)) }
             }
-            Err(refusal) => StepAnswer { refusal, cell: NO_CELL },
+            Err(refusal) => {
+                if self.fault == Fault::FullCountsTheOthers {
+                    let mut after = system.clone();
+                    spoil_refused(&mut after, word, refusal, self.fault);
+                    after.to_rows(rows);
+                }
+                StepAnswer { refusal, cell: NO_CELL }
+            }
         }
     }
 }

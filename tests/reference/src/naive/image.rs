@@ -21,7 +21,13 @@ pub fn read_image(words: &[u32], lent: &mut [Row], fault: Fault) -> Reading {
         let size = if fault == Fault::ReadSizeWith13 { n as u16 } else { 0 };
         return Reading { refusal: 13, place: 0, size };
     }
+    let old = lent[..n].to_vec();
     system.to_rows(&mut lent[..n]);
+    if fault == Fault::ShortFormKeepsPasses && words.len() == 5 * n {
+        for (row, old) in lent.iter_mut().zip(old) {
+            row.passes = old.passes;
+        }
+    }
     if fault == Fault::ReadClearsRowsPastTheTable {
         lent[n..].fill(Row::default());
     }
@@ -30,7 +36,7 @@ pub fn read_image(words: &[u32], lent: &mut [Row], fault: Fault) -> Reading {
 
 /// The faults of looking at the lent rows as soon as the header and the number of words are right.
 fn before_the_words(words: &[u32], lent: &mut [Row], fault: Fault) -> Option<Reading> {
-    let n = header(words).filter(|&n| words.len() == 5 * n)?;
+    let Header { n, .. } = header(words, fault).filter(|header| words.len() == header.length())?;
     if fault == Fault::ReadClearsRowsFirst {
         let known = n.min(lent.len());
         System::fresh(n).to_rows(&mut lent[..known]);
@@ -39,16 +45,16 @@ fn before_the_words(words: &[u32], lent: &mut [Row], fault: Fault) -> Option<Rea
     early.then_some(Reading { refusal: 13, place: 0, size: 0 })
 }
 
-/// Writes the image into the first 5N lent words: 6, 7, then 13.
+/// Writes the image into the first lent words, 5N + N times N of them: 6, 7, then 13.
 pub fn write_image(rows: &[Row], lent: &mut [u32], fault: Fault) -> u16 {
     let system = match System::from_rows(rows, fault) {
         Ok(system) => system,
         Err(refusal) => return refusal,
     };
-    let image = write(&system);
-    let short = lent.len() < image.len();
-    for (place, &word) in image.iter().enumerate() {
-        if !short || (fault == Fault::WritesPartWhenShort && place < lent.len()) {
+    let image = write(&system, fault);
+    let short = lent.len() < words_asked_for(system.n(), fault);
+    for (place, &word) in image.iter().enumerate().take(lent.len()) {
+        if !short || fault == Fault::WritesPartWhenShort {
             lent[place] = word;
         }
     }
@@ -62,20 +68,53 @@ pub fn write_image(rows: &[Row], lent: &mut [u32], fault: Fault) -> u16 {
     }
 }
 
-/// The number of processes that a first word names.
-pub fn header(words: &[u32]) -> Option<usize> {
-    (2..=16).find(|&n| words.first() == Some(&(0x8000_0000 + n as u32)))
+/// How many words must be lent for the image of n processes.
+pub fn words_asked_for(n: usize, fault: Fault) -> usize {
+    match fault {
+        Fault::LentWithoutPasses => 5 * n,
+        _ => 5 * n + n * n,
+    }
+}
+
+/// What a first word says: the number of processes, and whether words for passes follow.
+#[derive(Clone, Copy)]
+pub struct Header {
+    pub n: usize,
+    pub with_passes: bool,
+}
+
+impl Header {
+    pub fn length(self) -> usize {
+        let Header { n, with_passes } = self;
+        if with_passes {
+            5 * n + n * n
+        } else {
+            5 * n
+        }
+    }
+}
+
+pub fn header(words: &[u32], fault: Fault) -> Option<Header> {
+    for n in 2..=16 {
+        if words.first() == Some(&(0x8000_0000 + n as u32)) && fault != Fault::ShortFormRefused {
+            return Some(Header { n, with_passes: false });
+        }
+        if words.first() == Some(&(0x8100_0000 + n as u32)) {
+            return Some(Header { n, with_passes: true });
+        }
+    }
+    None
 }
 
 pub fn read(words: &[u32], fault: Fault) -> Result<System, (u16, usize)> {
-    let n = header(words).ok_or((1, 0))?;
-    let length = (2, words.len().min(5 * n));
-    let length_wrong = words.len() != 5 * n;
+    let header = header(words, fault).ok_or((1, 0))?;
+    let length = (2, words.len().min(header.length()));
+    let length_wrong = words.len() != header.length();
     if length_wrong && fault != Fault::LengthAfterWords {
         return Err(length);
     }
-    let mut system = System::fresh(n);
-    for (place, &word) in words.iter().enumerate().take(5 * n).skip(1) {
+    let mut system = System::fresh(header.n);
+    for (place, &word) in words.iter().enumerate().take(header.length()).skip(1) {
         let shown = if fault == Fault::PlaceFromImageStart1 { place + 1 } else { place };
         read_word(&mut system, place, word, fault).map_err(|refusal| (refusal, shown))?;
     }
@@ -87,6 +126,10 @@ pub fn read(words: &[u32], fault: Fault) -> Result<System, (u16, usize)> {
 
 fn read_word(system: &mut System, place: usize, word: u32, fault: Fault) -> Result<(), u16> {
     let n = system.n();
+    if place >= 5 * n {
+        let (q, r) = pair_at(place - 5 * n, n, fault);
+        return read_passes(system, q, r, word, fault);
+    }
     let (kind, number) =
         if place <= 4 * n { ([0x9, 0xA, 0xB, 0xC][(place - 1) % 4], (place - 1) / 4) } else { (0xD, place - 4 * n) };
     let form = word / 0x1000_0000 == kind && word / 0x1_0000 % 0x100 == number as u32 && !spare_set(kind, word, fault);
@@ -120,6 +163,38 @@ fn read_word(system: &mut System, place: usize, word: u32, fault: Fault) -> Resu
     } else {
         Err(3)
     }
+}
+
+/// Whose passes, and over whom, the words at the end have: rows in order.
+fn pair_at(place: usize, n: usize, fault: Fault) -> (usize, usize) {
+    match fault {
+        Fault::PassWordsByColumn => (place % n, place / n),
+        _ => (place / n, place % n),
+    }
+}
+
+/// A word of kind E but for its count.
+fn pass_word(q: usize, r: usize, fault: Fault) -> u32 {
+    let (q, r) = if fault == Fault::PassWordsTurnedAbout { (r, q) } else { (q, r) };
+    0xE000_0000 + q as u32 * 0x100_0000 + r as u32 * 0x1_0000
+}
+
+fn read_passes(system: &mut System, q: usize, r: usize, word: u32, fault: Fault) -> Result<(), u16> {
+    let count = word % 0x1_0000;
+    let spare = if fault == Fault::SpareBitsOfPassesIgnored { word / 0x10_0000 % 0x10 * 0x10_0000 } else { 0 };
+    let form = word - count - spare == pass_word(q, r, fault);
+    let over_itself = q == r && count != 0 && fault != Fault::OwnPassesInImage;
+    if over_itself && fault == Fault::RangeBeforeForm {
+        return Err(4);
+    }
+    if !form || (over_itself && fault == Fault::OwnPassesAreForm) {
+        return Err(3);
+    }
+    if over_itself {
+        return Err(4);
+    }
+    system.processes[q].passes[r] = count;
+    Ok(())
 }
 
 /// Whether a word of a kind has a bit set that the kind does not use.
@@ -157,9 +232,10 @@ fn read_state(system: &mut System, number: usize, word: u32, fault: Fault) -> Re
     Ok(())
 }
 
-pub fn write(system: &System) -> Vec<u32> {
+pub fn write(system: &System, fault: Fault) -> Vec<u32> {
     let n = system.n();
-    let mut words = vec![0x8000_0000 + n as u32];
+    let short = fault == Fault::ShortFormWritten;
+    let mut words = vec![if short { 0x8000_0000 } else { 0x8100_0000 } + n as u32];
     for (p, process) in system.processes.iter().enumerate() {
         let number = p as u32 * 0x1_0000;
         let code = CODES.iter().position(|&location| location == process.location).expect("a location");
@@ -172,6 +248,12 @@ pub fn write(system: &System) -> Vec<u32> {
     }
     for k in 1..n {
         words.push(0xD000_0000 + k as u32 * 0x1_0000 + system.turn[k] as u32);
+    }
+    for place in 0..n * n {
+        let (q, r) = pair_at(place, n, fault);
+        if !short {
+            words.push(pass_word(q, r, fault) + system.processes[q].passes[r]);
+        }
     }
     words
 }

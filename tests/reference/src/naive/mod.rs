@@ -6,6 +6,7 @@ mod bytes;
 mod calls;
 mod cells;
 mod image;
+mod passes;
 mod rounds;
 mod step;
 mod system;
@@ -19,7 +20,8 @@ pub use words::{put_together, take_apart};
 
 /// One error put into the model; the first group is of errors that are near, the third of CANCEL and the kinds, the
 /// fourth of the printed number at 30, which may be carried wrongly, the fifth of the shared cell that a step, a run
-/// and a line tell, the sixth of rounds, the last that of memory lent by C and of answers in records.
+/// and a line tell, the sixth of rounds, the seventh of passes, the last that of memory lent by C and of answers in
+/// records.
 #[derive(Clone, Copy, Debug, PartialEq, Eq)]
 pub enum Fault {
     None,
@@ -139,6 +141,42 @@ pub enum Fault {
     OccupiedIsANumber,
     RoundsOnACopy,
     RoundsClearRefusedRows,
+    RoundsGoOnPast15,
+    BrokenRoundCounted,
+    BrokenRoundUndone,
+    BrokenRoundNeverOccupied,
+
+    PassesOfTheOther,
+    PassesCountedAtCome,
+    PassesCountedAtGo24,
+    PassesOverThoseAt20,
+    PassesOverItself,
+    PassesClearedAtGo40,
+    PassesOfLeaverCleared,
+    PassesOfLeaverClearedToo,
+    PassesClearedOfCompeting,
+    PassesNotCleared,
+    FullBeforeArgument,
+    FullBeforeAllowed,
+    FullAt65534,
+    CountsWrap,
+    CountsStayFull,
+    FullOverAnyone,
+    FullCountsTheOthers,
+    OwnPassesInRows,
+    PassesPastNInRows,
+    OwnPassesInImage,
+    OwnPassesAreForm,
+    SpareBitsOfPassesIgnored,
+    PassWordsTurnedAbout,
+    PassWordsByColumn,
+    ShortFormWritten,
+    ShortFormRefused,
+    ShortFormKeepsPasses,
+    CutWithoutPasses,
+    LentWithoutPasses,
+    ByteLimitWithoutPasses,
+    FreshKeepsPasses,
 
     FreshOf17Rows,
     FreshKeepsWhatMayBeAnything,
@@ -159,7 +197,7 @@ pub enum Fault {
 }
 
 impl Fault {
-    pub const ALL: [Fault; 127] = [
+    pub const ALL: [Fault; 162] = [
         Fault::Counts40With30,
         Fault::EstKeptAtGo24,
         Fault::TurnBeforeSizeOfEst,
@@ -271,6 +309,41 @@ impl Fault {
         Fault::OccupiedIsANumber,
         Fault::RoundsOnACopy,
         Fault::RoundsClearRefusedRows,
+        Fault::RoundsGoOnPast15,
+        Fault::BrokenRoundCounted,
+        Fault::BrokenRoundUndone,
+        Fault::BrokenRoundNeverOccupied,
+        Fault::PassesOfTheOther,
+        Fault::PassesCountedAtCome,
+        Fault::PassesCountedAtGo24,
+        Fault::PassesOverThoseAt20,
+        Fault::PassesOverItself,
+        Fault::PassesClearedAtGo40,
+        Fault::PassesOfLeaverCleared,
+        Fault::PassesOfLeaverClearedToo,
+        Fault::PassesClearedOfCompeting,
+        Fault::PassesNotCleared,
+        Fault::FullBeforeArgument,
+        Fault::FullBeforeAllowed,
+        Fault::FullAt65534,
+        Fault::CountsWrap,
+        Fault::CountsStayFull,
+        Fault::FullOverAnyone,
+        Fault::FullCountsTheOthers,
+        Fault::OwnPassesInRows,
+        Fault::PassesPastNInRows,
+        Fault::OwnPassesInImage,
+        Fault::OwnPassesAreForm,
+        Fault::SpareBitsOfPassesIgnored,
+        Fault::PassWordsTurnedAbout,
+        Fault::PassWordsByColumn,
+        Fault::ShortFormWritten,
+        Fault::ShortFormRefused,
+        Fault::ShortFormKeepsPasses,
+        Fault::CutWithoutPasses,
+        Fault::LentWithoutPasses,
+        Fault::ByteLimitWithoutPasses,
+        Fault::FreshKeepsPasses,
         Fault::FreshOf17Rows,
         Fault::FreshKeepsWhatMayBeAnything,
         Fault::ReadLentBeforeWords,
@@ -298,6 +371,12 @@ impl Fault {
     /// Those of rounds, which stand together in ALL.
     pub fn of_rounds() -> impl Iterator<Item = Fault> {
         let from_the_first = Fault::ALL.into_iter().skip_while(|&fault| fault != Fault::LooksAtHighest);
+        from_the_first.take_while(|&fault| fault != Fault::PassesOfTheOther)
+    }
+
+    /// Those of passes, which stand together in ALL.
+    pub fn of_passes() -> impl Iterator<Item = Fault> {
+        let from_the_first = Fault::ALL.into_iter().skip_while(|&fault| fault != Fault::PassesOfTheOther);
         from_the_first.take_while(|&fault| fault != Fault::FreshOf17Rows)
     }
 }

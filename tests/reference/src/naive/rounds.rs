@@ -1,4 +1,5 @@
-//! Rounds, in the order of the manual, "Rounds": which word each process gets, when a round follows, and what is told.
+//! Rounds, in the order of the manual, "Rounds": which word each process gets, when a round follows, which word breaks
+//! one, and what is told.
 
 use super::step::{take, GO, LOOK};
 use super::system::{size, Process, System};
@@ -8,7 +9,8 @@ use crate::{Rounded, Row};
 const STAY: u32 = 1;
 const COME: u32 = 2;
 
-/// Rounds in the lent rows until somebody is at 30 after one, or the limit is used up; 6 or 7 and no round.
+/// Rounds in the lent rows until somebody is at 30 after one, or the limit is used up, or a word is refused; 6 or 7 and no
+/// round.
 pub fn rounds(rows: &mut [Row], fault: Fault) -> Rounded {
     let mut system = match System::from_rows(rows, fault) {
         Ok(system) => system,
@@ -26,7 +28,11 @@ pub fn rounds(rows: &mut [Row], fault: Fault) -> Rounded {
     let (mut counted, mut occupied) = (0, 0);
     for _ in 0..limit(system.n(), fault) {
         let before = told_of(&system, fault);
-        let whole = do_round(&mut system, fault);
+        let given = system.clone();
+        let whole = match do_round(&mut system, fault) {
+            Ok(whole) => whole,
+            Err(refusal) => return broken(rows, refusal, counted, (given, system), fault),
+        };
         if whole || fault != Fault::RoundEndsAt30Uncounted {
             counted += 1;
         }
@@ -39,6 +45,19 @@ pub fn rounds(rows: &mut [Row], fault: Fault) -> Rounded {
         system.to_rows(rows);
     }
     Rounded { refusal: 0, rounds: told_rounds(counted, fault), occupied }
+}
+
+/// What is told where a word of a round was refused: the rounds before it, and who is at 30 in the rows, which keep what
+/// the words before it did. The two systems are that before the broken round and that before the word.
+fn broken(rows: &mut [Row], refusal: u16, counted: u16, systems: (System, System), fault: Fault) -> Rounded {
+    let (given, reached) = systems;
+    let left = if fault == Fault::BrokenRoundUndone { given } else { reached };
+    if fault != Fault::RoundsOnACopy {
+        left.to_rows(rows);
+    }
+    let rounds = if fault == Fault::BrokenRoundCounted { counted + 1 } else { counted };
+    let occupied = if fault == Fault::BrokenRoundNeverOccupied { 0 } else { told_of(&left, fault) };
+    Rounded { refusal, rounds, occupied }
 }
 
 /// Whether there is a first round: nobody is at 30, and somebody is at 20 to 24.
@@ -69,24 +88,27 @@ fn limit(n: usize, fault: Fault) -> usize {
 }
 
 /// A word for each process in number order; each word goes to the table that the word before left. Whether all had
-/// theirs.
-fn do_round(system: &mut System, fault: Fault) -> bool {
+/// theirs; or the refusal of one, which ends the round before it.
+fn do_round(system: &mut System, fault: Fault) -> Result<bool, u16> {
     let n = system.n();
     if fault == Fault::RoundAllAtOnce {
         *system = all_at_once(system);
-        return true;
+        return Ok(true);
     }
     for i in 0..n {
         let p = if fault == Fault::RoundFromTheLast { n - 1 - i } else { i };
         let word = word_of(system, p, fault);
-        let taken = take(system, word, fault).is_ok();
-        assert!(taken || fault != Fault::None, "every word of a round is taken");
+        match take(system, word, fault) {
+            Err(15) if fault != Fault::RoundsGoOnPast15 => return Err(15),
+            Err(refusal) => assert!(fault != Fault::None, "a word of a round meets {refusal}"),
+            Ok(_) => {}
+        }
         let asks_within = fault == Fault::RoundEndsAt30 || fault == Fault::RoundEndsAt30Uncounted;
         if asks_within && somebody_at_30(system, fault) {
-            return i == n - 1;
+            return Ok(i == n - 1);
         }
     }
-    true
+    Ok(true)
 }
 
 /// The word that a round has for process p.

@@ -1,12 +1,13 @@
-//! One step, in the order of the manual, "Steps" and "Ahead sets".
+//! One step, in the order of the manual, "Steps" and "Ahead sets"; "Passes" has a file of its own.
 
 use super::cells::{told, Use, Variable};
+use super::passes::{add_passes, clear_passes, counts_passes, is_full, spoil_refused};
 use super::system::{size, Process, System};
 use super::words::is_kind;
 use super::Fault;
 
 const STAY: u32 = 1;
-const COME: u32 = 2;
+pub const COME: u32 = 2;
 pub const FLICKER: u32 = 3;
 pub const GO: u32 = 4;
 pub const LOOK: u32 = 5;
@@ -23,8 +24,13 @@ pub struct Moved {
 
 /// Takes one word, or refuses it and changes nothing.
 pub fn take(system: &mut System, word: u32, fault: Fault) -> Result<Moved, u16> {
-    let event = judge(system, word, fault)?;
-    Ok(carry_out(system, event, fault))
+    match judge(system, word, fault) {
+        Ok(event) => Ok(carry_out(system, event, fault)),
+        Err(refusal) => {
+            spoil_refused(system, word, refusal, fault);
+            Err(refusal)
+        }
+    }
 }
 
 /// A word that was not refused, in its parts.
@@ -60,11 +66,21 @@ pub fn judge(system: &System, word: u32, fault: Fault) -> Result<Event, u16> {
     if fault == Fault::ArgumentBeforeAllowed && !listed {
         return Err(11);
     }
+    if fault == Fault::FullBeforeAllowed && !allowed && is_full(system, p, fault) {
+        return Err(15);
+    }
     if !allowed {
         return Err(10);
     }
+    let full = counts_passes(kind, process.location, fault) && is_full(system, p, fault);
+    if fault == Fault::FullBeforeArgument && full {
+        return Err(15);
+    }
     if !listed {
         return Err(11);
+    }
+    if full {
+        return Err(15);
     }
     Ok(Event { kind, p, a })
 }
@@ -74,6 +90,9 @@ pub fn carry_out(system: &mut System, event: Event, fault: Fault) -> Moved {
     let Event { kind, p, a } = event;
     let before = system.processes[p].clone();
     system.used = None;
+    if counts_passes(kind, before.location, fault) {
+        add_passes(system, p, fault);
+    }
     match kind {
         STAY => {}
         COME => system.processes[p].location = 20,
@@ -93,11 +112,14 @@ pub fn carry_out(system: &mut System, event: Event, fault: Fault) -> Moved {
     Moved { process: p, before: before.location, after: after.location, come, used }
 }
 
-/// What a word would have used that is refused for its argument, had that been 0. Only faults ask.
+/// What a word would have used that is refused for its argument, had that been 0, or for a full count, had that not been.
+/// Only faults ask.
 pub fn would_use(system: &System, word: u32, refusal: u16) -> Option<Use> {
-    let without_argument = judge(system, word / 0x100 * 0x100, Fault::None);
-    let event = without_argument.ok().filter(|_| refusal == 11)?;
-    carry_out(&mut system.clone(), event, Fault::None).used
+    let mut without_passes = system.clone();
+    without_passes.processes.iter_mut().for_each(|process| process.passes = [0; 16]);
+    let without_argument = judge(&without_passes, word / 0x100 * 0x100, Fault::None);
+    let event = without_argument.ok().filter(|_| refusal == 11 || refusal == 15)?;
+    carry_out(&mut without_passes, event, Fault::None).used
 }
 
 fn is_allowed(kind: u32, process: &Process, fault: Fault) -> bool {
@@ -184,6 +206,9 @@ fn go(system: &mut System, p: usize, fault: Fault) {
             if fault != Fault::AheadClearedAtGo40 {
                 leave_ahead_sets(system, p, fault);
             }
+            if fault != Fault::PassesClearedAtGo40 {
+                clear_passes(system, p, fault);
+            }
         }
         _ => {
             let act = fault == Fault::ActKeptAtGo40 && system.processes[p].act;
@@ -191,6 +216,9 @@ fn go(system: &mut System, p: usize, fault: Fault) {
             system.processes[p].location = 10;
             if fault == Fault::AheadClearedAtGo40 {
                 leave_ahead_sets(system, p, fault);
+            }
+            if fault == Fault::PassesClearedAtGo40 {
+                clear_passes(system, p, fault);
             }
         }
     }

@@ -1,4 +1,4 @@
-//! The state as sections 3.2 and 3.4 of the paper have it, and its soundness.
+//! The state as sections 3.2 and 3.4 of the paper have it, with the passes of section 4.1, and its soundness.
 
 use super::cells::Use;
 use super::Fault;
@@ -15,6 +15,8 @@ pub struct Process {
     pub est: Set,
     pub lis: Set,
     pub ahead: Set,
+    /// Over each process, how often this one entered while that one competed.
+    pub passes: [u32; 16],
 }
 
 #[derive(Clone, Debug)]
@@ -58,6 +60,7 @@ impl System {
             est: [false; 16],
             lis: [false; 16],
             ahead: [false; 16],
+            passes: [0; 16],
         };
         System { processes: vec![idle; n], turn: vec![0; n], used: None }
     }
@@ -131,6 +134,7 @@ impl System {
             est: set_from_bits(row.est.into()),
             lis: set_from_bits(row.lis.into()),
             ahead: set_from_bits(row.ahead.into()),
+            passes: row.passes.map(|count| count.into()),
         };
         Ok(System {
             processes: rows.iter().map(process).collect(),
@@ -151,6 +155,7 @@ impl System {
                 lis: bits_from_set(&process.lis) as u16,
                 ahead: bits_from_set(&process.ahead) as u16,
                 turn: self.turn[k] as u16,
+                passes: process.passes.map(|count| count as u16),
             };
         }
     }
@@ -177,5 +182,20 @@ fn row_is_sound(k: usize, row: &Row, n: usize, fault: Fault) -> bool {
     if (row.loc == 22 || row.loc == 23 || row.loc == 24) && row.level == 0 {
         return false;
     }
-    !(row.loc == 30 && row.level != 0)
+    if row.loc == 30 && row.level != 0 {
+        return false;
+    }
+    passes_are_sound(k, row, n, fault)
+}
+
+/// No passes of a process over itself, nor over one that the table does not have.
+fn passes_are_sound(k: usize, row: &Row, n: usize, fault: Fault) -> bool {
+    for r in 0..16 {
+        let over_itself = r == k && fault != Fault::OwnPassesInRows;
+        let over_nobody = r >= n && fault != Fault::PassesPastNInRows;
+        if row.passes[r] != 0 && (over_itself || over_nobody) {
+            return false;
+        }
+    }
+    true
 }

@@ -1,17 +1,20 @@
 //! An engine beside the naive model at one table.
 
-use super::exchange::{exchange, Exchange, Taken};
-use super::search::Guide;
+use super::exchange::{exchange, Taken};
+use super::full::{with_passes, Full};
+use super::search::{Guide, Visited};
 use super::silence::Silence;
 use crate::compare::{Case, Engine};
 use crate::naive::{self, Fault, Standing};
-use crate::{refusal, Census, Row};
+use crate::{refusal, Census, Row, StepAnswer};
 
 /// The engine, and the naive model with a fault or none: they must agree, on tables that must meet demand 3, at which
 /// words without a clash can be exchanged, and from which rounds lead to 30 in time.
 pub struct Beside<'a> {
     pub engine: &'a dyn Engine,
     pub fault: Fault,
+    /// Whether a table of two processes is given every word again with passes that are few or full.
+    pub passes: bool,
 }
 
 /// What must not be found, as cases that both can be asked again.
@@ -37,27 +40,23 @@ impl<const N: usize> Guide<N> for Beside<'_> {
         rows: &[Row; N],
         words: &[u32],
         mut each: impl FnMut(u32, Option<[Row; N]>),
-    ) -> Result<(Exchange, Silence), Finding> {
+    ) -> Result<Visited, Finding> {
         self.look(rows)?;
-        let model = Standing::new(rows, self.fault);
         let mut taken = Vec::with_capacity(4 * N);
-        for &word in words {
-            let (mut after, mut model_after) = (*rows, *rows);
-            let answer = self.engine.step(&mut after, word);
-            // leaves the rows as given where it refuses the word
-            let model_answer = model.step(word, &mut model_after);
-            if (answer, after) != (model_answer, model_after) {
-                return Err(Finding::Difference(Case::Step { rows: rows.to_vec(), word }));
-            }
+        self.give(rows, words, |word, answer, after| {
             let accepted = answer.refusal == refusal::NONE;
             if accepted {
-                taken.push(Taken { word, cell: answer.cell, rows: after });
+                taken.push(Taken { word, cell: answer.cell, rows: *after });
             }
-            each(word, accepted.then_some(after));
-        }
+            each(word, accepted.then_some(*after));
+        })?;
         let pairs = exchange(&taken, |rows, word| self.engine.step(rows, word));
         // last, so that a wrong step is found as such
-        Ok((pairs.map_err(|pair| in_both_orders(&pair))?, self.do_rounds(rows)?))
+        Ok(Visited {
+            exchange: pairs.map_err(|pair| in_both_orders(&pair))?,
+            silence: self.do_rounds(rows)?,
+            full: self.give_with_passes(rows, words)?,
+        })
     }
 }
 
@@ -67,6 +66,40 @@ fn in_both_orders<const N: usize>([first, second]: &[Taken<N>; 2]) -> Finding {
 }
 
 impl Beside<'_> {
+    /// Gives every word to the rows, each as if it were the first, and tells `each` the answer and what it led to.
+    #[inline]
+    fn give<const N: usize>(
+        &self,
+        rows: &[Row; N],
+        words: &[u32],
+        mut each: impl FnMut(u32, StepAnswer, &[Row; N]),
+    ) -> Result<(), Finding> {
+        let model = Standing::new(rows, self.fault);
+        let (mut after, mut model_after) = (*rows, *rows);
+        for &word in words {
+            let answer = self.engine.step(&mut after, word);
+            // leaves the rows as given where it refuses the word, so that they serve for the next
+            let model_answer = model.step(word, &mut model_after);
+            if (answer, &after) != (model_answer, &model_after) {
+                return Err(Finding::Difference(Case::Step { rows: rows.to_vec(), word }));
+            }
+            each(word, answer, &after);
+            if answer.refusal == refusal::NONE {
+                (after, model_after) = (*rows, *rows);
+            }
+        }
+        Ok(())
+    }
+
+    /// Gives every word to the table with each setting of passes.
+    fn give_with_passes<const N: usize>(&self, rows: &[Row; N], words: &[u32]) -> Result<Full, Finding> {
+        let mut full = Full::default();
+        for rows in with_passes(rows).filter(|_| self.passes) {
+            self.give(&rows, words, |word, answer, _| full.note(&rows, word, answer))?;
+        }
+        Ok(full)
+    }
+
     /// The census of the table.
     fn look(&self, rows: &[Row]) -> Result<(), Finding> {
         let census = self.engine.census(rows);

@@ -1,8 +1,6 @@
 //! A control without an engine: the naive model alone, with a fault after which the algorithm no longer excludes.
 
-use super::exchange::Exchange;
-use super::search::{walk, Figures, Found, Guide};
-use super::silence::Silence;
+use super::search::{walk, Figures, Found, Guide, Visited};
 use super::starts::zeros;
 use crate::naive::{Fault, Standing};
 use crate::row::at_30;
@@ -27,7 +25,7 @@ impl<const N: usize> Guide<N> for Alone {
         rows: &[Row; N],
         words: &[u32],
         mut each: impl FnMut(u32, Option<[Row; N]>),
-    ) -> Result<(Exchange, Silence), TwoAt30> {
+    ) -> Result<Visited, TwoAt30> {
         if at_30(rows) > 1 {
             return Err(TwoAt30);
         }
@@ -37,7 +35,7 @@ impl<const N: usize> Guide<N> for Alone {
             let answer = model.step(word, &mut after);
             each(word, (answer.refusal == refusal::NONE).then_some(after));
         }
-        // neither pairs of words nor rounds are tried
-        Ok(Default::default())
+        // no pairs of words, rounds or passes are tried
+        Ok(Visited::default())
     }
 }

@@ -1,9 +1,9 @@
 //! Two words of different processes, both accepted by a table, in either order: where the cells that they used do not
 //! clash, each is accepted after the other with the cell that it used before, and the tables are the same, ahead sets
-//! apart.
+//! and passes apart. Pairs of which one meets a full count after the other are left out.
 
 use crate::word::process_of;
-use crate::{Cell, Row, StepAnswer};
+use crate::{refusal, Cell, Row, StepAnswer};
 
 /// Pairs of such words at one table, or at all tables of a walk.
 #[derive(Clone, Copy, Debug, Default, PartialEq, Eq)]
@@ -12,18 +12,24 @@ pub struct Exchange {
     pub apart: u64,
     /// Of these, the order makes a difference to ahead sets.
     pub ahead_differs: u64,
+    /// Of these, the order makes a difference to passes.
+    pub passes_differ: u64,
     /// The cells clash.
     pub clashing: u64,
-    /// Of these, the order makes a difference to answers or to other cells than ahead.
+    /// Of these, the order makes a difference to answers or to other cells than ahead and passes.
     pub clash_differs: u64,
+    /// One meets a full count after the other, which is in neither of the other numbers.
+    pub full: u64,
 }
 
 impl std::ops::AddAssign for Exchange {
     fn add_assign(&mut self, more: Exchange) {
         self.apart += more.apart;
         self.ahead_differs += more.ahead_differs;
+        self.passes_differ += more.passes_differ;
         self.clashing += more.clashing;
         self.clash_differs += more.clash_differs;
+        self.full += more.full;
     }
 }
 
@@ -44,26 +50,30 @@ pub fn exchange<const N: usize>(
     let mut counts = Exchange::default();
     for (i, first) in taken.iter().enumerate() {
         for second in taken[i + 1..].iter().filter(|second| process_of(second.word) != process_of(first.word)) {
-            let order = either_order(first, second, &step);
-            if first.cell.clashes(second.cell) {
-                counts.clashing += 1;
-                counts.clash_differs += u64::from(order == Order::Matters);
-            } else if order == Order::Matters {
-                return Err(Box::new([*first, *second]));
-            } else {
-                counts.apart += 1;
-                counts.ahead_differs += u64::from(order == Order::ShowsInAhead);
+            match (either_order(first, second, &step), first.cell.clashes(second.cell)) {
+                (Order::Full, _) => counts.full += 1,
+                (order, true) => {
+                    counts.clashing += 1;
+                    counts.clash_differs += u64::from(order == Order::Matters);
+                }
+                (Order::Matters, false) => return Err(Box::new([*first, *second])),
+                (Order::ShowsIn { ahead, passes }, false) => {
+                    counts.apart += 1;
+                    counts.ahead_differs += u64::from(ahead);
+                    counts.passes_differ += u64::from(passes);
+                }
             }
         }
     }
     Ok(counts)
 }
 
+/// What the order of two words makes a difference to: to nothing but ahead sets and passes, or to more.
 #[derive(PartialEq, Eq)]
 enum Order {
-    SameTable,
-    ShowsInAhead,
+    ShowsIn { ahead: bool, passes: bool },
     Matters,
+    Full,
 }
 
 fn either_order<const N: usize>(
@@ -73,16 +83,18 @@ fn either_order<const N: usize>(
 ) -> Order {
     let (mut first_led, mut second_led) = (first.rows, second.rows);
     let answers = [step(&mut first_led, second.word), step(&mut second_led, first.word)];
-    let accepted = [second, first].map(|taken| StepAnswer { refusal: 0, cell: taken.cell });
-    if answers != accepted || first_led.map(without_ahead) != second_led.map(without_ahead) {
-        Order::Matters
-    } else if first_led != second_led {
-        Order::ShowsInAhead
-    } else {
-        Order::SameTable
+    if answers.iter().any(|answer| answer.refusal == refusal::FULL_COUNT) {
+        return Order::Full;
     }
+    let accepted = [second, first].map(|taken| StepAnswer { refusal: 0, cell: taken.cell });
+    if answers != accepted || first_led.map(without_history) != second_led.map(without_history) {
+        return Order::Matters;
+    }
+    let ahead = first_led.map(|row| row.ahead) != second_led.map(|row| row.ahead);
+    let passes = first_led.map(|row| row.passes) != second_led.map(|row| row.passes);
+    Order::ShowsIn { ahead, passes }
 }
 
-fn without_ahead(row: Row) -> Row {
-    Row { ahead: 0, ..row }
+fn without_history(row: Row) -> Row {
+    Row { ahead: 0, ..row.without_passes() }
 }

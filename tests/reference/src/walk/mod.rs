@@ -1,10 +1,11 @@
-//! Every table that accepted words lead to from fresh tables of two or three processes, with every word given to each,
-//! every two accepted words of different processes in both orders, and rounds: an engine beside the naive model, or
-//! that model alone as a control.
+//! Every table that accepted words lead to from fresh tables of two or three processes, passes apart, with every word given
+//! to each, every two accepted words of different processes in both orders, rounds, and, for two processes, every word
+//! again with passes that are few or full: an engine beside the naive model, or that model alone as a control.
 
 mod beside;
 mod control;
 mod exchange;
+mod full;
 mod packed;
 mod search;
 mod silence;
@@ -13,7 +14,8 @@ mod starts;
 pub use beside::{Beside, Finding};
 pub use control::control;
 pub use exchange::{exchange, Exchange, Taken};
-pub use search::{candidates, walk, Figures, Found};
+pub use full::Full;
+pub use search::{candidates, walk, Figures, Found, Visited};
 pub use silence::{most_needed, Silence};
 
 use crate::naive::Fault;
@@ -32,8 +34,18 @@ pub const ZEROS_OF_2: Walk = Walk {
         tables: 1_116,
         accepted: 4_164,
         refused: 36_012,
-        exchange: Exchange { apart: 3_596, ahead_differs: 40, clashing: 216, clash_differs: 110 },
-        silence: Silence { tables: 984, rounds: 5_012, most: 11 },
+        visited: Visited {
+            exchange: Exchange {
+                apart: 3_596,
+                ahead_differs: 40,
+                passes_differ: 16,
+                clashing: 216,
+                clash_differs: 110,
+                full: 0,
+            },
+            silence: Silence { tables: 984, rounds: 5_012, most: 11 },
+            full: Full { words: 642_816, entries: 3_680, exits: 1_536, full: 800 },
+        },
     },
     over: |beside| walk(&[zeros::<2>()], beside),
 };
@@ -44,8 +56,18 @@ pub const EVERY_OF_2: Walk = Walk {
         tables: 61_704,
         accepted: 371_668,
         refused: 1_849_676,
-        exchange: Exchange { apart: 558_292, ahead_differs: 8_456, clashing: 2_400, clash_differs: 1_202 },
-        silence: Silence { tables: 42_554, rounds: 293_170, most: 11 },
+        visited: Visited {
+            exchange: Exchange {
+                apart: 558_292,
+                ahead_differs: 8_456,
+                passes_differ: 8_192,
+                clashing: 2_400,
+                clash_differs: 1_202,
+                full: 0,
+            },
+            silence: Silence { tables: 42_554, rounds: 293_170, most: 11 },
+            full: Full { words: 35_541_504, entries: 701_920, exits: 11_488, full: 15_520 },
+        },
     },
     over: |beside| walk(&every_fresh::<2>(), beside),
 };
@@ -56,8 +78,18 @@ pub const ZEROS_OF_3: Walk = Walk {
         tables: 3_426_399,
         accepted: 19_453_920,
         refused: 227_246_808,
-        exchange: Exchange { apart: 34_096_971, ahead_differs: 283_104, clashing: 1_960_920, clash_differs: 1_019_472 },
-        silence: Silence { tables: 3_293_451, rounds: 33_802_163, most: 24 },
+        visited: Visited {
+            exchange: Exchange {
+                apart: 34_096_971,
+                ahead_differs: 283_104,
+                passes_differ: 66_816,
+                clashing: 1_960_920,
+                clash_differs: 1_019_472,
+                full: 0,
+            },
+            silence: Silence { tables: 3_293_451, rounds: 33_802_163, most: 24 },
+            full: Full { words: 0, entries: 0, exits: 0, full: 0 },
+        },
     },
     over: |beside| walk(&[zeros::<3>()], beside),
 };

@@ -1,4 +1,4 @@
-//! A table of two or three processes in one number, and a set of such numbers.
+//! A table of two or three processes in one number, passes apart, and a set of such numbers.
 
 use crate::row::{code, Row, LOCATIONS};
 use std::collections::HashSet;
@@ -7,14 +7,15 @@ use std::hash::{BuildHasherDefault, Hasher};
 /// The bits of a row: 3 the location's code, 1 act, 1 bb, 2 level, 3 est, 3 lis, 3 ahead, 2 turn.
 const ROW: u32 = 18;
 
-/// The number of a table. Cells too large for their bits are not let through, since two tables would then have one number.
+/// The number of a table, passes apart. Cells too large for their bits are not let through, since two tables that differ in
+/// more than passes would then have one number.
 pub fn pack<const N: usize>(rows: &[Row; N]) -> u64 {
     let packed = rows.iter().rev().fold(0, |packed, row| packed << ROW | pack_row(row));
-    assert_eq!(unpack(packed), *rows, "a table that does not fit its bits");
+    assert_eq!(unpack(packed), rows.map(Row::without_passes), "a table that does not fit its bits");
     packed
 }
 
-/// The table of a number.
+/// The table of a number, without passes.
 pub fn unpack<const N: usize>(packed: u64) -> [Row; N] {
     std::array::from_fn(|p| unpack_row(packed >> (ROW * p as u32)))
 }
@@ -41,7 +42,7 @@ fn unpack_row(mut packed: u64) -> Row {
     };
     let (turn, ahead, lis, est) = (last(2), last(3), last(3), last(3));
     let (level, bb, act) = (last(2), last(1), last(1));
-    Row { loc: LOCATIONS[usize::from(last(3))], act, bb, level, est, lis, ahead, turn }
+    Row { loc: LOCATIONS[usize::from(last(3))], act, bb, level, est, lis, ahead, turn, ..Row::IDLE }
 }
 
 /// A set of packed tables.

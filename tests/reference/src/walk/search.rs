@@ -1,6 +1,8 @@
-//! Breadth first over the tables that accepted words lead to; each of them is given every candidate word once.
+//! Breadth first over the tables that accepted words lead to, passes apart; each of them, without passes, is given every
+//! candidate word once.
 
 use super::exchange::Exchange;
+use super::full::Full;
 use super::packed::{pack, unpack, Tables};
 use super::silence::Silence;
 use crate::word::{join, CANCEL, STAY};
@@ -12,13 +14,29 @@ pub trait Guide<const N: usize> {
     type Finding;
 
     /// Looks at a table and gives it every word; tells `each` the word and what it led to, None where it was refused.
-    /// Answers what it counted of pairs of words and of rounds.
+    /// Answers what it counted of pairs of words, of rounds and of words to tables with passes.
     fn visit(
         &self,
         rows: &[Row; N],
         words: &[u32],
         each: impl FnMut(u32, Option<[Row; N]>),
-    ) -> Result<(Exchange, Silence), Self::Finding>;
+    ) -> Result<Visited, Self::Finding>;
+}
+
+/// What is counted at one table, or at all tables of a walk, beside its words.
+#[derive(Clone, Copy, Debug, Default, PartialEq, Eq)]
+pub struct Visited {
+    pub exchange: Exchange,
+    pub silence: Silence,
+    pub full: Full,
+}
+
+impl std::ops::AddAssign for Visited {
+    fn add_assign(&mut self, more: Visited) {
+        self.exchange += more.exchange;
+        self.silence += more.silence;
+        self.full += more.full;
+    }
 }
 
 /// What a walk counted. Accepted and refused words are pairs of a table and a word.
@@ -27,11 +45,11 @@ pub struct Figures {
     pub tables: u64,
     pub accepted: u64,
     pub refused: u64,
-    pub exchange: Exchange,
-    pub silence: Silence,
+    pub visited: Visited,
 }
 
-/// What was found at a table, and a shortest list of words that leads to it, with the rows where the list begins.
+/// What was found at a table, and a shortest list of words that leads to it, passes apart, with the rows where the list
+/// begins.
 #[derive(Clone, Debug)]
 pub struct Found<F> {
     pub finding: F,
@@ -61,10 +79,7 @@ pub fn walk<const N: usize, G: Guide<N>>(starts: &[[Row; N]], guide: &G) -> Resu
             None => figures.refused += 1,
         });
         match visited {
-            Ok((pairs, rounds)) => {
-                figures.exchange += pairs;
-                figures.silence += rounds;
-            }
+            Ok(visited) => figures.visited += visited,
             Err(finding) => {
                 let (start, words) = met.way_to(place);
                 return Err(Found { finding, start: unpack::<N>(start).to_vec(), words });

@@ -28,8 +28,11 @@ fn act_stays_as_it_was_left() {
 #[test]
 fn everything_but_the_location_stays() {
     on_both(|engine| {
-        let other = Row { loc: 24, act: 1, bb: 1, level: 1, est: 0b01, lis: 0b11, ahead: 0b11, turn: 0 };
-        let own = Row { loc: 20, act: 1, bb: 1, level: 1, est: 0b11, lis: 0b10, ahead: 0b11, turn: 1 };
+        let mut other = Row { loc: 24, act: 1, bb: 1, level: 1, est: 0b01, lis: 0b11, ahead: 0b11, ..Row::IDLE };
+        other.passes[1] = 7;
+        let mut own = Row { loc: 20, act: 1, bb: 1, level: 1, est: 0b11, lis: 0b10, ahead: 0b11, turn: 1, ..Row::IDLE };
+        // process 1 could not enter
+        own.passes[0] = 65_535;
         let mut rows = vec![other, own];
         assert_eq!(engine.step(&mut rows, 0x60010000), StepAnswer::default());
         assert_eq!(rows, [other, Row { loc: 40, ..own }]);

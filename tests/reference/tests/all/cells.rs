@@ -140,6 +140,7 @@ fn a_refused_word_uses_none() {
         (at(20), FLICKER + 0x20000, 9),
         (at(20), FLICKER + 0x100, 8),
         (Row { act: 2, ..at(20) }, FLICKER, 7),
+        (Row { passes: [0, 1, 0, 0, 0, 0, 0, 0, 0, 0, 0, 0, 0, 0, 0, 0], ..at(20) }, FLICKER, 7),
     ];
     on_both(|engine| {
         for (own, word, refusal) in refused {
@@ -147,6 +148,11 @@ fn a_refused_word_uses_none() {
             assert_eq!(answer, StepAnswer { refusal, cell: Cell::NONE }, "{own:?} {word:08X}");
         }
         assert_eq!(engine.step(&mut [at(20)], FLICKER), StepAnswer { refusal: 6, cell: Cell::NONE });
+        // entry would write act of 1, had process 0 not been passed so often
+        let mut rows = three(at(20));
+        rows[0] = at(30);
+        rows[1].passes[0] = 65_535;
+        assert_eq!(engine.step(&mut rows, GO | P1), StepAnswer { refusal: 15, cell: Cell::NONE });
     });
 }
 
@@ -214,16 +220,18 @@ fn two_that_push() {
     });
 }
 
-/// Each writes its own act: who enters later has the other ahead, and nothing else differs.
+/// Each writes its own act: who enters later has the other ahead and a pass over it, and nothing else differs.
 #[test]
-fn two_that_enter_agree_but_for_ahead() {
+fn two_that_enter_agree_but_for_ahead_and_passes() {
     on_both(|engine| {
         let rows = [Row { loc: 20, ..Row::IDLE }; 2];
         let [zero_first, one_first] = orders(engine, &rows, (GO, "wa0"), (GO + P1, "wa1"));
         assert_eq!([zero_first[0].ahead, zero_first[1].ahead], [0b00, 0b01]);
         assert_eq!([one_first[0].ahead, one_first[1].ahead], [0b10, 0b00]);
-        let without_ahead = |rows: Vec<Row>| rows.into_iter().map(|row| Row { ahead: 0, ..row }).collect::<Vec<_>>();
-        assert_eq!(without_ahead(zero_first), without_ahead(one_first));
+        assert_eq!([zero_first[0].passes[1], zero_first[1].passes[0]], [0, 1]);
+        assert_eq!([one_first[0].passes[1], one_first[1].passes[0]], [1, 0]);
+        let others = |rows: Vec<Row>| rows.into_iter().map(|row| Row { ahead: 0, ..row.without_passes() });
+        assert!(others(zero_first).eq(others(one_first)));
     });
 }
 

@@ -1,4 +1,5 @@
-//! Two words of different processes in both orders: at any sound table, and each way in which the check can fail.
+//! Two words of different processes in both orders: at any sound table, each way in which the check can fail, and what it
+//! leaves out.
 
 use reference::compare::{Engine, Naive, Reference};
 use reference::generate::tables::sound_table;
@@ -29,8 +30,9 @@ fn at_random_tables<const N: usize>(engine: &dyn Engine, rounds: u64) {
         let step = |rows: &mut [Row; N], word: u32| engine.step(rows, word);
         all += exchange(&taken(&rows, step), step).expect("no order that matters");
     }
-    let Exchange { apart, ahead_differs, clashing, clash_differs } = all;
+    let Exchange { apart, ahead_differs, passes_differ, clashing, clash_differs, full } = all;
     assert!(ahead_differs > 0 && ahead_differs < apart && clash_differs > 0 && clash_differs < clashing, "{all:?}");
+    assert!(passes_differ > 0 && passes_differ < apart && full > 0, "{all:?}");
 }
 
 #[test]
@@ -84,7 +86,7 @@ fn another_table_after_the_other() {
     let writing = Row { loc: 20, ..Row::IDLE };
     assert!(fails([looking, writing], tells_nothing));
     assert!(!fails([looking, writing], right));
-    // ahead sets alone are not looked at
+    // ahead sets and passes are not looked at
     assert!(!fails([writing, writing], right));
 }
 
@@ -101,7 +103,7 @@ fn marks(cell: fn(&mut Row) -> &mut u16) -> impl Fn(&mut [Row; 2], u32) -> StepA
 }
 
 #[test]
-fn every_cell_but_ahead_is_compared() {
+fn every_cell_but_ahead_and_passes_is_compared() {
     let cells: [fn(&mut Row) -> &mut u16; 7] = [
         |row| &mut row.loc,
         |row| &mut row.act,
@@ -115,4 +117,20 @@ fn every_cell_but_ahead_is_compared() {
         assert!(fails([Row::IDLE; 2], marks(cell)), "cell {place}");
     }
     assert!(!fails([Row::IDLE; 2], marks(|row| &mut row.ahead)));
+    assert!(!fails([Row::IDLE; 2], marks(|row| &mut row.passes[15])));
+}
+
+/// Of two at 20, one cannot enter after the other: the pair is left out. Another refusal is not left out.
+#[test]
+fn a_pair_that_meets_15_is_left_out() {
+    let mut rows = [Row { loc: 20, ..Row::IDLE }; 2];
+    rows[1].passes[0] = 65_535;
+    let counts = exchange(&taken(&rows, right), right).expect("no order that matters");
+    // each of the two takes four words, and of their sixteen pairs the two GOs are left out
+    assert_eq!((counts.full, counts.apart, counts.clashing), (1, 15, 0));
+    let refuses_with_10 = |rows: &mut [Row; 2], word: u32| match right(rows, word) {
+        StepAnswer { refusal: 15, cell } => StepAnswer { refusal: 10, cell },
+        answer => answer,
+    };
+    assert!(fails(rows, refuses_with_10));
 }

@@ -1,6 +1,6 @@
 //! Examples for what C lends and gets beside the runs: fresh tables, images, event words and the printed text.
 
-use crate::manual::{fresh_rows, on_both, FRESH, OLD, SEVEN};
+use crate::manual::{fresh_rows, on_both, FRESH, OLD, SEVEN, SHORT_FRESH};
 use reference::compare::Engine;
 use reference::generate::inputs::{image_of, to_bytes};
 use reference::{PartsAnswer, Reading, Row, WordAnswer};
@@ -21,19 +21,20 @@ fn fresh_tables() {
 #[test]
 fn the_fresh_image_read_and_written() {
     on_both(|engine| {
-        for lent in [2, 3, 16, 17] {
-            let mut rows = vec![OLD; lent];
-            assert_eq!(engine.read_image(&FRESH, &mut rows), Reading { refusal: 0, place: 0, size: 2 });
-            assert_eq!(rows, [fresh_rows(engine, 2), vec![OLD; lent - 2]].concat());
+        for fresh in [FRESH.as_slice(), &SHORT_FRESH] {
+            for lent in [2, 3, 16, 17] {
+                let mut rows = vec![OLD; lent];
+                assert_eq!(engine.read_image(fresh, &mut rows), Reading { refusal: 0, place: 0, size: 2 });
+                assert_eq!(rows, [fresh_rows(engine, 2), vec![OLD; lent - 2]].concat());
+            }
+            let mut rows = [OLD];
+            assert_eq!(engine.read_image(fresh, &mut rows), Reading { refusal: 13, place: 0, size: 0 });
+            assert_eq!(rows, [OLD]);
         }
-        let mut rows = [OLD];
-        assert_eq!(engine.read_image(&FRESH, &mut rows), Reading { refusal: 13, place: 0, size: 0 });
-        assert_eq!(rows, [OLD]);
-
-        let (mut words, mut few) = ([0xEE; 12], [0xEE; 9]);
+        let (mut words, mut few) = ([0xEE; 16], [0xEE; 13]);
         assert_eq!(engine.write_image(&fresh_rows(engine, 2), &mut words), 0);
         assert_eq!(words, [FRESH.as_slice(), &[0xEE, 0xEE]].concat()[..]);
-        assert_eq!((engine.write_image(&fresh_rows(engine, 2), &mut few), few), (13, [0xEE; 9]));
+        assert_eq!((engine.write_image(&fresh_rows(engine, 2), &mut few), few), (13, [0xEE; 13]));
         assert_eq!((engine.write_image(&[OLD, OLD], &mut words[..0]), engine.write_image(&[OLD], &mut [])), (7, 6));
     });
 }

@@ -9,6 +9,7 @@ mod exclusion;
 mod lent;
 mod manual;
 mod models;
+mod passes;
 mod printed;
 mod rounds;
 mod walk;

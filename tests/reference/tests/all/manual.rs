@@ -5,14 +5,19 @@ use reference::generate::inputs::{image_of, to_bytes};
 use reference::naive::Fault;
 use reference::{Ran, Reading, Row, Tally};
 
-pub const FRESH: [u32; 10] = [
+pub const FRESH: [u32; 14] = [
+    0x81000002, 0x90000000, 0xA0000000, 0xB0000000, 0xC0000000, 0x90010000, 0xA0010000, 0xB0010000, 0xC0010000,
+    0xD0010000, 0xE0000000, 0xE0010000, 0xE1000000, 0xE1010000,
+];
+/// The same in the short form.
+pub const SHORT_FRESH: [u32; 10] = [
     0x80000002, 0x90000000, 0xA0000000, 0xB0000000, 0xC0000000, 0x90010000, 0xA0010000, 0xB0010000, 0xC0010000,
     0xD0010000,
 ];
 pub const SEVEN: [u32; 7] = [0x20000000, 0x40000000, 0x40000000, 0x50000001, 0x40000000, 0x40000000, 0x40000000];
 
 /// What lent rows hold before a call.
-pub const OLD: Row = Row { loc: 9, act: 9, bb: 9, level: 9, est: 9, lis: 9, ahead: 9, turn: 9 };
+pub const OLD: Row = Row { loc: 9, act: 9, bb: 9, level: 9, est: 9, lis: 9, ahead: 9, turn: 9, passes: [9; 16] };
 
 /// Tries an example on each model.
 pub fn on_both(example: impl Fn(&dyn Engine)) {
@@ -53,10 +58,12 @@ fn the_seven_words() {
         let mut after = FRESH;
         after[1] = 0x90006200;
         assert_eq!(image_of(&rows), after);
-        let mut image = vec![0xEE; 41];
-        let input = to_bytes(&[FRESH.as_slice(), &SEVEN].concat());
-        assert_eq!(engine.call(&input, &mut image), 7 * 256);
-        assert_eq!(image, [to_bytes(&after), vec![0xEE]].concat());
+        for fresh in [FRESH.as_slice(), &SHORT_FRESH] {
+            let mut image = vec![0xEE; 57];
+            let input = to_bytes(&[fresh, &SEVEN].concat());
+            assert_eq!(engine.call(&input, &mut image), 7 * 256);
+            assert_eq!(image, [to_bytes(&after), vec![0xEE]].concat());
+        }
     });
 }
 
@@ -99,7 +106,7 @@ fn look_and_go_at_22() {
 }
 
 /// An image that is refused at a place, whatever number of rows is lent.
-fn image_refused(engine: &dyn Engine, image: &[u32], place: u16, refusal: u16) {
+pub fn image_refused(engine: &dyn Engine, image: &[u32], place: u16, refusal: u16) {
     for lent in [0, 1, 2, 16] {
         let mut rows = vec![OLD; lent];
         assert_eq!(engine.read_image(image, &mut rows), Reading { refusal, place, size: 0 });
@@ -110,17 +117,19 @@ fn image_refused(engine: &dyn Engine, image: &[u32], place: u16, refusal: u16) {
 #[test]
 fn refused_images() {
     on_both(|engine| {
-        let changed = |place: usize, word: u32| {
-            let mut image = FRESH;
-            image[place] = word;
-            image
-        };
-        image_refused(engine, &FRESH[..9], 9, 2);
-        image_refused(engine, &changed(0, 0x80000001), 0, 1);
-        image_refused(engine, &changed(0, 0x80000011), 0, 1);
-        image_refused(engine, &[0x80000010], 1, 2);
         image_refused(engine, &[], 0, 1);
-        image_refused(engine, &changed(1, 0x90003000), 1, 5);
+        for (fresh, form) in [(FRESH.as_slice(), 0x81000000), (&SHORT_FRESH, 0x80000000)] {
+            let changed = |place: usize, word: u32| {
+                let mut image = fresh.to_vec();
+                image[place] = word;
+                image
+            };
+            image_refused(engine, &fresh[..9], 9, 2);
+            image_refused(engine, &changed(0, form + 1), 0, 1);
+            image_refused(engine, &changed(0, form + 0x11), 0, 1);
+            image_refused(engine, &[form + 0x10], 1, 2);
+            image_refused(engine, &changed(1, 0x90003000), 1, 5);
+        }
     });
 }
 
@@ -157,14 +166,17 @@ fn the_most_words() {
     on_both(|engine| {
         let mut words = vec![0x10000000; 8192];
         assert_eq!(ran(engine, &words), (fresh_rows(engine, 2), Ran { taken: 8192, ..Ran::default() }));
-        let input = to_bytes(&[FRESH.as_slice(), &words].concat());
-        assert_eq!(engine.call(&input, &mut [0; 40]), 8192 * 256);
+        let inputs = |words: &[u32]| [FRESH.as_slice(), &SHORT_FRESH].map(|fresh| to_bytes(&[fresh, words].concat()));
+        for input in inputs(&words) {
+            assert_eq!(engine.call(&input, &mut [0; 56]), 8192 * 256);
+        }
         words.push(0x10000000);
         assert_eq!(ran(engine, &words), (fresh_rows(engine, 2), Ran { refusal: 12, ..Ran::default() }));
-        let input = to_bytes(&[FRESH.as_slice(), &words].concat());
-        assert_eq!(engine.call(&input, &mut [0; 40]), 12);
-        assert_eq!(engine.call(&input, &mut []), 12);
-        assert_eq!(engine.text(&input), b"posts 2\nstop 0 12\n");
+        for input in inputs(&words) {
+            assert_eq!(engine.call(&input, &mut [0; 56]), 12);
+            assert_eq!(engine.call(&input, &mut []), 12);
+            assert_eq!(engine.text(&input), b"posts 2\nstop 0 12\n");
+        }
     });
 }
 
@@ -196,8 +208,11 @@ fn inputs_that_are_refused_at_the_door() {
         assert_eq!(engine.text(&[]), b"image 0 1\n");
         assert_eq!(engine.call(&[], &mut []), 1);
         assert_eq!(engine.text(&[1, 2, 3]), b"input 14\n");
-        assert_eq!(engine.call(&[0; 33_092], &mut []), 14);
-        assert_eq!(engine.call(&[0; 33_088], &mut []), 1);
-        assert_eq!(engine.call(&to_bytes(&FRESH), &mut [0; 39]), 13);
+        assert_eq!(engine.call(&[0; 34_116], &mut []), 14);
+        assert_eq!(engine.call(&[0; 34_112], &mut []), 1);
+        for fresh in [FRESH.as_slice(), &SHORT_FRESH] {
+            assert_eq!(engine.call(&to_bytes(fresh), &mut [0; 55]), 13);
+            assert_eq!(engine.call(&to_bytes(fresh), &mut [0; 56]), 0);
+        }
     });
 }

@@ -1,7 +1,7 @@
 //! The fast engine against the naive model, and the generated cases against the faults that they must see.
 
 use reference::compare::{make_case, shrink, Case, Counts, Kind, Naive, Reference};
-use reference::generate::inputs::{image_of, to_bytes};
+use reference::generate::inputs::{image_of, short_image_of, to_bytes, Input};
 use reference::generate::Random;
 use reference::naive::Fault;
 use reference::{Row, Tally};
@@ -120,6 +120,12 @@ fn a_comparison_without_stops_or_wide_cells_is_blind() {
     assert!(!misses_after(&mut counts, text(&[at_20; 16], 0x300A0000), wide));
 }
 
+/// A row of two processes once these have changed places.
+fn turned_about(mut row: Row) -> Row {
+    row.passes.swap(0, 1);
+    row
+}
+
 /// Each end of rounds must be met, that at 30 for each number of processes, and both refusals.
 #[test]
 fn a_comparison_without_every_end_of_rounds_is_blind() {
@@ -132,6 +138,8 @@ fn a_comparison_without_every_end_of_rounds_is_blind() {
         ("no limit of rounds that is used up", vec![at(20, 0), at(10, 1)]),
         ("no rounds asked for with a process at 30", vec![at(20, 0), at(30, 0)]),
         ("no rounds asked for with nobody at 20 to 24 or 30", vec![at(10, 0), at(40, 0)]),
+        ("no round broken with nobody at 30", entering(0, 1, 65_535)),
+        ("no round broken with a process at 30", entering(0, 1, 65_535).into_iter().rev().map(turned_about).collect()),
         ("Rounds never met refusal 6", vec![at(20, 0)]),
         ("Rounds never met refusal 7", vec![at(20, 0), at(20, 2)]),
     ];
@@ -144,6 +152,93 @@ fn a_comparison_without_every_end_of_rounds_is_blind() {
         later.for_each(|(what, _)| assert!(counts.unseen().iter().any(|unseen| unseen == what), "{what}"));
     }
     assert!(counts.unseen().contains(&"no rounds to 30 with 15 processes".to_string()));
+}
+
+/// Process 0 at 20 and process 1 at 21, with so many passes of one over another.
+fn entering(q: usize, r: usize, count: u16) -> Vec<Row> {
+    let mut rows = vec![Row { loc: 20, ..Row::IDLE }, Row { loc: 21, ..Row::IDLE }];
+    rows[q].passes[r] = count;
+    rows
+}
+
+#[test]
+fn a_comparison_without_full_counts_is_blind() {
+    let mut counts = Counts::default();
+    let rows = || entering(0, 1, 65_535);
+    let bytes = [to_bytes(&image_of(&rows())), to_bytes(&[0x40000000])].concat();
+    let input = Input { bytes: bytes.clone(), lent: 100 };
+    let cases = [
+        Case::Step { rows: rows(), word: 0x40000000 },
+        Case::Run { rows: rows(), words: vec![0x40000000], tally: Tally::default() },
+        Case::Rounds { rows: rows() },
+        Case::Call { input: input.clone(), shift: 0 },
+        Case::Print { input, shift: 0 },
+        Case::Text { bytes },
+    ];
+    for case in cases {
+        let what = format!("{:?} never met refusal 15", case.kind());
+        counts.calls[case.kind() as usize] += 1;
+        assert!(counts.unseen().contains(&what), "{what}");
+        assert!(!misses_after(&mut counts, case, &what), "{what}");
+    }
+    let argument = "no GO at 20 with a full count refused for its argument";
+    for (count, word) in [(65_535, 0x30000002), (65_534, 0x40000001), (65_535, 0x40000000), (65_535, 0x40010001)] {
+        let case = Case::Step { rows: entering(0, 1, count), word };
+        assert!(misses_after(&mut counts, case, argument), "{count} {word:08X}");
+    }
+    assert!(!misses_after(&mut counts, Case::Step { rows: rows(), word: 0x40000001 }, argument));
+}
+
+/// Tables that are unsound for another reason as well do not count.
+#[test]
+fn a_comparison_without_unsound_passes_is_blind() {
+    let mut counts = Counts::default();
+    let own = "no table refused for passes of a process over itself";
+    let past = "no table refused for passes over a process that is not there";
+    let census = |rows: Vec<Row>| Case::Census { rows };
+    let worse = |mut rows: Vec<Row>| {
+        rows[0].act = 2;
+        rows
+    };
+    assert!(misses_after(&mut counts, census(worse(entering(1, 1, 1))), own));
+    assert!(misses_after(&mut counts, census(worse(entering(1, 2, 1))), past));
+    assert!(misses_after(&mut counts, census(entering(1, 1, 1)), past));
+    assert!(!misses_after(&mut counts, census(entering(1, 2, 1)), past));
+    assert!(!misses_after(&mut counts, census(entering(0, 1, 1)), own));
+}
+
+/// Both forms must be met, accepted and with a wrong length, and words of passes with 3 and with 4: by images that are read
+/// and by inputs.
+#[test]
+fn a_comparison_without_both_forms_is_blind() {
+    let (long, short) = (image_of(&entering(0, 1, 7)), short_image_of(&entering(0, 1, 0)));
+    let changed = |place: usize, word: u32| {
+        let mut image = long.clone();
+        image[place] = word;
+        image
+    };
+    let images = [
+        ("of the short form accepted", short.clone()),
+        ("with passes accepted", long.clone()),
+        ("of the short form refused with 2", short[..9].to_vec()),
+        ("with passes refused with 2", long[..13].to_vec()),
+        ("refused with 3 at a word of passes", changed(12, 0xE1100000)),
+        ("refused with 4 at a word of passes", changed(13, 0xE1010001)),
+    ];
+    let read = |words: &[u32]| Case::ReadImage { words: words.to_vec(), rows: vec![Row::IDLE; 2] };
+    let call = |words: &[u32]| Case::Call { input: Input { bytes: to_bytes(words), lent: 56 }, shift: 0 };
+    for (of, case) in [("image", &read as &dyn Fn(&[u32]) -> Case), ("input", &call)] {
+        let mut counts = Counts::default();
+        // 3 and 4 at words that are not of passes
+        for other in [changed(9, 0), changed(9, 0xD0010002)] {
+            assert!(images.iter().all(|(what, _)| misses_after(&mut counts, case(&other), &format!("no {of} {what}"))));
+        }
+        for (place, (what, words)) in images.iter().enumerate() {
+            assert!(!misses_after(&mut counts, case(words), &format!("no {of} {what}")), "{of} {what}");
+            let missed = |what: &str| counts.unseen().contains(&format!("no {of} {what}"));
+            assert!(images[place + 1..].iter().all(|(what, _)| missed(what)), "{of} {what}");
+        }
+    }
 }
 
 #[test]
@@ -215,6 +310,39 @@ fn step_run_and_text_see_wrong_cells() {
     assert!(Fault::of_step_cells().all(|fault| seen_by(Kind::Call, fault, 200).is_none()));
 }
 
+/// Passes that are counted or cleared wrongly are seen by the step, by the run, by the call from C and, but for those of
+/// words that no round has, by rounds.
+#[test]
+fn step_run_call_and_rounds_see_wrong_passes() {
+    let at_entry = [
+        Fault::PassesOfTheOther,
+        Fault::PassesOverThoseAt20,
+        Fault::PassesOverItself,
+        Fault::PassesCountedAtCome,
+        Fault::PassesCountedAtGo24,
+        Fault::FullAt65534,
+        Fault::CountsWrap,
+        Fault::CountsStayFull,
+        Fault::FullOverAnyone,
+        Fault::FullCountsTheOthers,
+    ];
+    let at_exit = [
+        Fault::PassesClearedAtGo40,
+        Fault::PassesOfLeaverCleared,
+        Fault::PassesOfLeaverClearedToo,
+        Fault::PassesClearedOfCompeting,
+        Fault::PassesNotCleared,
+    ];
+    for (fault, kind) in at_entry.into_iter().flat_map(|fault| MOVE.map(|kind| (fault, kind))) {
+        assert!(seen_by(kind, fault, 20_000).is_some(), "{fault:?} is not seen by {kind:?}");
+    }
+    for (fault, kind) in at_exit.into_iter().flat_map(|fault| MOVE[..3].iter().map(move |&kind| (fault, kind))) {
+        assert!(seen_by(kind, fault, 20_000).is_some(), "{fault:?} is not seen by {kind:?}");
+    }
+}
+
+const MOVE: [Kind; 4] = [Kind::Step, Kind::Run, Kind::Call, Kind::Rounds];
+
 const TELL_CELLS: [Kind; 4] = [Kind::Step, Kind::Run, Kind::Print, Kind::Text];
 
 /// The first case of a kind on which a fault shows, among so many.
@@ -248,7 +376,22 @@ fn a_difference_in_what_c_lends_and_gets_is_made_small() {
     let text = matches!(&small, Case::Print { input, .. } if input.bytes.len() == 40 && input.lent == 16);
     assert!(text, "not two processes, no words and one byte more: {small}");
     let small = made_small(Kind::Rounds, Fault::PendingFrom21);
-    assert_eq!(small, Case::Rounds { rows: vec![Row { loc: 20, ..Row::IDLE }, Row::IDLE] });
+    assert_eq!(small, Case::Rounds { rows: vec![Row::IDLE, Row { loc: 20, ..Row::IDLE }] });
     let small = made_small(Kind::PutTogether, Fault::TogetherKeepsWordOnRefusal);
     assert_eq!(small, Case::PutTogether { kind: 0, process: 0, argument: 1 });
+}
+
+#[test]
+fn a_difference_in_passes_is_made_small() {
+    let small = made_small(Kind::Step, Fault::FullCountsTheOthers);
+    let Case::Step { rows, word } = &small else { panic!("{small}") };
+    let full = rows.iter().filter(|row| row.passes.iter().filter(|&&count| count != 0).eq([&65_535])).count();
+    assert_eq!((rows.len(), full, word >> 28), (3, 1, 4), "not a full count beside one that is not: {small}");
+    let small = made_small(Kind::Call, Fault::ShortFormRefused);
+    let fresh = vec![Row::IDLE; 2];
+    assert!(matches!(&small, Case::Call { input, .. } if input.bytes == to_bytes(&short_image_of(&fresh))), "{small}");
+    let small = made_small(Kind::ReadImage, Fault::PassWordsTurnedAbout);
+    let Case::ReadImage { words, .. } = &small else { panic!("{small}") };
+    // up to the passes of 0 over 1, with which they disagree
+    assert_eq!((words.len(), &words[..12]), (14, &image_of(&fresh)[..12]), "{small}");
 }

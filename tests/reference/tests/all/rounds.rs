@@ -63,6 +63,11 @@ fn a_lone_process() {
     });
 }
 
+/// One pass over each of some processes.
+fn over(some: [usize; 3]) -> [u16; 16] {
+    std::array::from_fn(|r| u16::from(some.contains(&r)))
+}
+
 /// Two at 21 with level 0 arrive in one round, and the others, before and after them, have their words in it.
 #[test]
 fn a_round_is_done_to_its_end() {
@@ -81,8 +86,8 @@ fn a_round_is_done_to_its_end() {
             // looks at 3, the lowest in lis, whose act is 1
             Row { lis: 0b10000, ..rows[2] },
             Row { loc: 30, ..waiting },
-            // enters behind all that compete
-            Row { loc: 21, act: 1, level: 4, est: 0b01111, ahead: 0b01110, ..Row::IDLE },
+            // enters behind all that compete, and has passes over them
+            Row { loc: 21, act: 1, level: 4, est: 0b01111, ahead: 0b01110, passes: over([1, 2, 3]), ..Row::IDLE },
         ];
         let answer = Rounded { refusal: 0, rounds: 1, occupied: 1 };
         assert_eq!(rounded(engine, &rows), (after.to_vec(), answer));

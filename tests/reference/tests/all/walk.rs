@@ -2,7 +2,7 @@
 
 use reference::compare::{Answer, Case, Naive, Reference};
 use reference::naive::{self, Fault};
-use reference::walk::{control, most_needed, walk, Beside, Exchange, Figures, Finding, Found, Silence};
+use reference::walk::{control, most_needed, walk, Beside, Exchange, Figures, Finding, Found, Full, Visited, Walk};
 use reference::walk::{EVERY_OF_2, SHORTEST, TOO_LONG, UNTOLD, ZEROS_OF_2, ZEROS_OF_3};
 use reference::{Ran, Rounded, Row, Tally};
 
@@ -56,6 +56,30 @@ const SEEN: [Fault; 45] = [
     Fault::RoundsOnACopy,
 ];
 
+/// Seen by a walk of two processes from zeros, where tables have passes that are few.
+const SEEN_WITH_PASSES: [Fault; 10] = [
+    Fault::PassesOfTheOther,
+    Fault::PassesCountedAtCome,
+    Fault::PassesCountedAtGo24,
+    Fault::PassesOverThoseAt20,
+    Fault::PassesOverItself,
+    Fault::PassesClearedAtGo40,
+    Fault::PassesOfLeaverCleared,
+    Fault::PassesOfLeaverClearedToo,
+    Fault::PassesClearedOfCompeting,
+    Fault::PassesNotCleared,
+];
+
+/// And where they have passes that are full.
+const SEEN_WITH_FULL: [Fault; 6] = [
+    Fault::FullBeforeArgument,
+    Fault::FullBeforeAllowed,
+    Fault::FullAt65534,
+    Fault::CountsWrap,
+    Fault::CountsStayFull,
+    Fault::FullOverAnyone,
+];
+
 /// Seen by a walk of three processes only. Of two, the level is at most 1 and est has at most the other one in it.
 const SEEN_OF_3: [Fault; 4] = [
     // at 24, and at 21 with level 1, est is all others
@@ -67,7 +91,7 @@ const SEEN_OF_3: [Fault; 4] = [
 ];
 
 /// Not seen by a walk of two, as is tried, nor by one of three, for the reasons given.
-const UNSEEN: [Fault; 63] = [
+const UNSEEN: [Fault; 82] = [
     // no table that is reached has a process in its own ahead
     Fault::OwnAheadKeptAtGo30,
     // nor a process at 20 in an ahead set
@@ -90,13 +114,22 @@ const UNSEEN: [Fault; 63] = [
     Fault::FirstTurnUnchecked,
     Fault::RowCountAfterRows,
     Fault::RoundsClearRefusedRows,
+    Fault::OwnPassesInRows,
+    Fault::PassesPastNInRows,
     // of two, lis has one member at most at 22; rounds of three are compared with the reference
     Fault::LooksAtHighest,
+    // rounds are done without passes
+    Fault::RoundsGoOnPast15,
+    Fault::BrokenRoundCounted,
+    Fault::BrokenRoundUndone,
+    Fault::BrokenRoundNeverOccupied,
     // rounds lead to 30 long before the limit, and one process alone
     Fault::LimitWithNAnd2,
     Fault::LimitOneLess,
     Fault::LimitOneMore,
     Fault::OccupiedIsANumber,
+    // of two, there is nobody else over whom a refused word could count
+    Fault::FullCountsTheOthers,
     // the call on bytes is not made
     Fault::NoImageOnStop,
     Fault::LentBeforeWordCount,
@@ -104,6 +137,8 @@ const UNSEEN: [Fault; 63] = [
     Fault::ImageFillsAllLent,
     Fault::ByteLimitIgnored,
     Fault::OddBytesDropped,
+    Fault::ByteLimitWithoutPasses,
+    Fault::CutWithoutPasses,
     // no image is read or written
     Fault::LengthAfterWords,
     Fault::RangeBeforeForm,
@@ -117,9 +152,19 @@ const UNSEEN: [Fault; 63] = [
     Fault::ReadSizeWith13,
     Fault::WritesPartWhenShort,
     Fault::WritesOneWordMore,
+    Fault::OwnPassesInImage,
+    Fault::OwnPassesAreForm,
+    Fault::SpareBitsOfPassesIgnored,
+    Fault::PassWordsTurnedAbout,
+    Fault::PassWordsByColumn,
+    Fault::ShortFormWritten,
+    Fault::ShortFormRefused,
+    Fault::ShortFormKeepsPasses,
+    Fault::LentWithoutPasses,
     // no engine is asked for a fresh table, to take a word apart or to put one together, or to print
     Fault::FreshOf17Rows,
     Fault::FreshKeepsWhatMayBeAnything,
+    Fault::FreshKeepsPasses,
     Fault::ApartKeepsPartsOnRefusal,
     Fault::TogetherKeepsWordOnRefusal,
     Fault::TogetherCutsTheArgument,
@@ -145,7 +190,7 @@ const UNSEEN: [Fault; 63] = [
 
 #[test]
 fn two_processes_from_zeros_and_from_every_fresh_table() {
-    let beside = Beside { engine: &Reference, fault: Fault::None };
+    let beside = Beside { engine: &Reference, fault: Fault::None, passes: true };
     for walk in [ZEROS_OF_2, EVERY_OF_2] {
         assert_eq!((walk.over)(&beside).expect("no difference"), walk.expected, "{}", walk.name);
     }
@@ -155,12 +200,13 @@ fn two_processes_from_zeros_and_from_every_fresh_table() {
 fn every_fault_is_in_one_list() {
     let cells: Vec<Fault> = Fault::of_step_cells().collect();
     for fault in Fault::ALL {
-        let lists = [&SEEN[..], &cells, &SEEN_OF_3, &UNSEEN].iter().filter(|list| list.contains(&fault)).count();
+        let lists = [&SEEN[..], &cells, &SEEN_WITH_PASSES, &SEEN_WITH_FULL, &SEEN_OF_3, &UNSEEN];
+        let lists = lists.iter().filter(|list| list.contains(&fault)).count();
         assert_eq!(lists, 1, "{fault:?}");
     }
 }
 
-/// The reference and the model with the fault differ where the words lead to, on that very case.
+/// The reference and the model with the fault differ where the words lead to, passes apart, on that very case.
 fn differs(found: Found<Finding>, fault: Fault) {
     let Finding::Difference(case) = found.finding else { panic!("{fault:?}: {found:?}") };
     assert_ne!(case.answer(&Reference), case.answer(&Naive(fault)), "{fault:?}");
@@ -169,21 +215,41 @@ fn differs(found: Found<Finding>, fault: Fault) {
     };
     let mut led_to = found.start;
     let ran = reference::run(&mut led_to, &found.words, &mut Tally::default());
-    assert_eq!((ran.refusal, led_to), (0, rows), "{fault:?}");
+    let apart = |rows: Vec<Row>| rows.into_iter().map(Row::without_passes).collect::<Vec<_>>();
+    assert_eq!((ran.refusal, apart(led_to)), (0, apart(rows)), "{fault:?}");
 }
 
 #[test]
 fn faults_that_two_processes_show() {
     for fault in SEEN.into_iter().chain(Fault::of_step_cells()) {
-        let found = (EVERY_OF_2.over)(&Beside { engine: &Reference, fault });
+        let found = (EVERY_OF_2.over)(&Beside { engine: &Reference, fault, passes: false });
         differs(found.expect_err(&format!("{fault:?} is seen")), fault);
     }
+}
+
+/// Those of full counts are not seen where no table is given such.
+#[test]
+fn faults_that_passes_show() {
+    for fault in SEEN_WITH_PASSES.into_iter().chain(SEEN_WITH_FULL) {
+        let found = (ZEROS_OF_2.over)(&Beside { engine: &Reference, fault, passes: true });
+        differs(found.expect_err(&format!("{fault:?} is seen")), fault);
+    }
+    for fault in SEEN_WITH_FULL {
+        let figures = (ZEROS_OF_2.over)(&Beside { engine: &Reference, fault, passes: false });
+        assert_eq!(figures.expect("no difference"), without_full(&ZEROS_OF_2), "{fault:?}");
+    }
+}
+
+/// What a walk counts that gives no words with passes.
+fn without_full(walk: &Walk) -> Figures {
+    let Figures { visited, .. } = walk.expected;
+    Figures { visited: Visited { full: Full::default(), ..visited }, ..walk.expected }
 }
 
 #[test]
 fn faults_that_only_three_processes_show() {
     for fault in SEEN_OF_3 {
-        let found = (ZEROS_OF_3.over)(&Beside { engine: &Reference, fault });
+        let found = (ZEROS_OF_3.over)(&Beside { engine: &Reference, fault, passes: true });
         differs(found.expect_err(&format!("{fault:?} is seen")), fault);
     }
 }
@@ -191,8 +257,10 @@ fn faults_that_only_three_processes_show() {
 #[test]
 fn faults_that_two_processes_do_not_show() {
     for fault in SEEN_OF_3.into_iter().chain(UNSEEN) {
-        let figures = (EVERY_OF_2.over)(&Beside { engine: &Reference, fault });
-        assert_eq!(figures.expect("no difference"), EVERY_OF_2.expected, "{fault:?}");
+        let figures = (EVERY_OF_2.over)(&Beside { engine: &Reference, fault, passes: false });
+        assert_eq!(figures.expect("no difference"), without_full(&EVERY_OF_2), "{fault:?}");
+        let figures = (ZEROS_OF_2.over)(&Beside { engine: &Reference, fault, passes: true });
+        assert_eq!(figures.expect("no difference"), ZEROS_OF_2.expected, "{fault:?}");
     }
 }
 
@@ -209,7 +277,7 @@ fn a_fault_on_both_sides_breaks_demand_3() {
         Fault::CancelAlsoAt21,
     ];
     for fault in faults {
-        let found = (ZEROS_OF_2.over)(&Beside { engine: &Naive(fault), fault });
+        let found = (ZEROS_OF_2.over)(&Beside { engine: &Naive(fault), fault, passes: true });
         let broken = matches!(&found, Err(Found { finding: Finding::Demand3(_), .. }));
         assert!(broken, "{fault:?}: {found:?}");
     }
@@ -219,7 +287,7 @@ fn a_fault_on_both_sides_breaks_demand_3() {
 #[test]
 fn an_unsound_table_breaks_demand_3() {
     let unsound = [Row { turn: 1, ..Row::IDLE }, Row::IDLE];
-    let found = walk(&[unsound], &Beside { engine: &Reference, fault: Fault::None });
+    let found = walk(&[unsound], &Beside { engine: &Reference, fault: Fault::None, passes: true });
     assert!(matches!(&found, Err(Found { finding: Finding::Demand3(_), .. })), "{found:?}");
 }
 
@@ -242,35 +310,38 @@ fn a_fault_on_both_sides_breaks_the_exchange() {
         Fault::FlickerUpToN,
     ];
     for fault in faults.into_iter().chain(UNTOLD) {
-        let found = (ZEROS_OF_2.over)(&Beside { engine: &Naive(fault), fault }).expect_err("an order that matters");
+        let found = (ZEROS_OF_2.over)(&Beside { engine: &Naive(fault), fault, passes: true })
+            .expect_err("an order that matters");
         let Finding::Exchange(cases) = &found.finding else { panic!("{fault:?}: {found:?}") };
         let [one, other] = cases.each_ref().map(|case| led_to(case, fault));
         assert_ne!(one, other, "{fault:?}");
     }
 }
 
-/// The refusal of a step, and the rows that it leads to, ahead sets apart.
+/// The refusal of a step, and the rows that it leads to, ahead sets and passes apart.
 fn led_to(case: &Case, fault: Fault) -> (u16, Vec<Row>) {
     let Answer::Step { stepped, rows } = case.answer(&Naive(fault)) else { panic!("{case}") };
-    (stepped.refusal, rows.inside.iter().map(|&row| Row { ahead: 0, ..row }).collect())
+    (stepped.refusal, rows.inside.iter().map(|&row| Row { ahead: 0, ..row.without_passes() }).collect())
 }
 
 /// Where a cell is told that was not used, fewer words can be exchanged, and none wrongly.
 #[test]
 fn cells_too_many_leave_fewer_pairs() {
     for fault in [Fault::Go23FirstCaseReads, Fault::Go23To24Reads, Fault::CancelWritesAct] {
-        let figures = (ZEROS_OF_2.over)(&Beside { engine: &Naive(fault), fault }).expect("no difference");
-        assert!(figures.exchange.apart < ZEROS_OF_2.expected.exchange.apart, "{fault:?}: {figures:?}");
+        let figures = (ZEROS_OF_2.over)(&Beside { engine: &Naive(fault), fault, passes: true }).expect("no difference");
+        assert!(figures.visited.exchange.apart < ZEROS_OF_2.expected.visited.exchange.apart, "{fault:?}: {figures:?}");
     }
 }
 
-/// The walks of two and of three processes meet what the exchange is about: orders that show in ahead sets alone, and
-/// clashes with and without another table.
+/// The walks of two and of three processes meet what the exchange is about: orders that show in ahead sets, or in passes
+/// too, and clashes with and without another table. No count is full.
 #[test]
 fn pairs_of_every_sort_are_met() {
     for walk in [ZEROS_OF_2, EVERY_OF_2, ZEROS_OF_3] {
-        let Exchange { apart, ahead_differs, clashing, clash_differs } = walk.expected.exchange;
+        let Exchange { apart, ahead_differs, passes_differ, clashing, clash_differs, full } =
+            walk.expected.visited.exchange;
         assert!(0 < ahead_differs && ahead_differs < apart, "{}", walk.name);
+        assert!(0 < passes_differ && passes_differ < apart && full == 0, "{}", walk.name);
         assert!(0 < clash_differs && clash_differs < clashing, "{}", walk.name);
     }
 }
@@ -294,24 +365,39 @@ fn a_fault_on_both_sides_breaks_the_bound() {
     ];
     assert!(TOO_LONG.iter().all(|control| faults.iter().any(|(fault, ..)| fault == control)));
     for (fault, rounds, occupied) in faults {
-        let found = (ZEROS_OF_2.over)(&Beside { engine: &Naive(fault), fault }).expect_err("rounds that are wrong");
+        let found = (ZEROS_OF_2.over)(&Beside { engine: &Naive(fault), fault, passes: true })
+            .expect_err("rounds that are wrong");
         let Finding::Silence(case) = &found.finding else { panic!("{fault:?}: {found:?}") };
         let Answer::Rounds { rounded, .. } = case.answer(&Naive(fault)) else { panic!("{case}") };
         assert_eq!(rounded, Rounded { refusal: 0, rounds, occupied }, "{fault:?}");
     }
 }
 
+/// Words with passes: every candidate with each of the sixteen settings, at every table; of the entries over a process
+/// that competes one in four has a full count.
+#[test]
+fn passes_few_and_full_are_met() {
+    for walk in [ZEROS_OF_2, EVERY_OF_2] {
+        let Full { words, entries, exits, full } = walk.expected.visited.full;
+        assert_eq!(words, 16 * (walk.expected.accepted + walk.expected.refused), "{}", walk.name);
+        assert!(
+            0 < full && full < entries && 0 < exits && (entries + full) % 16 == 0 && exits % 16 == 0 && full % 4 == 0
+        );
+    }
+    assert_eq!(ZEROS_OF_3.expected.visited.full, Full::default());
+}
+
 /// The most rounds that a walk must meet are as many as its processes can need; that it meets them is its own check.
 #[test]
 fn the_bound_is_met() {
     for (walk, n) in [(ZEROS_OF_2, 2), (EVERY_OF_2, 2), (ZEROS_OF_3, 3)] {
-        assert_eq!(usize::from(walk.expected.silence.most), most_needed(n), "{}", walk.name);
+        assert_eq!(usize::from(walk.expected.visited.silence.most), most_needed(n), "{}", walk.name);
     }
 }
 
 #[test]
 fn est_kept_at_go_24_lets_two_of_three_be_at_30() {
-    let words_alone = Figures { exchange: Exchange::default(), silence: Silence::default(), ..ZEROS_OF_2.expected };
+    let words_alone = Figures { visited: Visited::default(), ..ZEROS_OF_2.expected };
     assert_eq!(control::<2>().expect("never two at 30"), words_alone);
 
     let Found { start, words, .. } = control::<3>().expect_err("two at 30");

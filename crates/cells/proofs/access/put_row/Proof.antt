@@ -4,7 +4,7 @@ use mathlib.Core.Path.{ap, _∙_}
 use mathlib.Core.List.{List}
 use lib.ListN.{set}
 use Rattle.cells.specs.View.{cellsOf, rowsOf}
-use Rattle.cells.proofs.ViewLaws.{rows-set}
+use Rattle.cells.proofs.ViewLaws.{rows-set, row-cells}
 use borrow.Author.Needs.{needs}
 use Rattle.cells.proofs.access.put_row.Statement.{statement}
 use Rattle.cells.proofs.access.put_row.Tie as tie
@@ -25,7 +25,8 @@ returns : tie.Need-returns
 returns c =
     let a = c .before .args in
     let put = ap (λ (v : List ℕ). rowsOf (set (a .cells .now) (a .p) v)) (c .cells-of .ensures) in
-    record { rows-are = put ∙ rows-set (a .cells .now) (a .p) (cellsOf (a .r)); size-is = search needs }
+    let same = ap (set (rowsOf (a .cells .now)) (a .p)) (row-cells (a .r) (search needs)) in
+    record { rows-are = put ∙ rows-set (a .cells .now) (a .p) (cellsOf (a .r)) ∙ same; size-is = search needs }
 
 pub put-row-spec : {M : Type 1} → statement M
 put-row-spec =

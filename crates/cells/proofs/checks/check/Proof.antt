@@ -3,10 +3,11 @@ use Prim.Native.Nat.{ℕ, _≤_, _-_}
 use mathlib.Core.Path.{_≡_, refl, ap, sym, subst, _∙_}
 use mathlib.Core.Bool.{true, false}
 use native.Mathlib.Omega.{arith}
-use lib.ListN.{length}
+use lib.ListN.{length, getD}
 use borrow.Author.Needs.{needs}
 use borrow.Author.Tests.{not-true, not-false}
 use Rattle.machine.specs.Tables.{row, soundRow, soundFrom}
+use Rattle.machine.specs.declared.Row.{Row}
 use Rattle.rows.specs.Bounds.{Full}
 use Rattle.cells.specs.View.{rowsOf}
 use Rattle.cells.proofs.ViewLaws.{rows-length}
@@ -43,6 +44,12 @@ full-set-requires c κs = search needs
 loop-holds : tie.Need-loop-holds Inv-loop μ-loop
 loop-holds c = (search needs, search needs, search needs, c .full-set .ensures, refl)
 
+cast-pass-at : tie.Need-cast-pass-at Inv-loop μ-loop
+cast-pass-at c = search needs
+
+pass-at-requires : tie.Need-pass-at-requires Inv-loop μ-loop
+pass-at-requires c κs = search needs
+
 cast-sound-row : tie.Need-cast-sound-row Inv-loop μ-loop
 cast-sound-row c = search needs
 
@@ -53,22 +60,26 @@ row-at-requires : tie.Need-row-at-requires Inv-loop μ-loop
 row-at-requires c κs = search needs
 
 sound-row-requires : tie.Need-sound-row-requires Inv-loop μ-loop
-sound-row-requires c κs = c .before .before .loop .inv .3
+sound-row-requires c κs = (
+  c .before .before .before .loop .inv .3,
+  c .before .pass-at .ensures
+      ∙ sym (ap (λ (r : Row). getD (r .passes) (c .before .before .before .loop .q) 0) (c .row-at .ensures)),
+)
 
 -- what the code has found out of row q, in the words of the definition
 row-is : (c : tie.After-sound-row Inv-loop μ-loop)
-    → let l = c .before .before .before in
+    → let l = c .before .before .before .before in
     let x = l .before .before .before .before .args .cells .now in
     c .sound-row .result ≡ soundRow (length x) (l .loop .q) (row (rowsOf x) (l .loop .q))
 row-is c =
-    let l = c .before .before .before in
+    let l = c .before .before .before .before in
     let x = l .before .before .before .before .args .cells .now in
     c .sound-row .ensures ∙ ap (soundRow (length x) (l .loop .q)) (c .before .row-at .ensures)
 
 returns-3 : tie.Need-returns-3 Inv-loop μ-loop
 returns-3 c =
-    let l = c .before .before .before .before .loop in
-    let x = c .before .before .before .before .before .before .before .before .args .cells .now in
+    let l = c .before .before .before .before .before .loop in
+    let x = c .before .before .before .before .before .before .before .before .before .args .cells .now in
     let n = rows-length x in
     let r = sym (row-is (c .before)) ∙ not-true _ (c .if3 .taken) in
     let e = sound-not (rowsOf x) (length x) (l .q) (omega arith) (l .inv .4) r in
@@ -83,8 +94,8 @@ loop-less c = search needs
 
 loop-again : tie.Need-loop-again Inv-loop μ-loop
 loop-again c =
-    let l = c .before .before .before .before .loop in
-    let x = c .before .before .before .before .before .before .before .before .args .cells .now in
+    let l = c .before .before .before .before .before .loop in
+    let x = c .before .before .before .before .before .before .before .before .before .args .cells .now in
     let e = sym (row-is (c .before)) ∙ not-false _ (c .if3 .left) in (
       search needs,
       search needs,
@@ -113,6 +124,8 @@ check-spec =
     cast-full-set
     full-set-requires
     loop-holds
+    cast-pass-at
+    pass-at-requires
     cast-sound-row
     cast-sound-row-2
     row-at-requires

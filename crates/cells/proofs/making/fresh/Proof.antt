@@ -57,8 +57,8 @@ loop-again c =
     (omega arith) (sym (getD-replicate n q idle blank (omega arith))) in
     (search needs, v .1, v .2, v .3, search needs, (λ i. set (v .5 i) q idle) ∙ next)
 
-cast-t14 : tie.Need-cast-t14 Inv-loop μ-loop
-cast-t14 c = search needs
+cast-t16 : tie.Need-cast-t16 Inv-loop μ-loop
+cast-t16 c = search needs
 
 returns-2 : tie.Need-returns-2 Inv-loop μ-loop
 returns-2 c =
@@ -82,5 +82,5 @@ fresh-spec =
     add-q
     loop-less
     loop-again
-    cast-t14
+    cast-t16
     returns-2)

@@ -31,14 +31,8 @@ loop-holds c =
     let begins = begun-start t 0 (map (forgets (c .args .p)) t) in
     (search needs, search needs, search needs, search needs, begins)
 
-row-at-requires : tie.Need-row-at-requires Inv-loop μ-loop
-row-at-requires c κs = search needs
-
-forgets-requires : tie.Need-forgets-requires Inv-loop μ-loop
-forgets-requires c κs = search needs
-
-put-row-requires : tie.Need-put-row-requires Inv-loop μ-loop
-put-row-requires c κs = search needs
+forget-in-requires : tie.Need-forget-in-requires Inv-loop μ-loop
+forget-in-requires c κs = search needs
 
 add-q : tie.Need-add-q Inv-loop μ-loop
 add-q c = search needs
@@ -48,10 +42,10 @@ loop-less c = search needs
 
 loop-again : tie.Need-loop-again Inv-loop μ-loop
 loop-again c =
-    let a = c .before .before .before .before .before .before .before .before .args in
+    let a = c .before .before .before .before .before .args in
     let t = rowsOf (a .cells .now) in
     let f = forgets (a .p) in
-    let q = c .before .before .before .before .before .before .before .loop .q in
+    let q = c .before .before .before .before .loop .q in
     let size = rows-length (a .cells .now) in
     let count = length-map t f in
     let old = begun-rest t 0 (map f t) (omega arith) q q blank (omega arith) (omega arith) in
@@ -83,9 +77,7 @@ forget-spec =
     Inv-loop
     μ-loop
     loop-holds
-    row-at-requires
-    forgets-requires
-    put-row-requires
+    forget-in-requires
     add-q
     loop-less
     loop-again

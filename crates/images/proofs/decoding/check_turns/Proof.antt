@@ -50,7 +50,7 @@ returns c =
     let at = r .before .before .turn-place in
     let l = r .before .before .before in
     turns-stop (s .args .n) (s .args .words .now) (l .before .loop .k) (at .result) (r .turn-refusal .result)
-    (l .loop-test .taken) (s .pre .length-is) (at .ensures) (r .turn-refusal .ensures) (c .if1 .taken)
+    (l .loop-test .taken) (s .pre .long) (at .ensures) (r .turn-refusal .ensures) (c .if1 .taken)
     ∙ sym (l .before .loop .inv .2)
 
 add-k : tie.Need-add-k Inv-loop μ-loop
@@ -67,7 +67,7 @@ loop-again c =
     let l = r .before .before .before in
     let on =
     turns-on (s .args .n) (s .args .words .now) (l .before .loop .k) (at .result) (r .turn-refusal .result)
-    (l .loop-test .taken) (s .pre .length-is) (at .ensures) (r .turn-refusal .ensures) (c .if1 .left) in
+    (l .loop-test .taken) (s .pre .long) (at .ensures) (r .turn-refusal .ensures) (c .if1 .left) in
     (search needs, search needs, l .before .loop .inv .2 ∙ on)
 
 returns-2 : tie.Need-returns-2 Inv-loop μ-loop

@@ -1,11 +1,14 @@
 -- `images::decoding::read_cells` meets its contract: header, length, then the words. Assumes nothing.
-use Prim.Native.Nat.{min}
+use Prim.Native.Nat.{ℕ, min}
 use mathlib.Core.Path.{_≡_, refl, sym, ap, _∙_}
+use mathlib.Core.Bool.{cond}
 use native.Mathlib.Omega.{arith}
-use lib.ListN.{length, getD}
+use lib.ListN.{length, getD, drop}
+use Rattle.machine.specs.Images.{bareLength, imageLength, bareSlots, slots, saysPasses, firstRefusal}
 use Rattle.machine.specs.Images.{imageRefusal}
-use Rattle.images.proofs.SlotLaws.{none-found}
 use Rattle.image_theorems.proofs.Reading.{refused-header, refused-length, refused-words}
+use Rattle.images.proofs.SlotLaws.{none-found}
+use Rattle.images.proofs.CountLaws.{either-low}
 use Rattle.images.proofs.ImageLaws.{Header, header-none, header-some, empty-header, into-refused, into-accepted}
 use borrow.Author.Needs.{needs}
 use Rattle.images.proofs.decoding.read_cells.Statement.{statement}
@@ -16,10 +19,10 @@ returns c =
     let a = c .before .before .args in
     let ws = a .words .now in
     let x = a .cells .now in
-    into-refused ws x x refl 1 0 (refused-header ws _ refl (empty-header ws (c .if1 .taken))) (λ z. omega arith)
+    into-refused ws x x refl 1 0 (refused-header ws (empty-header ws (c .if1 .taken))) (λ z. omega arith)
 
-shared-slice-read-size-in : tie.Need-shared-slice-read-size-in
-shared-slice-read-size-in c = search needs
+shared-slice-read-head : tie.Need-shared-slice-read-head
+shared-slice-read-head c = search needs
 
 size-in-requires : tie.Need-size-in-requires
 size-in-requires c κs = search needs
@@ -30,10 +33,10 @@ returns-2 c =
     let ws = a .words .now in
     let x = a .cells .now in
     let none = header-none (getD ws 0 0) (c .before .size-in .result) (c .before .size-in .ensures) (c .if2 .taken) in
-    into-refused ws x x refl 1 0 (refused-header ws _ refl none) (λ z. omega arith)
+    into-refused ws x x refl 1 0 (refused-header ws none) (λ z. omega arith)
 
-cast-image-words : tie.Need-cast-image-words
-cast-image-words c = search needs
+words-by-requires : tie.Need-words-by-requires
+words-by-requires c κs = search needs
 
 -- ---- where the first word is a header
 
@@ -41,8 +44,15 @@ header : (c : tie.Else2)
     → Header (getD (c .before .before .before .before .before .args .words .now) 0 0) (c .before .size-in .result)
 header c = header-some _ _ (c .before .size-in .ensures) (c .if2 .left)
 
-image-words-requires : tie.Need-image-words-requires
-image-words-requires c κs = omega (arith, header c .few)
+-- as many words as the form has for its processes
+all-is : (c : tie.After-words-by)
+    → let w = getD (c .before .before .before .before .before .before .args .words .now) 0 0 in
+    let n = c .before .before .size-in .result in
+    c .words-by .result ≡ cond (saysPasses w) (imageLength n) (bareLength n)
+all-is c =
+    let w = getD (c .before .before .before .before .before .before .args .words .now) 0 0 in
+    c .words-by .ensures
+    ∙ ap (λ (m : ℕ). cond (saysPasses w) (imageLength m) (bareLength m)) (header (c .before) .size-is)
 
 lesser-requires : tie.Need-lesser-requires
 lesser-requires c κs = search needs
@@ -50,7 +60,9 @@ lesser-requires c κs = search needs
 cast-t12 : tie.Need-cast-t12
 cast-t12 c =
     let all = c .before .before in
-    omega (arith, c .lesser .ensures, all .image-words .ensures, header (all .before) .few)
+    let n = all .before .before .size-in .result in
+    let w = getD (all .before .before .before .before .before .before .args .words .now) 0 0 in
+    omega (arith, c .lesser .ensures, all-is all, either-low (saysPasses w) n (header (all .before) .few))
 
 returns-3 : tie.Need-returns-3
 returns-3 c =
@@ -58,21 +70,19 @@ returns-3 c =
     let a = e .before .before .before .before .before .args in
     let ws = a .words .now in
     let x = a .cells .now in
-    let h = header e in
-    let all = c .before .before .image-words .ensures in
+    let all = c .before .before .words-by .ensures in
     let place = c .lesser .ensures ∙ ap (min (length ws)) all in
     into-refused ws x x refl 2 (c .lesser .result)
-    (refused-length ws (e .before .size-in .result) (h .size-is) (h .is-header)
-    (λ z. c .before .if3 .taken (z ∙ sym all))
+    (refused-length ws (header e .is-header) (λ z. c .before .if3 .taken (z ∙ sym all))
     ∙ (λ i. record { refusal = 2; place = sym place i }))
     (λ z. omega arith)
 
 read-words-requires : tie.Need-read-words-requires
 read-words-requires c κs =
-    let e = c .before .before .before in
-    let h = header e in
-    let all = c .before .if3 .left ∙ c .before .before .image-words .ensures in (
-      record { some = h .some; few = h .few; length-is = all },
+    let all = c .before .before in
+    let e = all .before in
+    let h = header e in (
+      record { some = h .some; few = h .few; length-is = c .before .if3 .left ∙ all-is all },
       omega (arith, h .few, e .before .before .before .before .before .pre),
     )
 
@@ -86,8 +96,9 @@ found c =
     let e = c .before .before .before .before in
     let ws = e .before .before .before .before .before .args .words .now in
     let h = header e in
-    refused-words ws (e .before .size-in .result) (h .size-is) (h .is-header)
-    (c .before .before .if3 .left ∙ c .before .before .before .image-words .ensures)
+    refused-words ws (h .is-header) (c .before .before .if3 .left ∙ c .before .before .before .words-by .ensures)
+    ∙ ap (λ (m : ℕ). firstRefusal m 1 (cond (saysPasses (getD ws 0 0)) (slots m) (bareSlots m)) (drop 1 ws))
+    (h .size-is)
     ∙ sym (c .read-words .ensures .found-is)
 
 same-length : tie.Need-same-length
@@ -117,11 +128,10 @@ read-cells-spec =
     tie.close
     (tie.spec
     returns
-    shared-slice-read-size-in
+    shared-slice-read-head
     size-in-requires
     returns-2
-    cast-image-words
-    image-words-requires
+    words-by-requires
     lesser-requires
     cast-t12
     returns-3

@@ -1,6 +1,5 @@
 -- `images::decoding::read_rows` meets its contract. The invariant: what is left of the rows' words decides the
--- refusal, and
--- the first cells stand for the rows read so far. Assumes nothing.
+-- refusal, and the first cells stand for the rows read so far. Assumes nothing.
 use Prim.Native.Nat.{_+_, _-_, _≤_, _<_}
 use mathlib.Core.Path.{_≡_, refl, sym, ap, _∙_}
 use native.Mathlib.Omega.{arith}
@@ -22,18 +21,19 @@ use Rattle.images.proofs.WalkLaws.{
   rows-end,
   map-take,
 }
+use Rattle.images.proofs.CountLaws.{sized-long}
 use Rattle.images.proofs.decoding.read_rows.Statement.{statement}
 use Rattle.images.proofs.decoding.read_rows.Tie as tie
 
 abbrev Inv-loop : tie.InvT-loop
-Inv-loop words cells₀ n full q₀ cells q =
+Inv-loop words cells₀ n counted full q₀ cells q =
     (q ≤ n)
     × (length cells ≡ length cells₀)
     × (firstRefusal n 1 (rowSlots 0 n) (drop 1 words) ≡ fromRow n words q)
     × (rowsOf cells ≡ begun (rowsOf cells₀) 0 (rowsIn n words 0 n) q)
 
 abbrev μ-loop : tie.MeasureT-loop
-μ-loop words cells₀ n full q₀ cells q = n - q
+μ-loop words cells₀ n counted full q₀ cells q = n - q
 
 full-set-requires : tie.Need-full-set-requires Inv-loop μ-loop
 full-set-requires c κs = omega (arith, c .before .pre .0 .few)
@@ -65,13 +65,12 @@ returns c =
     let q = c .before .before .before .before .before .before .loop .q in
     let row = c .before .before .before .read-row .ensures in
     let inv = c .before .before .before .before .before .before .loop .inv in
-    let long = c .before .before .before .before .before .before .before .before .before .pre .0 .length-is in
     let some : ofRow n ws q .refusal ≡ 0 → ⊥ = λ z. c .if1 .taken (none-found (sym (row .found-is)) z) in
     record {
       found-is =
           row .found-is
           ∙ sym (inv .2 ∙ rows-stop n ws q
-          (c .before .before .before .before .before .loop-test .taken) long some);
+          (c .before .before .before .before .before .loop-test .taken) some);
       rows-are = λ z. absurd (c .if1 .taken z);
       size-is = row .size-is ∙ inv .1;
     }
@@ -101,7 +100,7 @@ loop-again c =
     (q + 1) q (rowIn n ws q) blank (omega arith) (omega arith) (omega arith) row-is in (
       omega arith,
       row .size-is ∙ inv .1,
-      inv .2 ∙ rows-on n ws q l (pre .0 .length-is) none,
+      inv .2 ∙ rows-on n ws q l (sized-long ws n (a .counted) (pre .0) .long) none,
       row .rows-are (c .if1 .left) ∙ ap (λ (t : Table). set t q (rowIn n ws q)) (inv .3) ∙ next,
     )
 

@@ -1,10 +1,14 @@
--- `images::decoding::read_words` meets its contract: the rows decide where they refuse, else the turn cells. Assumes
--- nothing.
-use mathlib.Core.Path.{_≡_, sym, _∙_}
+-- `images::decoding::read_words` meets its contract: the rows decide where they refuse, else the turn cells, else the
+-- passes, where there are such words. Assumes nothing.
+use mathlib.Core.Path.{_≡_, sym, ap, _∙_}
+use mathlib.Core.Bool.{true}
 use lib.ListN.{drop}
+use borrow.Author.Tests.{not-true, not-false}
 use Rattle.machine.specs.Images.{rowSlots, firstRefusal}
+use Rattle.images.specs.Inner.{Long}
 use Rattle.images.proofs.SlotLaws.{none-found}
-use Rattle.images.proofs.ImageLaws.{image-rows, image-turns}
+use Rattle.images.proofs.CountLaws.{sized-long, sized-counted}
+use Rattle.images.proofs.ImageLaws.{ofAll, image-rows, image-turns, image-bare, image-counts}
 use borrow.Author.Needs.{needs}
 use Rattle.images.proofs.decoding.read_words.Statement.{statement}
 use Rattle.images.proofs.decoding.read_words.Tie as tie
@@ -17,39 +21,115 @@ same-length c = search needs
 
 returns : tie.Need-returns
 returns c =
-    let n = c .before .before .before .before .before .before .args .n in
-    let ws = c .before .before .before .before .before .before .args .words .now in
+    let a = c .before .before .before .before .before .before .args in
     let rows = c .before .before .before .read-rows .ensures in
-    let some : firstRefusal n 1 (rowSlots 0 n) (drop 1 ws) .refusal ≡ 0 → ⊥ =
-    λ z. c .if1 .taken (none-found (sym (rows .found-is)) z) in
     record {
-      found-is = rows .found-is ∙ sym (image-rows n ws
-          (c .before .before .before .before .before .before .pre .0 .length-is) some);
+      found-is =
+          rows .found-is
+          ∙ sym (image-rows (a .n) (a .words .now) (a .counted)
+          (λ z. c .if1 .taken (none-found (sym (rows .found-is)) z)));
       rows-are = λ z. absurd (c .if1 .taken z);
       size-is = rows .size-is;
     }
 
+-- ---- where the rows pass
+
+abbrev start : tie.Else1 → tie.Start
+start c = c .before .before .before .before .before .before
+
+long : (s : tie.Start) → Long (s .args .words .now) (s .args .n)
+long s = sized-long (s .args .words .now) (s .args .n) (s .args .counted) (s .pre .0)
+
+none : (c : tie.Else1)
+    → let a = start c .args in
+    firstRefusal (a .n) 1 (rowSlots 0 (a .n)) (drop 1 (a .words .now)) .refusal ≡ 0
+none c = none-found (c .before .before .before .read-rows .ensures .found-is) (c .if1 .left)
+
 check-turns-requires : tie.Need-check-turns-requires
-check-turns-requires c κs = search needs
+check-turns-requires c κs = long (start c)
 
 same-length-2 : tie.Need-same-length-2
 same-length-2 c = search needs
 
 returns-2 : tie.Need-returns-2
 returns-2 c =
-    let n = c .before .before .before .before .before .before .before .args .n in
-    let ws = c .before .before .before .before .before .before .before .args .words .now in
-    let pre = c .before .before .before .before .before .before .before .pre .0 in
-    let rows = c .before .before .before .before .read-rows .ensures in
-    let left = c .before .if1 .left in
-    let none = none-found (rows .found-is) left in
+    let t = c .before .before in
+    let e = t .before in
+    let s = start e in
+    let a = s .args in
+    let turns = t .check-turns .ensures in
+    let rows = e .before .before .before .read-rows .ensures in
     record {
-      found-is = c .check-turns .ensures ∙ sym (image-turns n ws (pre .length-is) (pre .some) none);
-      rows-are = λ z. rows .rows-are left;
+      found-is =
+          turns
+          ∙ sym (image-turns (a .n) (a .words .now) (s .pre .0 .some) (long s .long) (none e) (a .counted)
+          (λ z. c .if2 .taken (none-found (sym turns) z)));
+      rows-are = λ z. rows .rows-are (e .if1 .left);
+      size-is = rows .size-is;
+    }
+
+same-length-3 : tie.Need-same-length-3
+same-length-3 c = search needs
+
+returns-3 : tie.Need-returns-3
+returns-3 c =
+    let t = c .before .before .before in
+    let e = t .before in
+    let s = start e in
+    let a = s .args in
+    let rows = e .before .before .before .read-rows .ensures in
+    record {
+      found-is =
+          t .check-turns .ensures
+          ∙ sym (ap (ofAll (a .n) (a .words .now)) (not-true (a .counted) (c .if3 .taken))
+          ∙ image-bare (a .n) (a .words .now) (s .pre .0 .some) (long s .long) (none e));
+      rows-are = λ z. rows .rows-are (e .if1 .left);
+      size-is = rows .size-is;
+    }
+
+-- ---- where the turn cells pass, and the image is not bare
+
+counted : (c : tie.Else3) → start (c .before .before .before .before) .args .counted ≡ true
+counted c = not-false _ (c .if3 .left)
+
+check-counts-requires : tie.Need-check-counts-requires
+check-counts-requires c κs =
+    let s = start (c .before .before .before .before) in
+    sized-counted (s .args .words .now) (s .args .n) (s .args .counted) (s .pre .0) (counted c)
+
+same-length-4 : tie.Need-same-length-4
+same-length-4 c = search needs
+
+returns-4 : tie.Need-returns-4
+returns-4 c =
+    let f = c .before in
+    let t = f .before .before .before in
+    let e = t .before in
+    let s = start e in
+    let a = s .args in
+    let rows = e .before .before .before .read-rows .ensures in
+    record {
+      found-is =
+          c .check-counts .ensures
+          ∙ sym (ap (ofAll (a .n) (a .words .now)) (counted f)
+          ∙ image-counts (a .n) (a .words .now) (s .pre .0 .some) (long s .long) (none e)
+          (none-found (t .check-turns .ensures) (f .before .if2 .left)));
+      rows-are = λ z. rows .rows-are (e .if1 .left);
       size-is = rows .size-is;
     }
 
 pub read-words-spec : {M : Type 1} → statement M
 read-words-spec =
     tie.close
-    (tie.spec read-rows-requires same-length returns check-turns-requires same-length-2 returns-2)
+    (tie.spec
+    read-rows-requires
+    same-length
+    returns
+    check-turns-requires
+    same-length-2
+    returns-2
+    same-length-3
+    returns-3
+    check-counts-requires
+    same-length-4
+    returns-4)

@@ -10,23 +10,23 @@ cast-location-of c = search needs
 location-of-requires : tie.Need-location-of-requires
 location-of-requires c κs = search needs
 
-cast-t12 : tie.Need-cast-t12
-cast-t12 c = search needs
+cast-t13 : tie.Need-cast-t13
+cast-t13 c = search needs
 
-cast-t15 : tie.Need-cast-t15
-cast-t15 c = search needs
+cast-t16 : tie.Need-cast-t16
+cast-t16 c = search needs
 
-cast-t17 : tie.Need-cast-t17
-cast-t17 c = search needs
+cast-t18 : tie.Need-cast-t18
+cast-t18 c = search needs
 
-cast-t19 : tie.Need-cast-t19
-cast-t19 c = search needs
+cast-t20 : tie.Need-cast-t20
+cast-t20 c = search needs
 
-cast-t21 : tie.Need-cast-t21
-cast-t21 c = search needs
+cast-t22 : tie.Need-cast-t22
+cast-t22 c = search needs
 
-cast-t23 : tie.Need-cast-t23
-cast-t23 c = search needs
+cast-t24 : tie.Need-cast-t24
+cast-t24 c = search needs
 
 returns : tie.Need-returns
 returns c =
@@ -41,6 +41,7 @@ returns c =
       lis = setIn (a .c);
       ahead = setIn (a .d);
       turn = a .turn;
+      passes = a .passes;
     }
 
 pub row-of-spec : {M : Type 1} → statement M
@@ -49,10 +50,10 @@ row-of-spec =
     (tie.spec
     cast-location-of
     location-of-requires
-    cast-t12
-    cast-t15
-    cast-t17
-    cast-t19
-    cast-t21
-    cast-t23
+    cast-t13
+    cast-t16
+    cast-t18
+    cast-t20
+    cast-t22
+    cast-t24
     returns)

@@ -1,6 +1,6 @@
 -- `images::encoding::write` meets its contract: the check, the room, then the image. Assumes nothing.
 use Prim.Native.Nat.{_≤_}
-use mathlib.Core.Path.{_≡_, sym, _∙_}
+use mathlib.Core.Path.{_≡_, sym, ap, _∙_}
 use native.Mathlib.Omega.{arith}
 use lib.ListN.{length}
 use Rattle.machine.specs.Images.{imageLength}
@@ -25,13 +25,19 @@ returns c =
 sound : (c : tie.Else1) → tableRefusal (rowsOf (c .before .before .before .args .cells .now)) ≡ 0
 sound c = sym (c .before .check .ensures) ∙ c .if1 .left
 
+-- as many words as the image of the table has
+all-is : (c : tie.After-image-words)
+    → let x = c .before .before .before .before .args .cells .now in
+    c .image-words .result ≡ imageLength (length (rowsOf x))
+all-is c =
+    let x = c .before .before .before .before .args .cells .now in
+    c .image-words .ensures ∙ ap imageLength (sym (rows-length x))
+
 -- the words lent hold the image
 long : (c : tie.Else2)
     → let a = c .before .before .before .before .before .args in
     imageLength (length (rowsOf (a .cells .now))) ≤ length (a .out .now)
-long c =
-    let x = c .before .before .before .before .before .args .cells .now in
-    omega (arith, c .if2 .left, c .before .image-words .ensures, rows-length x)
+long c = omega (arith, c .if2 .left, all-is (c .before))
 
 image-words-requires : tie.Need-image-words-requires
 image-words-requires c κs =
@@ -44,7 +50,7 @@ returns-2 c =
     let a = e .before .before .before .args in
     let checked = e .before .check in
     written-few (rowsOf (a .cells .now)) (a .out .now) (checked .result) (checked .ensures) (e .if1 .left)
-    (omega (arith, c .if2 .taken, c .before .image-words .ensures, rows-length (a .cells .now)))
+    (omega (arith, c .if2 .taken, all-is (c .before)))
 
 write-cells-requires : tie.Need-write-cells-requires
 write-cells-requires c κs = record { is-sound = sound (c .before .before .before); long = long (c .before) }

@@ -1,16 +1,16 @@
--- `images::encoding::write_cells` meets its contract: header, rows and turn cells, each where the last ended. Assumes
--- nothing.
+-- `images::encoding::write_cells` meets its contract: header, rows, turn cells and passes, each where the last ended.
+-- Assumes nothing.
 use Prim.Native.Nat.{ℕ, _≤_, _<_}
-use mathlib.Core.Path.{sym, ap, _∙_}
+use mathlib.Core.Path.{_≡_, sym, ap, _∙_}
 use mathlib.Core.List.{List}
 use native.Mathlib.Omega.{arith}
 use lib.ListN.{length, set, length-set}
 use Rattle.counting.specs.Placing.{placed}
-use Rattle.machine.specs.Images.{headerOf, turnPlace}
+use Rattle.machine.specs.Images.{bareLength, headerOf, turnPlace}
 use Rattle.machine.proofs.SoundRows.{sound-rows}
 use Rattle.cells.specs.View.{rowsOf}
 use Rattle.cells.proofs.ViewLaws.{rows-length}
-use Rattle.images.specs.Inner.{rowsPart, turnsPart}
+use Rattle.images.specs.Inner.{rowsPart, turnsPart, passesPart}
 use Rattle.images.proofs.WriteLaws.{image-placed}
 use borrow.Author.Needs.{needs}
 use Rattle.images.proofs.encoding.write_cells.Statement.{statement}
@@ -45,26 +45,45 @@ write-turns-requires c κs =
       long = omega (arith, s .pre .long, same, c .before .before .before .write-rows .kept .1 .0);
     }
 
+-- after the words of the rows and of the turn cells there is as much room as before
+kept-turns : (c : tie.After-write-turns)
+    → length (c .write-turns .last .1 .0)
+    ≡ length (c .before .before .before .before .before .before .before .args .out .now)
+kept-turns c =
+    let s = c .before .before .before .before .before .before .before in
+    c .write-turns .kept .1 .0
+    ∙ c .before .before .before .before .write-rows .kept .1 .0
+    ∙ length-set (s .args .out .now) 0 (headerOf (length (s .args .cells .now)))
+
+write-counts-requires : tie.Need-write-counts-requires
+write-counts-requires c κs =
+    let t = c .before .before .before in
+    let s = t .before .before .before .before .before .before .before in
+    record { is-sound = s .pre .is-sound; long = omega (arith, s .pre .long, kept-turns t) }
+
 same-length : tie.Need-same-length
 same-length c =
-    let s = c .before .before .before .before .before .before .before .before .before in
-    c .before .before .write-turns .kept .1 .0
-    ∙ c .before .before .before .before .before .before .write-rows .kept .1 .0
-    ∙ length-set (s .args .out .now) 0 (headerOf (length (s .args .cells .now)))
+    let w = c .before .before in
+    w .write-counts .kept .1 .0 ∙ kept-turns (w .before .before .before .before)
 
 returns : tie.Need-returns
 returns c =
-    let s = c .before .before .before .before .before .before .before .before .before in
+    let w = c .before .before in
+    let t = w .before .before .before .before in
+    let s = t .before .before .before .before .before .before .before in
     let x = s .args .cells .now in
-    let t = rowsOf x in
+    let u = rowsOf x in
     let n = rows-length x in
     let h = small s in
-    let rows = c .before .before .before .before .before .before .write-rows .ensures in
+    let rows = t .before .before .before .before .write-rows .ensures in
     let head = ap (λ (k : ℕ). set (s .args .out .now) 0 (headerOf k)) (sym n) in
-    c .before .before .write-turns .ensures
-    ∙ ap (λ (l : List ℕ). placed l (turnPlace (length x) 1) (turnsPart t))
-    (rows ∙ ap (λ (l : List ℕ). placed l 1 (rowsPart t)) head)
-    ∙ image-placed t (s .args .out .now) (omega arith) (s .pre .long) (turnPlace (length x) 1) (omega arith)
+    w .write-counts .ensures
+    ∙ ap (λ (l : List ℕ). placed l (bareLength (length x)) (passesPart u))
+    (t .write-turns .ensures
+    ∙ ap (λ (l : List ℕ). placed l (turnPlace (length x) 1) (turnsPart u))
+    (rows ∙ ap (λ (l : List ℕ). placed l 1 (rowsPart u)) head))
+    ∙ image-placed u (s .args .out .now) (omega arith) (s .pre .long) (turnPlace (length x) 1) (bareLength (length x))
+    (omega arith) (omega arith)
 
 pub write-cells-spec : {M : Type 1} → statement M
 write-cells-spec =
@@ -75,5 +94,6 @@ write-cells-spec =
     slice-write-out
     write-rows-requires
     write-turns-requires
+    write-counts-requires
     same-length
     returns)

@@ -1,11 +1,18 @@
 -- `going::go` meets its contract, location by location. Assumes nothing.
 use Prim.Native.Nat.{ℕ}
-use mathlib.Core.Path.{_≡_, sym, ap, subst, _∙_}
+use mathlib.Core.Path.{_≡_, refl, sym, ap, subst, _∙_}
+use mathlib.Core.Bool.{false}
+use mathlib.Core.List.{List}
+use lib.Dec.{eqb}
 use Rattle.machine.specs.Tables.{row}
+use Rattle.machine.specs.Words.{GO}
 use Rattle.machine.specs.declared.Row.{Row}
+use Rattle.machine.specs.declared.Told.{Told}
+use Rattle.machine.specs.declared.Stepped.{Stepped}
 use Rattle.cells.specs.View.{rowsOf}
-use Rattle.steps.specs.Moves.{At}
+use Rattle.steps.specs.Moves.{At, Goes, Takes}
 use Rattle.steps.proofs.MoveLaws.{Last, last-place}
+use Rattle.steps.proofs.TakeLaws.{goes-on}
 use borrow.Author.Needs.{needs}
 use Rattle.steps.proofs.going.go.Statement.{statement}
 use Rattle.steps.proofs.going.go.Tie as tie
@@ -23,6 +30,14 @@ there c = ap (λ (q : Row). q .location) (c .row-at .ensures)
 at : (c : tie.After-row-at) (l : ℕ) → c .row-at .result .location ≡ l
     → At (c .before .before .args .cells .now) (c .before .before .args .p) l
 at c l e = record { ready = c .before .before .pre .ready; there = sym (there c) ∙ e }
+
+-- GO away from 20 is taken
+moves : (c : tie.After-row-at) {y : List (List ℕ)} {s : Told} (l : ℕ)
+    → c .row-at .result .location ≡ l
+    → eqb l 20 ≡ false
+    → Goes (c .before .before .args .cells .now) (c .before .before .args .p) y s
+    → Takes (c .before .before .args .cells .now) GO (c .before .before .args .p) 0 y (Stepped.Moved s)
+moves c l e away m = goes-on l (sym (there c) ∙ e) away (c .before .before .pre .may) m
 
 enter-requires : tie.Need-enter-requires
 enter-requires c κs = at (c .before .before) 20 (c .before .match .keys1)
@@ -59,37 +74,51 @@ same-length-2 : tie.Need-same-length-2
 same-length-2 c = search needs
 
 returns-2 : tie.Need-returns-2
-returns-2 c = search needs
+returns-2 c =
+    let m = c .before .before .before in
+    moves (m .before) 21 (m .match .keys2) refl (c .before .pass .ensures)
 
 same-length-3 : tie.Need-same-length-3
 same-length-3 c = search needs
 
 returns-3 : tie.Need-returns-3
-returns-3 c = search needs
+returns-3 c =
+    let m = c .before .before .before in
+    moves (m .before) 22 (m .match .keys3) refl (c .before .end-pass .ensures)
 
 same-length-4 : tie.Need-same-length-4
 same-length-4 c = search needs
 
 returns-4 : tie.Need-returns-4
-returns-4 c = search needs
+returns-4 c =
+    let m = c .before .before .before in
+    moves (m .before) 23 (m .match .keys4) refl (c .before .reconsider .ensures)
 
 same-length-5 : tie.Need-same-length-5
 same-length-5 c = search needs
 
 returns-5 : tie.Need-returns-5
-returns-5 c = search needs
+returns-5 c =
+    let m = c .before .before .before in
+    moves (m .before) 24 (m .match .keys5) refl (c .before .push .ensures)
 
 same-length-6 : tie.Need-same-length-6
 same-length-6 c = search needs
 
 returns-6 : tie.Need-returns-6
-returns-6 c = search needs
+returns-6 c =
+    let m = c .before .before .before in
+    moves (m .before) 30 (m .match .keys6) refl (c .before .leave .ensures)
 
 same-length-7 : tie.Need-same-length-7
 same-length-7 c = search needs
 
 returns-7 : tie.Need-returns-7
-returns-7 c = search needs
+returns-7 c =
+    let r = c .before .before .before .before in
+    let s = r .before .before in
+    let last = last-place _ (s .pre .may) (subst Last (there r) (c .before .before .before .match .rest)) in
+    goes-on 40 last refl (s .pre .may) (c .before .rest .ensures)
 
 pub go-spec : {M : Type 1} → statement M
 go-spec =

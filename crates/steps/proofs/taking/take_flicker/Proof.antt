@@ -1,7 +1,8 @@
 -- `taking::take_flicker` meets its contract. Assumes nothing.
+use native.Mathlib.Omega.{arith}
 use borrow.Author.Needs.{needs}
 use Rattle.machine.specs.Words.{FLICKER}
-use Rattle.steps.proofs.TakeLaws.{may-move, takes-refused, takes-moved}
+use Rattle.steps.proofs.TakeLaws.{may-move, takes-refused, takes-moved, others-fit}
 use Rattle.steps.proofs.taking.take_flicker.Statement.{statement}
 use Rattle.steps.proofs.taking.take_flicker.Tie as tie
 
@@ -26,7 +27,8 @@ same-length-2 c = search needs
 returns-2 : tie.Need-returns-2
 returns-2 c =
     let e = c .before .before .before in
-    takes-moved (e .before .refusal-at .ensures) (e .if1 .left) (c .before .flicker .ensures)
+    takes-moved (e .before .refusal-at .ensures) (e .if1 .left) (others-fit _ FLICKER _ (omega arith))
+    (c .before .flicker .ensures)
 
 pub take-flicker-spec : {M : Type 1} → statement M
 take-flicker-spec =

@@ -1,8 +1,8 @@
 -- `taking::take_go` meets its contract. Assumes nothing.
+use mathlib.Core.Path.{sym, _∙_}
 use borrow.Author.Needs.{needs}
 use Rattle.machine.specs.Words.{GO}
-use Rattle.steps.proofs.ToldLaws.{go-moves}
-use Rattle.steps.proofs.TakeLaws.{may-move, takes-refused, takes-moved}
+use Rattle.steps.proofs.TakeLaws.{may-move, takes-refused, go-argument}
 use Rattle.steps.proofs.taking.take_go.Statement.{statement}
 use Rattle.steps.proofs.taking.take_go.Tie as tie
 
@@ -27,7 +27,7 @@ same-length-2 c = search needs
 returns-2 : tie.Need-returns-2
 returns-2 c =
     let e = c .before .before .before in
-    takes-moved (e .before .refusal-at .ensures) (e .if1 .left) (go-moves _ (c .before .go .ensures))
+    go-argument (sym (e .before .refusal-at .ensures) ∙ e .if1 .left) (c .before .go .ensures)
 
 pub take-go-spec : {M : Type 1} → statement M
 take-go-spec =

@@ -2,7 +2,7 @@
 use mathlib.Core.Logic.{⊎-elim}
 use borrow.Author.Needs.{needs}
 use Rattle.steps.proofs.ToldLaws.{come-moves, cancel-moves, stay-moves}
-use Rattle.steps.proofs.TakeLaws.{jump-kind, takes-refused, takes-moved}
+use Rattle.steps.proofs.TakeLaws.{jump-kind, takes-refused, takes-moved, jump-fits}
 use Rattle.steps.proofs.taking.take_jump.Statement.{statement}
 use Rattle.steps.proofs.taking.take_jump.Tie as tie
 
@@ -26,7 +26,7 @@ same-length-2 c = search needs
 returns-2 : tie.Need-returns-2
 returns-2 c =
     let e = c .before .before .before .before in
-    takes-moved (e .before .refusal-at .ensures) (e .if1 .left)
+    takes-moved (e .before .refusal-at .ensures) (e .if1 .left) (jump-fits _ _ _ (e .before .before .before .pre .kind))
     (come-moves _ _ (c .before .before .before .if2 .taken) (c .before .come .ensures))
 
 cancel-requires : tie.Need-cancel-requires
@@ -38,7 +38,7 @@ same-length-3 c = search needs
 returns-3 : tie.Need-returns-3
 returns-3 c =
     let e = c .before .before .before .before .before in
-    takes-moved (e .before .refusal-at .ensures) (e .if1 .left)
+    takes-moved (e .before .refusal-at .ensures) (e .if1 .left) (jump-fits _ _ _ (e .before .before .before .pre .kind))
     (cancel-moves _ _ (c .before .before .before .if3 .taken) (c .before .cancel .ensures))
 
 same-length-4 : tie.Need-same-length-4
@@ -50,7 +50,8 @@ returns-4 c =
     let stay =
     ⊎-elim (λ k. k) (⊎-elim (λ k. absurd (c .before .if2 .left k)) (λ k. absurd (c .if3 .left k)))
     (e .before .before .before .pre .kind) in
-    takes-moved (e .before .refusal-at .ensures) (e .if1 .left) (stay-moves _ stay)
+    takes-moved (e .before .refusal-at .ensures) (e .if1 .left) (jump-fits _ _ _ (e .before .before .before .pre .kind))
+    (stay-moves _ stay)
 
 pub take-jump-spec : {M : Type 1} → statement M
 take-jump-spec =

@@ -1,6 +1,8 @@
 -- `taking::take_look` meets its contract. Assumes nothing.
+use native.Mathlib.Omega.{arith}
 use borrow.Author.Needs.{needs}
-use Rattle.steps.proofs.TakeLaws.{may-look, takes-refused, takes-moved}
+use Rattle.machine.specs.Words.{LOOK}
+use Rattle.steps.proofs.TakeLaws.{may-look, takes-refused, takes-moved, others-fit}
 use Rattle.steps.proofs.taking.take_look.Statement.{statement}
 use Rattle.steps.proofs.taking.take_look.Tie as tie
 
@@ -24,7 +26,8 @@ same-length-2 c = search needs
 returns-2 : tie.Need-returns-2
 returns-2 c =
     let e = c .before .before .before in
-    takes-moved (e .before .refusal-at .ensures) (e .if1 .left) (c .before .look .ensures)
+    takes-moved (e .before .refusal-at .ensures) (e .if1 .left) (others-fit _ LOOK _ (omega arith))
+    (c .before .look .ensures)
 
 pub take-look-spec : {M : Type 1} → statement M
 take-look-spec =
