@@ -138,14 +138,15 @@ struct zaguypo_rounded {
     uint16_t occupied; /* 1 where some process is at 30, else 0 */
 };
 
-/* Rounds, since version 2.1.0. A round gives each process in number order one word, and each word goes to the table that the word
-   before left: STAY at 10; at 22 with lis not empty LOOK at the lowest member of lis; GO otherwise. Rounds are done in the lent
-   rows until some process is at 30, which is asked before the first and after each whole one, or ZAGUYPO_ROUND_LIMIT(size), the
-   limit, are done: for sixteen processes 311,296 words. With nobody at 20 to 24 none is begun. Where none is begun, and after 6
-   and 7, no row changes. Before a word that the step refuses with 15 the rounds end with 15: the round that it breaks is not
-   counted, and the words before it in that round are kept; only the first can be broken, so rounds is 0 then. From a table that words made from a fresh one, with nobody at 30 and
-   somebody at 20 to 24, and where 15 is not met, at most ZAGUYPO_SILENCE_BOUND(size) are done, and occupied is 1; for sixteen
-   processes that is 557. Sound tables that no words lead to may use up the limit, with occupied 0 ("Rounds"). */
+/* Rounds, since version 2.1.0. A round gives each process in number order one word, and each word goes to the table that the
+   word before left: STAY at 10; at 22 with lis not empty LOOK at the lowest member of lis; GO otherwise. Rounds are done in
+   the lent rows until some process is at 30, which is asked before the first and after each whole one, or
+   ZAGUYPO_ROUND_LIMIT(size), the limit, are done: for sixteen processes 311,296 words. With nobody at 20 to 24 none is
+   begun. Where none is begun, and after 6 and 7, no row changes. Before a word that the step refuses with 15 the rounds end
+   with 15: the round that it breaks is not counted, and the words before it in that round are kept; only the first can be
+   broken, so rounds is 0 then. From a table that words made from a fresh one, with nobody at 30 and somebody at 20 to 24,
+   and where 15 is not met, at most ZAGUYPO_SILENCE_BOUND(size) are done, and occupied is 1; for sixteen processes that is
+   557. Sound tables that no words lead to may use up the limit, with occupied 0 ("Rounds"). */
 struct zaguypo_rounded zaguypo_rounds(struct zaguypo_row *rows, size_t size);
 
 /* ---- images: a table as 5N + N x N words, headed 81000000 plus N, which they are since version 3.0.0; or bare as 5N words,

@@ -1,7 +1,6 @@
 -- Laws of lists and tests over the numbers below n.
 --
 --   upTo-cong, upTo-length, upTo-at, upTo-all   the list of g 0, g 1, ..; a list is that of its places
---   upTo-set                                    one place set
 --   every-cong, every-at, every-all, every-fails    a test of all numbers below n, and of one of them
 --   filled ..                                   an array that is filled with g 0, g 1, ..
 --

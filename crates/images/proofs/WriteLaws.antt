@@ -4,7 +4,6 @@
 --   row-words, turn-word, pass-words    which
 --   passes-start, passes-next, passes-end    the loop that puts the passes, process by process
 --   image-placed           header, rows, turn cells and passes put one after the other are the image
---   take-image             the image out of the words that it was written into
 --   packable               the rows of a sound table fit their words
 --   written-sound, written-few, written-image    the three outcomes
 --
@@ -17,10 +16,10 @@ use native.Mathlib.Nat.{mul-zero, mul-suc}
 use native.Mathlib.Numerals.{add-one}
 use native.Mathlib.Omega.{arith}
 use lib.Dec.{leb}
-use lib.ListN.{length, getD, take, set, length-map, length-append}
+use lib.ListN.{length, getD, set, length-map, length-append}
 use borrow.Author.Tests.{eq-eqb, ne-eqb, le-leb, lt-leb}
 use Rattle.counting.specs.Placing.{placed}
-use Rattle.counting.proofs.PlacingLaws.{placed-one, placed-then, take-first}
+use Rattle.counting.proofs.PlacingLaws.{placed-one, placed-then}
 use Rattle.counting.proofs.PlacingLaws.{begun, begun-start, begun-more, begun-end}
 use Rattle.machine.specs.Tables.{Table, row, locations, tableRefusal}
 use Rattle.machine.specs.Images.{slot, STATE, TURN, rowSlots, turnSlots, passSlots, bareSlots, slots}
@@ -30,7 +29,7 @@ use Rattle.machine.proofs.SoundRows.{sound-rows}
 use Rattle.image_theorems.proofs.Locations.{place-below}
 use Rattle.image_theorems.proofs.Slots.{noSlot, length-rowSlots, length-turnSlots, length-passSlots}
 use Rattle.image_theorems.proofs.Slots.{slot-of-row, slot-of-turn, slot-of-count, pair-low}
-use Rattle.image_theorems.proofs.RoundTrip.{length-image, getD-map-within}
+use Rattle.image_theorems.proofs.RoundTrip.{getD-map-within}
 use Rattle.images.specs.Answers.{Writes}
 use Rattle.images.specs.Inner.{Packable, wordFor, rowWords, passWords, rowsPart, turnsPart, passesPart}
 use Rattle.images.proofs.CountLaws.{passes-within, length-passWords, pass-word}
@@ -133,9 +132,6 @@ module _ (t : Table) where
         (omega (arith, whole, length-rowsPart, length-turnsPart))
         ∙ placed-then l 0 firstPart (passesPart t) (omega arith)
         ∙ ap (placed l 0) (sym image-parts)
-
-  pub take-image : (l : List ℕ) → 0 < length t → take (imageLength (length t)) (placed l 0 (imageOf t)) ≡ imageOf t
-  take-image l some = take-first l (imageOf t) (imageLength (length t)) (length-image t some)
 
 -- ---- the loop over processes, of which there are n
 

@@ -1,12 +1,11 @@
 -- The first m words of an input are its image, the others its event words. Assumes nothing.
 use mathlib.Core.Path.{_≡_, sym, ap, _∙_}
 use mathlib.Core.List.{List}
-use Prim.Native.Nat.{ℕ, _-_, _≤_}
+use Prim.Native.Nat.{ℕ, _≤_}
 use native.Mathlib.Omega.{arith}
-use lib.ListN.{length, getD, take, drop, length-drop, drop-of-length-le}
+use lib.ListN.{length, getD, take, drop, drop-of-length-le}
 use lib.Seq.{take-all}
 use Rattle.machine.specs.Images.{lengthIn}
-use Rattle.machine.specs.Inputs.{eventPart}
 use Rattle.inputs.specs.Splitting.{Splits}
 
 module _ (ws : List ℕ) where
@@ -30,7 +29,3 @@ module _ (ws : List ℕ) where
         image-is = take-all m ws (omega arith) ∙ sym (take-all all ws h);
         events-are = drop-of-length-le ws {i = m} (omega arith) ∙ sym (drop-of-length-le ws h);
       }
-
-  -- the words after the image, as many as there are
-  pub events-left : (m : ℕ) → Splits ws m → take (length ws - m) (drop m ws) ≡ eventPart ws
-  events-left m s = take-all (length ws - m) (drop m ws) (omega (arith, length-drop m ws)) ∙ s .events-are

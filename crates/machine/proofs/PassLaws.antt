@@ -4,7 +4,7 @@
 --   passes-facts, passes-true    `soundPasses` says so
 --   none-sound, raised-sound, cleared-sound    no passes, one more over some processes, and none over one, are in range
 --   raised-at, cleared-at, cleared-own    what the counts are then
---   raisable-at, low-raisable, clear-none    counts that have room for one more; counts that are 0
+--   raisable-at, clear-none    counts that have room for one more; counts that are 0
 --
 -- Assumes nothing.
 use Prim.Native.Nat.{ℕ, zero, suc, _+_, _^_, _≤_, _<_}
@@ -134,11 +134,6 @@ module _ (c : ℕ) (l : List ℕ) where
   pub raisable-at : raisable c l ≡ true → (i : ℕ) → i < 16 → countAfter c l i ≤ 65535
   unfolding raisable
   raisable-at h i k = leb-true _ _ (every-at (λ j. leb (countAfter c l j) countLimit) 16 h i k)
-
-  -- counts without one at the limit have room
-  pub low-raisable : ((i : ℕ) → i < 16 → countAfter c l i ≤ 65535) → raisable c l ≡ true
-  unfolding raisable
-  low-raisable f = every-all (λ j. leb (countAfter c l j) countLimit) 16 (λ i k. le-leb _ _ (f i k))
 
 pub raised-sound : (n p c : ℕ) (l : List ℕ)
     → SoundPasses n p l

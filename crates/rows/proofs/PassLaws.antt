@@ -2,7 +2,7 @@
 --
 --   times-low         a number of 16 bits times 0 or 1 fits
 --   none-yet, one-more    a loop that joins numbers finds whether all are 0
---   full-at, room-at  the test of one count for room
+--   digit, raisable-by    the loop over counts at their limit finds whether there is room
 --   passes-sound      the tests of a row's counts are `soundPasses`
 --
 -- Assumes nothing.

@@ -4,7 +4,6 @@
 --   run-turn, run-halt, run-past     the same at word i of a list
 --   counted-comes, counted-arrivals  how a word counts
 --   runs-ended, runs-as              what the answer of a run says of its outcome
---   runOf-table, runOf-words, runOf-taken    a run with a refused table, with too many words, and the others
 --
 -- Assumes nothing.
 use Prim.Native.Nat.{ℕ, suc, _+_, _≤_, _<_}
