@@ -1,7 +1,7 @@
 -- The words with passes, as the loops go through them.
 --
 --   sized-long, sized-counted   the words of either form are at least those of a bare image
---   passes-within, image-low, either-low    the words of a process stand within the image, which is not long
+--   passes-within, image-mono, image-low, either-low    the words of a process stand within the image, which is not long
 --   counts-start, counts-on, counts-stop, counts-end     the loop over processes: what is left decides
 --   passes-start, passes-on, passes-stop, passes-end     the loop over the words of one process
 --   fit-is         no word of a process is refused just where each has its upper half, and that over itself is 0
@@ -56,10 +56,13 @@ passes-within n q l =
     let up : n * suc q ≤ n * n = mul-le-mul-left n (omega arith) in
     omega (arith, up, mul-suc n q)
 
-pub image-low : (n : ℕ) → n ≤ 16 → imageLength n ≤ 336
-image-low n few =
-    let square : n * n ≤ 16 * 16 = mul-le-mul few few in
+pub image-mono : (n m : ℕ) → n ≤ m → imageLength n ≤ imageLength m
+image-mono n m h =
+    let square : n * n ≤ m * m = mul-le-mul h h in
     omega (arith, square)
+
+pub image-low : (n : ℕ) → n ≤ 16 → imageLength n ≤ 336
+image-low n few = image-mono n 16 few
 
 pub either-low : (b : Bool) (n : ℕ) → n ≤ 16 → cond b (imageLength n) (bareLength n) ≤ 336
 either-low b n few = cond-le b (imageLength n) (bareLength n) 336 (image-low n few) (omega arith)

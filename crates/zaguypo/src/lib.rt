@@ -11,23 +11,44 @@ ghost use Rattle.machine.specs.Inputs.{Input};
 ghost use Rattle.machine.specs.Calls.{numberOf, callFor, callOf};
 ghost use Rattle.cells.specs.View.{rowsOf};
 ghost use Rattle.runs.specs.Bounds.{Runnable};
+ghost use Rattle.images.specs.Answers.{Room};
 ghost use Rattle.inputs.specs.Opening.{Roomy};
 ghost use Rattle.zaguypo.specs.Calls.{CallsTo, Writable};
 
-// The most words of a short input.
-const FEW: usize = 512;
+// The most words of a short input, and of one that is not long. An image of five processes has 50 words,
+// the longest 336.
+const FEW: usize = 64;
 
-// The image of the table in the cells, at the start of the lent bytes.
+const SOME: usize = 512;
+
+// The image of the table in the cells, at the start of the lent bytes, by way of words that have room for
+// it.
+fn pack_image(cells: &[[u16; 24]], words: &mut [u32], image: &mut [u8])
+    requires { ⌜ Writable (now cells) (now image) ⌝ }
+    requires { ⌜ Room (rowsOf (now cells)) (now words) ⌝ }
+    ensures { λ _. ⌜
+        now (image .exit) ≡ placed (now (image .entry)) 0 (bytesOf (imageOf (rowsOf (now (cells .entry)))))
+        ⌝ }
+{
+    write_cells(cells, words);
+    let all = image_words(cells.len());
+    octets::pack(&words[..all], image);
+}
+
+// The same with words of its own; few processes have few, which are sooner cleared.
 fn write_image(cells: &[[u16; 24]], image: &mut [u8])
     requires { ⌜ Writable (now cells) (now image) ⌝ }
     ensures { λ _. ⌜
         now (image .exit) ≡ placed (now (image .entry)) 0 (bytesOf (imageOf (rowsOf (now (cells .entry)))))
         ⌝ }
 {
+    if cells.len() <= 5 {
+        let mut words = [0u32; FEW];
+        pack_image(cells, &mut words, image);
+        return;
+    }
     let mut words = [0u32; machine::IMAGE_WORDS];
-    write_cells(cells, &mut words);
-    let all = image_words(cells.len());
-    octets::pack(&words[..all], image);
+    pack_image(cells, &mut words, image);
 }
 
 // The words taken and the refusal as one number.
@@ -82,6 +103,10 @@ pub extern "C" fn zaguypo_run(input: &[u8], image: &mut [u8]) -> u64
 {
     if input.len() <= 4 * FEW {
         let mut words = [0u32; FEW];
+        return run_input(input, &mut words, image);
+    }
+    if input.len() <= 4 * SOME {
+        let mut words = [0u32; SOME];
         return run_input(input, &mut words, image);
     }
     let mut words = [0u32; machine::INPUT_WORDS];
