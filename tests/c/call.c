@@ -183,8 +183,19 @@ static void put_passes(unsigned passes) {
     for (unsigned i = 0; i < passes; i++) put_all(pass, 15);
 }
 
+/* Rounds from the table of an image of two processes: the first word meets 15. */
+static void broken_rounds(const uint32_t *image) {
+    struct zaguypo_row rows[2];
+    uint32_t left[14];
+    check("the image is read", zaguypo_read(image, 14, rows, 2).refusal == 0);
+    const struct zaguypo_rounded answer = zaguypo_rounds(rows, 2);
+    check("rounds meet 15", answer.refusal == 15 && answer.rounds == 0 && answer.occupied == 0);
+    check("no row changes", zaguypo_write(rows, 2, left, 14) == 0 && memcmp(left, image, sizeof left) == 0);
+}
+
 /* The cycle of section 4.1 of the paper, as often as can be counted. Process 1 sees act 1 of process 0, which then gives up, and
-   comes to 24, where it stays; process 0 passes it again and again. Each run goes on from the image that the one before left. */
+   comes to 24, where it stays; process 0 passes it again and again. Each run goes on from the image that the one before left.
+   Last, process 0 shows act 1 at 20 and process 1 waits for it, which rounds do not end (broken-rounds-end-nothing). */
 static void passed(void) {
     static const uint32_t to_24[10] = {0x20000000, 0x30000001, 0x20010000, 0x40010000, 0x40010000,
                                        0x50010000, 0x40010000, 0x40010000, 0x60000000, 0x40000000};
@@ -200,6 +211,10 @@ static void passed(void) {
     count = 0, put_all(after, 14), put_passes(17);
     after[1] = 0x90001000, after[11] = 0xE001FFFF;
     called("65,535 passes", 4 * count, 56, 256 * (16 * 15 + 1) + 15, after, 14);
+    count = 0, put_all(after, 14), put(0x30000001), put(0x40010000);
+    after[1] = 0x90001200, after[5] = 0x90012301;
+    called("process 1 waits for process 0", 4 * count, 56, 256 * 2, after, 14);
+    broken_rounds(after);
 }
 
 static void limits(void) {

@@ -1,5 +1,6 @@
--- The promises about images as C reads and writes them: each undoes the other. Assumes nothing.
-use Prim.Native.Nat.{ℕ, _≤_}
+-- The promises about images as C reads and writes them: reading undoes writing, and writing the reading of an image
+-- that is not bare. Assumes nothing.
+use Prim.Native.Nat.{ℕ, _≤_, _<_}
 use mathlib.Core.Path.{_≡_, refl, sym, ap, subst, _∙_}
 use mathlib.Core.Bool.{true, false}
 use mathlib.Core.List.{List}
@@ -9,12 +10,14 @@ use lib.ListN.{length, getD, take}
 use Rattle.counting.specs.Placing.{placed}
 use Rattle.counting.proofs.PlacingLaws.{take-first}
 use Rattle.machine.specs.Refusals.{accepted}
-use Rattle.machine.specs.Tables.{Table, sound, tableRefusal}
+use Rattle.machine.specs.Rows.{noPasses}
+use Rattle.machine.specs.Tables.{Table, row, sound, tableRefusal}
 use Rattle.machine.specs.Images.{saysPasses, imageRefusal, tableIn, imageOf, bareImageOf}
 use Rattle.machine.specs.Exports.{Loaded, loaded, readIn}
 use Rattle.machine.proofs.SoundRows.{sound-accepted}
 use Rattle.image_theorems.proofs.Reading.{Accepted, accepted-facts, facts-accepted}
-use Rattle.image_theorems.proofs.RoundTrip.{image-accepted, image-back, table-sound, table-image, table-bare}
+use Rattle.image_theorems.proofs.RoundTrip.{image-accepted, image-back, table-sound, table-image}
+use Rattle.image_theorems.proofs.RoundTrip.{table-bare, table-passes}
 use Rattle.exports.proofs.ExportLaws.{loaded-short, loaded-all, read-table, read-refused}
 
 -- The image of a sound table, read into rows that are enough, is that table in the first of them.
@@ -29,14 +32,15 @@ read-undoes-write t l s enough =
     ∙ ap (λ (u : Table). loaded u l) (image-back t ok)
     ∙ loaded-all t l enough
 
--- An image that was read leaves in the first rows, as many as the answer says, a sound table whose image it is, or its
--- bare image where its first word says that no passes follow.
--- Excludes: a bit that reading passes over; a table that writing then refuses.
+-- An image that was read leaves in the first rows, as many as the answer says, a sound table whose image it is; or,
+-- where its first word says that no passes follow, whose bare image it is, and whose counts are 0.
+-- Excludes: a bit that reading passes over; a table that writing then refuses; counts that the lent rows had before.
 pub write-undoes-read : (ws : List ℕ) (l : Table) → readIn ws l .answer .refusal ≡ accepted
     → let t = take (readIn ws l .answer .size) (readIn ws l .rows) in
     (tableRefusal t ≡ accepted)
     × (saysPasses (getD ws 0 0) ≡ true → imageOf t ≡ ws)
-    × (saysPasses (getD ws 0 0) ≡ false → bareImageOf t ≡ ws)
+    × (saysPasses (getD ws 0 0) ≡ false
+    → (bareImageOf t ≡ ws) × ((q : ℕ) → q < length t → row t q .passes ≡ noPasses))
 write-undoes-read ws l z = go (ℕ-discrete (imageRefusal ws .refusal) accepted) (decLe (length u) (length l))
   where
     u : Table
@@ -49,7 +53,8 @@ write-undoes-read ws l z = go (ℕ-discrete (imageRefusal ws .refusal) accepted)
     Good t =
         (tableRefusal t ≡ accepted)
         × (saysPasses (getD ws 0 0) ≡ true → imageOf t ≡ ws)
-        × (saysPasses (getD ws 0 0) ≡ false → bareImageOf t ≡ ws)
+        × (saysPasses (getD ws 0 0) ≡ false
+        → (bareImageOf t ≡ ws) × ((q : ℕ) → q < length t → row t q .passes ≡ noPasses))
 
     go : Dec (imageRefusal ws .refusal ≡ accepted) → Dec (length u ≤ length l) → Good (rows-of (readIn ws l))
     go (no bad) few = absurd (bad (sym (ap (λ (o : Loaded). o .answer .refusal) (read-refused ws l bad)) ∙ z))
@@ -62,5 +67,5 @@ write-undoes-read ws l z = go (ℕ-discrete (imageRefusal ws .refusal) accepted)
         subst Good (sym is) (
           table-sound ws _ _ facts,
           λ e. table-image ws _ (subst (Accepted ws _) e facts),
-          λ e. table-bare ws _ (subst (Accepted ws _) e facts),
+          λ e. let bare = subst (Accepted ws _) e facts in (table-bare ws _ bare, table-passes ws _ bare),
         )

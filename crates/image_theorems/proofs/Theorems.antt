@@ -34,7 +34,7 @@ written-read ws z full =
     let a = subst (Accepted ws _) full (accepted-facts ws y) in
     (read-accepted ws y, accepted-sound (tableIn ws) (table-sound ws _ true a), table-image ws _ a)
 
--- Reading the bare image of a table without passes gives that table.
+-- Reading the bare image of a table whose counts are 0 gives that table.
 -- Excludes: a count that is not 0 after reading; a bare image that is refused. Proved in RoundTrip.
 pub read-bare : (t : Table) → sound t ≡ true → ((q : ℕ) → q < length t → row t q .passes ≡ noPasses)
     → readImage (bareImageOf t) ≡ handed 0 0 t
@@ -44,7 +44,7 @@ read-bare t s none =
     (ap (λ f. f .refusal) (facts-accepted (bareImageOf t) (length t) false (bare-accepted t ok)))
     ∙ ap (handed 0 0) (bare-back t ok none)
 
--- A bare image that is read is that of the table read, which is sound and has no passes.
+-- A bare image that is read is that of the table read, which is sound and whose counts are 0.
 -- Excludes: a bit that reading passes over; a count that is taken from elsewhere. Proved in RoundTrip.
 pub bare-read : (ws : List ℕ)
     → readImage ws .refusal ≡ 0
@@ -62,7 +62,7 @@ bare-read ws z bare =
       table-bare ws _ a,
     )
 
--- Reading accepts exactly the images of sound tables, and the bare images of those without passes.
+-- Reading accepts exactly the images of sound tables, and the bare images of those whose counts are 0.
 pub accepts-exactly : (ws : List ℕ)
     → (readImage ws .refusal ≡ 0)
     ↔ (((t : Table) × (sound t ≡ true) × (imageOf t ≡ ws))

@@ -23,8 +23,8 @@ use Rattle.machine.proofs.Benchmarks.{evaluated}
 -- ---- both forms
 
 -- process 0 at 21, process 1 at 20, each with a count over the other
-abbrev passed : ℕ → ℕ → Table
-passed c d =
+abbrev between : ℕ → ℕ → Table
+between c d =
     withPasses (0 ∷ c ∷ replicate 14 0) (withLocation 21 (withAct 1 (withLevel 1 (withEst 2 idle))))
     ∷ withPasses (d ∷ replicate 15 0) (withLocation 20 idle)
     ∷ []
@@ -48,17 +48,17 @@ counted c d = 0xE0000000 ∷ (0xE0010000 + c) ∷ (0xE1000000 + d) ∷ 0xE101000
 
 -- without counts both are read to one table, which is written in the new form
 pub both-forms :
-    (Images.readImage bare ≡ handed 0 0 (passed 0 0))
-    × (Images.readImage (image (counted 0 0)) ≡ handed 0 0 (passed 0 0))
-    × (Images.imageOf (passed 0 0) ≡ image (counted 0 0))
-    × (Images.bareImageOf (passed 0 0) ≡ bare)
+    (Images.readImage bare ≡ handed 0 0 (between 0 0))
+    × (Images.readImage (image (counted 0 0)) ≡ handed 0 0 (between 0 0))
+    × (Images.imageOf (between 0 0) ≡ image (counted 0 0))
+    × (Images.bareImageOf (between 0 0) ≡ bare)
 unfolding upTo Images.readImage Images.imageOf Images.bareImageOf
 both-forms = (refl, refl, refl, refl)
 
 -- counts are read and written, that of q over r in the row of q
 pub counts-kept :
-    (Images.readImage (image (counted 2 3)) ≡ handed 0 0 (passed 2 3))
-    × (Images.imageOf (passed 2 3) ≡ image (counted 2 3))
+    (Images.readImage (image (counted 2 3)) ≡ handed 0 0 (between 2 3))
+    × (Images.imageOf (between 2 3) ≡ image (counted 2 3))
 unfolding upTo Images.readImage Images.imageOf
 counts-kept = (refl, refl)
 
@@ -72,7 +72,7 @@ entry c = runOf (Images.tableIn (image (counted 0 c))) (0x40010000 ∷ [])
 -- 65,535 is read; the GO meets 15, no word is taken and the table is as given
 pub full-stops :
     (Images.imageRefusal (image (counted 0 65535)) ≡ record { refusal = 0; place = 0 })
-    × (entry 65535 ≡ untaken (passed 0 65535) 15)
+    × (entry 65535 ≡ untaken (between 0 65535) 15)
     × (Images.imageOf (entry 65535 .table) ≡ image (counted 0 65535))
 unfolding entry Images.imageRefusal Images.imageOf
 full-stops = (refl, refl, refl)
@@ -166,9 +166,9 @@ wrong-lengths = refl
 -- an input is cut by its first word, after 14 words or after 10, and words of kind E after the 10 are event words;
 -- event words in the place of those of kind E make a bad image, and too few of them one that is too short
 pub cut-by-the-header :
-    (wordsHold (image (counted 2 3) ++ events) ≡ Input.Ready (passed 2 3) events)
-    × (wordsHold (bare ++ events) ≡ Input.Ready (passed 0 0) events)
-    × (wordsHold (bare ++ counted 2 3) ≡ Input.Ready (passed 0 0) (counted 2 3))
+    (wordsHold (image (counted 2 3) ++ events) ≡ Input.Ready (between 2 3) events)
+    × (wordsHold (bare ++ events) ≡ Input.Ready (between 0 0) events)
+    × (wordsHold (bare ++ counted 2 3) ≡ Input.Ready (between 0 0) (counted 2 3))
     × (wordsHold (image (events ++ events)) ≡ Input.BadImage 10 3)
     × (wordsHold (image events) ≡ Input.BadImage 12 2)
 unfolding upTo wordsHold
@@ -178,10 +178,10 @@ cut-by-the-header = (refl, refl, refl, refl, refl)
 
 -- 14 lent words have room for two processes, and one more is kept; 13 meet 13
 pub lent-words :
-    (Images.writtenOf (passed 2 3) (replicate 14 7) ≡ record { refusal = 0; words = image (counted 2 3) })
-    × (Images.writtenOf (passed 2 3) (replicate 15 7)
+    (Images.writtenOf (between 2 3) (replicate 14 7) ≡ record { refusal = 0; words = image (counted 2 3) })
+    × (Images.writtenOf (between 2 3) (replicate 15 7)
     ≡ record { refusal = 0; words = image (counted 2 3) ++ (7 ∷ []) })
-    × (Images.writtenOf (passed 2 3) (replicate 13 7) ≡ record { refusal = 13; words = replicate 13 7 })
+    × (Images.writtenOf (between 2 3) (replicate 13 7) ≡ record { refusal = 13; words = replicate 13 7 })
 unfolding placed Images.writtenOf
 lent-words = (refl, refl, refl)
 

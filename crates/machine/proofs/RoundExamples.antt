@@ -7,7 +7,8 @@ use mathlib.Core.List.{List, [], _∷_, map}
 use lib.ListN.{replicate}
 use Rattle.counting.specs.Sets.{lowest, lowestFrom}
 use Rattle.counting.specs.Ranges.{upTo}
-use Rattle.machine.specs.Rows.{idle, withLocation, withAct, withBb, withLevel, withEst, withLis, withPasses}
+use Rattle.machine.specs.Rows.{idle, withLocation, withAct, withBb, withLevel, withEst, withLis, withAhead}
+use Rattle.machine.specs.Rows.{withTurn, withPasses}
 use Rattle.machine.specs.Tables.{Table, locations, sound, freshTable}
 use Rattle.machine.specs.Steps.{afterWords}
 use Rattle.machine.specs.Census.{critical}
@@ -140,10 +141,13 @@ pub not-broken :
 unfolding completed
 not-broken = (refl, refl, refl, refl)
 
--- process 1 is at 20 and shows act after a FLICKER, and process 0 waits for it
+-- process 0 is at 20 and shows act after a FLICKER, and process 1 waits for it. Words lead there from a fresh table,
+-- with the cycle of section 4.1 of the paper done 65,535 times (tests/c/call.c)
 abbrev waitedFor : Table
 waitedFor =
-    withLocation 21 (withAct 1 (withBb 1 (withLevel 1 (withEst 2 idle)))) ∷ withAct 1 (entering 65535) ∷ []
+    withLocation 20 (withAct 1 (withEst 2 (withAhead 2 (withPasses (0 ∷ 65535 ∷ replicate 14 0) idle))))
+    ∷ withLocation 21 (withAct 1 (withBb 1 (withLevel 1 (withEst 1 (withTurn 1 idle)))))
+    ∷ []
 
 -- if rounds went on past the word that meets 15, nobody would ever come to 30: that the first round is unbroken is
 -- needed

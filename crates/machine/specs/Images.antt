@@ -114,7 +114,7 @@ bareHeaderOf n = 2 ^ 31 + n
 abbrev pub headerOf : ℕ → ℕ
 headerOf n = 2 ^ 31 + 2 ^ 24 + n
 
--- whether a first word says that passes follow, and how many processes it names
+-- of a header: whether passes follow, and how many processes it names
 abbrev pub saysPasses : ℕ → Bool
 saysPasses w = leb (headerOf 0) w
 

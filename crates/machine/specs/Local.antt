@@ -1,6 +1,6 @@
 -- What a step can tell of a table: its process's private variables and one shared cell (MANUAL, "Shared cells").
 --
---   Alike t u w       <=>  word w cannot tell table u from table t, where t accepts it, and does not meet 15 at u.
+--   Alike t u w       <=>  word w, which t accepts, cannot tell table u from table t, and w does not meet 15 at u.
 --   SameEffect t u w  <=>  w does the same to both.
 --
 -- Assumes nothing.

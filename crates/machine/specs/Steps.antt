@@ -4,7 +4,7 @@
 --   goRow n p c v r  ==  row r of process p after GO, but for turn[level] and for what 30 forgets; c is the set of
 --                        those that compete, v what turn[level] holds.
 --   moved t k p a    ==  the table after kind k, process p and argument a, where they are allowed.
---   raised c l       ==  the counts l with one more over each process in the set c; raisable c l: none passes 65,535.
+--   raised c l       ==  the counts l with one more over each process in the set c; raisable c l: none over 65,535.
 --   overflows t k p  <=> kind k of process p would carry a count past 65,535.
 --   refusalAt t k p a  ==  the first of 10, 11 and 15 that applies to kind k, process p and argument a, or 0.
 --   wordRefusal t w  ==  the first of 8 to 11 and 15 that applies to a word, or 0.

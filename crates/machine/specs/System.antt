@@ -9,10 +9,10 @@
 --
 -- A second reading of the paper: one constructor for each alternative, and then `cancels`; the guards are premises, the
 -- assignments stand in the paper's order, by the cell setters, the set operations and, for counts, a list by its places
--- alone. The step of Steps.antt is not used. pc is `location`, lwb is `ahead`, a[q, r] is place r of the `passes` of
--- row q and has no largest value here, Process is the set of numbers below N, and a flickering write is the choice (4)
--- of section 3.1: any value of the cell's type and the same location again, or the value with the rest of the
--- statement. Assumes nothing.
+-- alone. The step of Steps.antt is not used; of counts both have the same formula. pc is `location`, lwb is `ahead`,
+-- a[q, r] is place r of the `passes` of row q and has no largest value here, Process is the set of numbers below N, and
+-- a flickering write is the choice (4) of section 3.1: any value of the cell's type and the same location again, or the
+-- value with the rest of the statement. Assumes nothing.
 use Prim.Native.Nat.{ℕ, _+_, _-_, _≤_, _<_}
 use mathlib.Core.Path.{_≡_}
 use mathlib.Core.Bool.{true, _&&_}

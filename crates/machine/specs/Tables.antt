@@ -3,7 +3,7 @@
 --   row t q        ==   the row of process q; blank past the end.
 --   sound t        <=>  2 to 16 rows, each within its ranges: a well-formed state.
 --   tableRefusal t ==   the first of 6 and 7 that applies, or 0.
---   fresh t        <=>  sound, and every process at 10 with act 0, bb 0, ahead empty and no passes: an initial state.
+--   fresh t        <=>  sound, and every process at 10 with act 0, bb 0, ahead empty and counts 0: an initial state.
 --   freshTable n   ==   the fresh table of n processes in which everything else is 0 too.
 --   handed ..      ==   a refusal, a place and a table as they are handed back by value; madeFresh n is a fresh one so.
 --   competes r     <=>  at locations 21 to 30; competitors t is the set of those that compete, the paper's Cp.
@@ -95,7 +95,7 @@ unfoldable pub clear : List ℕ → Bool
 unfolding every
 clear l = every (λ i. eqb (getD l i 0) 0) 16
 
--- at 10 with act 0, bb 0, ahead empty and no passes
+-- at 10 with act 0, bb 0, ahead empty and every count 0
 abbrev pub resting : Row → Bool
 resting r =
     eqb (r .location) 10 && eqb (r .act) 0 && eqb (r .bb) 0 && eqb (r .ahead) 0 && clear (r .passes)
