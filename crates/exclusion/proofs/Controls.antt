@@ -16,7 +16,7 @@ use Rattle.counting.specs.Sets.{has, size, without, others}
 use Rattle.machine.specs.Rows.{idle, withLocation}
 use Rattle.machine.specs.Tables.{Table, sound, freshTable, competitors}
 use Rattle.machine.specs.Words.{COME, FLICKER, GO, LOOK, wordOf}
-use Rattle.machine.specs.Steps.{entered, passed, looked, reconsidered, goRow, flickered, forgets, gone, allowed}
+use Rattle.machine.specs.Steps.{entered, started, looked, reconsidered, goRow, flickered, forgets, gone, allowed}
 use Rattle.machine.specs.Steps.{argumentFits, afterWords}
 use Rattle.machine.specs.Census.{countRows, held, critical}
 
@@ -33,7 +33,7 @@ follow = entry 0 ++ (wordOf GO 0 0 ∷ wordOf FLICKER 0 0 ∷ entry 1)
 -- what the step computes with, to unfold at once
 unfoldable ran : List ℕ → Table
 unfolding has size without others competitors allowed argumentFits afterWords flickered
-    gone goRow forgets entered passed looked reconsidered
+    gone goRow forgets entered started looked reconsidered
 ran ws = afterWords (freshTable 2) ws
 
 pub one-at-30 : critical (afterWords (freshTable 2) (entry 0)) ≡ 1

@@ -20,7 +20,7 @@ use Rattle.machine.specs.Rows.{withLocation, withEst, withLis}
 use Rattle.machine.specs.Tables.{Table, row, competes}
 use Rattle.machine.specs.System as system
 use Rattle.machine.specs.System.{Step}
-use Rattle.machine.specs.System.Step.{rests, comes, flickers-20, enters, starts-pass, wins, discards, keeps, ends-pass}
+use Rattle.machine.specs.System.Step.{rests, comes, flickers-20, enters, starts-scan, wins, discards, keeps, ends-scan}
 use Rattle.machine.specs.System.Step.{lowers, to-push, waits, skips, flickers-24, pushes, exits, flickers-40, leaves}
 use Rattle.machine.specs.System.Step.{cancels}
 use Rattle.machine.specs.declared.Row.{Row}
@@ -147,7 +147,7 @@ module _ (t : Table) (p : ℕ) (l : p < length t) where
   effect-of i (comes e) = idle-set 10 _ e refl refl refl refl refl refl
   effect-of i (flickers-20 a e h) = idle-set 20 _ e refl (competes-at (row t p) 20 e) refl refl refl refl
   effect-of i (enters e) = entered e (set-becomes t p l _) (set-keeps-turns t p l _ refl)
-  effect-of i (starts-pass e h) =
+  effect-of i (starts-scan e h) =
       stay-inside 22 (row t p .est) (row t p .est) (omega arith, omega arith) (omega arith, omega arith) same-est
   effect-of i (wins e h) =
       stay-set 30 (row t p .lis) (row t p .est) (omega arith, omega arith) refl (λ z. omega arith)
@@ -159,7 +159,7 @@ module _ (t : Table) (p : ℕ) (l : p < length t) where
   effect-of i (keeps q e h n) =
       stay-inside (row t p .location) (without (row t p .lis) q) (row t p .est)
       (omega arith, omega arith) (omega arith, omega arith) same-est
-  effect-of i (ends-pass e h) =
+  effect-of i (ends-scan e h) =
       stay-inside 23 (row t p .lis) (row t p .est) (omega arith, omega arith) (omega arith, omega arith) same-est
   effect-of i (lowers e h) = lowered e h (set-becomes t p l _) (set-keeps-turns t p l _ refl)
   effect-of i (to-push e h z) = went-to-push e z (set-becomes t p l _) (set-keeps-turns t p l _ refl)

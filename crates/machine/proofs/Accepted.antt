@@ -23,13 +23,13 @@ use Rattle.machine.specs.Words.{FLICKER, GO, isKind, kindOf, processOf, 
 use Rattle.machine.specs.Steps.{raised, entered, looked, flickered, gone, moved, allowed, argumentFits}
 use Rattle.machine.specs.Steps.{overflows, wordRefusal, refusalOf, afterWord, afterWords}
 use Rattle.machine.specs.System.{Step}
-use Rattle.machine.specs.System.Step.{rests, comes, flickers-20, enters, starts-pass, wins, discards, keeps}
-use Rattle.machine.specs.System.Step.{ends-pass, lowers, to-push, waits, skips, flickers-24, pushes, exits}
+use Rattle.machine.specs.System.Step.{rests, comes, flickers-20, enters, starts-scan, wins, discards, keeps}
+use Rattle.machine.specs.System.Step.{ends-scan, lowers, to-push, waits, skips, flickers-24, pushes, exits}
 use Rattle.machine.specs.System.Step.{flickers-40, leaves, cancels}
 use Rattle.counting.proofs.TestLaws.{or-cases, cond-zero}
 use Rattle.machine.proofs.KindLaws.{by-kind}
 use Rattle.machine.proofs.OneOfLaws.{by-one}
-use Rattle.machine.proofs.Forms.{passed-cases, looked-cases, reconsidered-cases, gone-20, gone-21, gone-22}
+use Rattle.machine.proofs.Forms.{started-cases, looked-cases, reconsidered-cases, gone-20, gone-21, gone-22}
 use Rattle.machine.proofs.Forms.{gone-23, gone-40, flickered-act, flickered-turn, gone-push, gone-exit}
 
 -- ---- GO is a step at each location
@@ -40,10 +40,10 @@ module _ (t : Table) (p : ℕ) (l : p < length t) where
   go-20 e = rw (gone-20 t p e) (enters e)
 
   go-21 : row t p .location ≡ 21 → Step t p (gone t p)
-  go-21 e = rw (gone-21 t p e) (passed-cases (λ r. Step t p (set t p r)) (row t p) (starts-pass e) (wins e))
+  go-21 e = rw (gone-21 t p e) (started-cases (λ r. Step t p (set t p r)) (row t p) (starts-scan e) (wins e))
 
   go-22 : row t p .location ≡ 22 → row t p .lis ≡ 0 → Step t p (gone t p)
-  go-22 e z = rw (gone-22 t p e) (ends-pass e z)
+  go-22 e z = rw (gone-22 t p e) (ends-scan e z)
 
   go-23 : row t p .location ≡ 23 → Step t p (gone t p)
   go-23 e =

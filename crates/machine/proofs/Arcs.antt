@@ -23,8 +23,8 @@ use Rattle.machine.specs.Tables.{Table, row, oneOf, locations}
 use Rattle.machine.specs.Words.{processOf}
 use Rattle.machine.specs.Steps.{refusalOf, afterWord}
 use Rattle.machine.specs.System.{turnAssigned, Step, exited}
-use Rattle.machine.specs.System.Step.{rests, comes, flickers-20, enters, starts-pass, wins, discards, keeps}
-use Rattle.machine.specs.System.Step.{ends-pass, lowers, to-push, waits, skips, flickers-24, pushes, exits}
+use Rattle.machine.specs.System.Step.{rests, comes, flickers-20, enters, starts-scan, wins, discards, keeps}
+use Rattle.machine.specs.System.Step.{ends-scan, lowers, to-push, waits, skips, flickers-24, pushes, exits}
 use Rattle.machine.specs.System.Step.{flickers-40, leaves, cancels}
 use Rattle.machine.specs.declared.Row.{Row}
 use Rattle.machine.proofs.OneOfLaws.{eachPasses, by-test}
@@ -74,11 +74,11 @@ module _ (t : Table) (p : ℕ) (l : p < length t) where
   step-leads (comes e) = leads-set t _ 10 20 refl e refl refl
   step-leads (flickers-20 a e h) = leads-set t _ 20 20 refl e e refl
   step-leads (enters e) = leads-set t _ 20 21 refl e refl refl
-  step-leads (starts-pass e h) = leads-set t _ 21 22 refl e refl refl
+  step-leads (starts-scan e h) = leads-set t _ 21 22 refl e refl refl
   step-leads (wins e h) = leads-set t _ 21 30 refl e refl refl
   step-leads (discards q e h a) = leads-set t _ 22 22 refl e e refl
   step-leads (keeps q e h a) = leads-set t _ 22 22 refl e e refl
-  step-leads (ends-pass e h) = leads-set t _ 22 23 refl e refl refl
+  step-leads (ends-scan e h) = leads-set t _ 22 23 refl e refl refl
   step-leads (lowers e h) = leads-set t _ 23 21 refl e refl refl
   step-leads (to-push e h b) = leads-set t _ 23 24 refl e refl refl
   step-leads (waits e h b v) = leads-set t _ 23 21 refl e refl refl

@@ -20,7 +20,7 @@ use Rattle.machine.proofs.SoundRows.{sound-row}
 use Rattle.machine.proofs.Frames.{step-others}
 use Rattle.machine.proofs.StepRows.{stepRow, step-becomes}
 use Rattle.machine.proofs.RoundLaws.{Move, move-step}
-use Rattle.machine.proofs.RoundLaws.Move.{rests, enters, starts-pass, wins, discards, keeps, ends-pass, lowers}
+use Rattle.machine.proofs.RoundLaws.Move.{rests, enters, starts-scan, wins, discards, keeps, ends-scan, lowers}
 use Rattle.machine.proofs.RoundLaws.Move.{to-push, waits, skips, pushes, exits, leaves}
 
 -- the row of a process whose next move leads to 30
@@ -40,11 +40,11 @@ module _ (t : Table) (p : ℕ) where
   unfolding move-step
   own-arrives (rests e) = ap (λ (x : ℕ). eqb x 30) e ∙ elsewhere 10 e refl
   own-arrives (enters e) = elsewhere 20 e refl
-  own-arrives (starts-pass e h) = sym (at-21 e ∙ ne-eqb (row t p .level) 0 (λ z. absurd (omega arith)))
+  own-arrives (starts-scan e h) = sym (at-21 e ∙ ne-eqb (row t p .level) 0 (λ z. absurd (omega arith)))
   own-arrives (wins e h) = sym (at-21 e ∙ eq-eqb _ _ h)
   own-arrives (discards e h a) = ap (λ (x : ℕ). eqb x 30) e ∙ elsewhere 22 e refl
   own-arrives (keeps e h a) = ap (λ (x : ℕ). eqb x 30) e ∙ elsewhere 22 e refl
-  own-arrives (ends-pass e h) = elsewhere 22 e refl
+  own-arrives (ends-scan e h) = elsewhere 22 e refl
   own-arrives (lowers e h) = elsewhere 23 e refl
   own-arrives (to-push e h b) = elsewhere 23 e refl
   own-arrives (waits e h b v) = elsewhere 23 e refl

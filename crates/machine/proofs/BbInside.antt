@@ -12,8 +12,8 @@ use lib.Dec.{leb}
 use lib.ListN.{length}
 use Rattle.machine.specs.Tables.{Table, row, tableRefusal, competes}
 use Rattle.machine.specs.System.{Step}
-use Rattle.machine.specs.System.Step.{rests, comes, flickers-20, enters, starts-pass, wins, discards, keeps}
-use Rattle.machine.specs.System.Step.{ends-pass, lowers, to-push, waits, skips, flickers-24, pushes, exits}
+use Rattle.machine.specs.System.Step.{rests, comes, flickers-20, enters, starts-scan, wins, discards, keeps}
+use Rattle.machine.specs.System.Step.{ends-scan, lowers, to-push, waits, skips, flickers-24, pushes, exits}
 use Rattle.machine.specs.System.Step.{flickers-40, leaves, cancels}
 use Rattle.machine.specs.declared.Row.{Row}
 use Rattle.machine.proofs.Assignments.{competes-at}
@@ -37,11 +37,11 @@ module _ (t : Table) (p : ℕ) (z : tableRefusal t ≡ 0) (l : p < length t) (h 
   own (comes e) n = idle 10 e refl n
   own (flickers-20 a e b) n = idle 20 e refl n
   own (enters e) n = idle 20 e refl n
-  own (starts-pass e b) n = (refl, omega arith, b)
+  own (starts-scan e b) n = (refl, omega arith, b)
   own (wins e b) n = absurd (omega (arith, h p n .2))
   own (discards q e b a) n = h p n
   own (keeps q e b a) n = h p n
-  own (ends-pass e b) n = (refl, omega arith, h p n .2)
+  own (ends-scan e b) n = (refl, omega arith, h p n .2)
   own (lowers e b) n = absurd (n refl)
   own (to-push e b c) n = absurd (n c)
   own (waits e b c v) n = absurd (n refl)

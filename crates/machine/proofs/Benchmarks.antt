@@ -26,7 +26,7 @@ use Rattle.machine.specs.Exports.{printedIn}
 
 -- a run, with all that it computes with
 unfoldable pub evaluated : Table → List ℕ → Outcome
-unfolding Steps.turned Steps.forgets Steps.flickered Steps.entered Steps.passed Steps.looked Steps.reconsidered
+unfolding Steps.turned Steps.forgets Steps.flickered Steps.entered Steps.started Steps.looked Steps.reconsidered
     Steps.pushed Steps.goRow Steps.gone Steps.moved Steps.allowed Steps.argumentFits Steps.wordRefusal Steps.refusalOf
     Steps.afterWord Steps.eventOf soundFrom tableRefusal competitors sum count has setOf size without others runFrom
     runOf
@@ -233,7 +233,7 @@ overlap =
       waitings = 1;
     }
 
--- a push by the process of its own level, est looked through again, a pass that ends with a lower level
+-- a push by the process of its own level, est looked through again, a scan that ends with a lower level
 pushing : Example
 pushing =
     record {
@@ -257,7 +257,7 @@ pushing =
       waitings = 3;
     }
 
--- turn cells that flicker, a level lowered by one, a pass that skips
+-- turn cells that flicker, a level lowered by one, a scan that skips
 waiting-turn : Example
 waiting-turn =
     record {

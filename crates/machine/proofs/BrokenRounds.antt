@@ -37,7 +37,7 @@ use Rattle.machine.proofs.RoundLaws.{Move, move-step, process-moves-on,
 use Rattle.machine.proofs.RoundLaws.{roundTo-length, roundTo-sound, round-length, round-sound, by-moves}
 use Rattle.machine.proofs.RoundLaws.{rounds-zero, rounds-suc}
 use Rattle.machine.proofs.FullLaws.{full-word}
-use Rattle.machine.proofs.RoundLaws.Move.{rests, enters, starts-pass, wins, discards, keeps, ends-pass, lowers}
+use Rattle.machine.proofs.RoundLaws.Move.{rests, enters, starts-scan, wins, discards, keeps, ends-scan, lowers}
 use Rattle.machine.proofs.RoundLaws.Move.{to-push, waits, skips, pushes, exits, leaves}
 
 abbrev pub RoomyRow : Row → Type 0
@@ -54,11 +54,11 @@ module _ (t : Table) (p : ℕ) where
   unfolding move-step
   own-leaves (rests e) i = omega arith
   own-leaves (enters e) i = omega arith
-  own-leaves (starts-pass e h) i = omega arith
+  own-leaves (starts-scan e h) i = omega arith
   own-leaves (wins e h) i = omega arith
   own-leaves (discards e h a) i = omega arith
   own-leaves (keeps e h a) i = omega arith
-  own-leaves (ends-pass e h) i = omega arith
+  own-leaves (ends-scan e h) i = omega arith
   own-leaves (lowers e h) i = omega arith
   own-leaves (to-push e h b) i = omega arith
   own-leaves (waits e h b v) i = omega arith

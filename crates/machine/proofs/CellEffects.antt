@@ -26,8 +26,8 @@ use Rattle.machine.specs.Words.{processOf}
 use Rattle.machine.specs.Shared.{noCell, actRead, actWritten, turnRead, turnWritten, isWritten, own, present}
 use Rattle.machine.specs.Steps.{refusalOf, afterWord, cellOf}
 use Rattle.machine.specs.System.{assigned, turnAssigned, Cp, Step, stepWord, stepCell, exited}
-use Rattle.machine.specs.System.Step.{rests, comes, flickers-20, enters, starts-pass, wins, discards, keeps}
-use Rattle.machine.specs.System.Step.{ends-pass, lowers, to-push, waits, skips, flickers-24, pushes, exits}
+use Rattle.machine.specs.System.Step.{rests, comes, flickers-20, enters, starts-scan, wins, discards, keeps}
+use Rattle.machine.specs.System.Step.{ends-scan, lowers, to-push, waits, skips, flickers-24, pushes, exits}
 use Rattle.machine.specs.System.Step.{flickers-40, leaves, cancels}
 use Rattle.machine.specs.declared.Row.{Row}
 use Rattle.machine.specs.declared.SharedCell.{SharedCell}
@@ -205,9 +205,9 @@ module _ (t u : Table) (p : ℕ) (st : sound t ≡ true) (su : sound u ≡ true)
         follows (enters (at e)) refl refl
         (ap₂ (λ (k : ℕ) (r : Row). withLocation 21 (withEst (others k p) (withLevel (k - 1) r))) n same)
         (acting p t l _ refl) (acting p u lu _ refl)
-    follow (starts-pass e h) a b =
+    follow (starts-scan e h) a b =
         moves (λ r. withLocation 22 (withLis (r .est) r)) (λ r. refl)
-        (starts-pass (at e) (guard (λ r. 0 < r .level) h)) refl refl refl
+        (starts-scan (at e) (guard (λ r. 0 < r .level) h)) refl refl refl
     follow (wins e h) a b = moves (withLocation 30) (λ r. refl) (wins (at e) (level-same ∙ h)) refl refl refl
     follow (discards q e h v) a b =
         moves (λ r. withEst (without (r .est) q) (withLis (without (r .lis) q) r)) (λ r. refl)
@@ -215,8 +215,8 @@ module _ (t u : Table) (p : ℕ) (st : sound t ≡ true) (su : sound u ≡ true)
     follow (keeps q e h v) a b =
         moves (λ r. withLis (without (r .lis) q) r) (λ r. refl)
         (keeps q (at e) (guard (λ r. has (r .lis) q ≡ true) h) (λ z. v (sym (a q refl) ∙ z))) refl refl refl
-    follow (ends-pass e h) a b =
-        moves (withLocation 23) (λ r. refl) (ends-pass (at e) (guard (λ r. r .lis ≡ 0) h)) refl refl refl
+    follow (ends-scan e h) a b =
+        moves (withLocation 23) (λ r. refl) (ends-scan (at e) (guard (λ r. r .lis ≡ 0) h)) refl refl refl
     follow (lowers e h) a b =
         moves (λ r. withLocation 21 (withBb 0 (withLevel (size (r .est)) r))) (λ r. refl)
         (lowers (at e) (guard (λ r. size (r .est) < r .level) h)) refl refl refl

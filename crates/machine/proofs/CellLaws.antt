@@ -23,8 +23,8 @@ use Rattle.machine.specs.Words.{STAY, COME, FLICKER, GO, LOOK, CANCEL, k
 use Rattle.machine.specs.Shared.{noCell, cellAt, sameCell, isWritten, clash}
 use Rattle.machine.specs.Steps.{refusalOf, cellOf}
 use Rattle.machine.specs.System.{Step, stepWord, stepCell}
-use Rattle.machine.specs.System.Step.{rests, comes, flickers-20, enters, starts-pass, wins, discards, keeps}
-use Rattle.machine.specs.System.Step.{ends-pass, lowers, to-push, waits, skips, flickers-24, pushes, exits}
+use Rattle.machine.specs.System.Step.{rests, comes, flickers-20, enters, starts-scan, wins, discards, keeps}
+use Rattle.machine.specs.System.Step.{ends-scan, lowers, to-push, waits, skips, flickers-24, pushes, exits}
 use Rattle.machine.specs.System.Step.{flickers-40, leaves, cancels}
 use Rattle.machine.specs.declared.SharedCell.{SharedCell}
 use Rattle.counting.proofs.TestLaws.{same-test, split}
@@ -70,11 +70,11 @@ module _ (t : Table) (p : ℕ) (h : sound t ≡ true) (l : p < length t) where
       go (comes e) = cell-at COME 0 10 (omega arith) e
       go (flickers-20 a e i) = cell-at FLICKER a 20 (omega arith) e
       go (enters e) = cell-at GO 0 20 (omega arith) e
-      go (starts-pass e i) = cell-at GO 0 21 (omega arith) e
+      go (starts-scan e i) = cell-at GO 0 21 (omega arith) e
       go (wins e i) = cell-at GO 0 21 (omega arith) e
       go (discards q e i a) = cell-at LOOK q 22 (member-low t p (sound-accepted t h) l q i) e
       go (keeps q e i a) = cell-at LOOK q 22 (member-low t p (sound-accepted t h) l q i) e
-      go (ends-pass e i) = cell-at GO 0 22 (omega arith) e
+      go (ends-scan e i) = cell-at GO 0 22 (omega arith) e
       go (lowers e i) = λ z. cell-at GO 0 23 (omega arith) e z ∙ rw (lt-ltb _ _ i)
       go (to-push e i b) = λ z. cell-at GO 0 23 (omega arith) e z ∙ rw (le-ltb _ _ i, eq-eqb _ _ b)
       go (waits e i b v) = λ z. cell-at GO 0 23 (omega arith) e z ∙ rw (le-ltb _ _ i, ne-eqb _ _ b)

@@ -29,7 +29,7 @@ use Rattle.machine.proofs.KindLaws.{by-kind}
 use Rattle.machine.proofs.OneOfLaws.{by-one}
 use Rattle.machine.proofs.TableLaws.{row-same, turn-same, turn-free}
 use Rattle.machine.proofs.SoundRows.{SoundRow}
-use Rattle.machine.proofs.Forms.{passed-cases, reconsidered-cases, gone-20, gone-21, gone-22, gone-23, gone-40}
+use Rattle.machine.proofs.Forms.{started-cases, reconsidered-cases, gone-20, gone-21, gone-22, gone-23, gone-40}
 use Rattle.machine.proofs.Forms.{flickered-act, flickered-turn, gone-push, gone-exit}
 
 -- ---- the kind
@@ -60,7 +60,7 @@ module _ (t : Table) (p : ℕ) (l : p < length t) where
   go-21-tells : row t p .location ≡ 21 → Tells GO (gone t p)
   go-21-tells e =
       rw (gone-21 t p e)
-      (passed-cases (λ r. Tells GO (set t p r)) (row t p)
+      (started-cases (λ r. Tells GO (set t p r)) (row t p)
       (λ h. tells-set _ 21 22 e refl)
       (λ h. tells-set _ 21 30 e refl))
 

@@ -3,7 +3,7 @@
 -- System.antt assigns in the paper's order, Steps.antt row by row: at 24 the turn cell comes first in the one and last
 -- in the other, also where level is p itself; at 30 p leaves the ahead sets before, or after, its own row is set.
 --
---   passed-cases, looked-cases, reconsidered-cases    the alternatives of GO at 21, LOOK and GO at 23
+--   started-cases, looked-cases, reconsidered-cases    the alternatives of GO at 21, LOOK and GO at 23
 --   gone-20 .. gone-40                                what GO is at each location, by rows
 --   flickered-act, flickered-turn                     what FLICKER is
 --   push-forms                                        an assignment to a turn cell, before or after one to a row
@@ -24,7 +24,7 @@ use borrow.Author.Tests.{eqb-true, eqb-false, ltb-true, ltb-false, ne-eqb}
 use Rattle.counting.specs.Sets.{size, without, others}
 use Rattle.machine.specs.Rows.{withLocation, withAct, withBb, withLevel, withEst, withLis, withAhead, withTurn}
 use Rattle.machine.specs.Tables.{Table, row, competitors}
-use Rattle.machine.specs.Steps.{entered, passed, looked, reconsidered, pushed, goRow, turned, forgets, flickered}
+use Rattle.machine.specs.Steps.{entered, started, looked, reconsidered, pushed, goRow, turned, forgets, flickered}
 use Rattle.machine.specs.Steps.{gone}
 use Rattle.machine.specs.System.{assigned, turnAssigned, exited}
 use Rattle.machine.specs.declared.Row.{Row}
@@ -33,12 +33,12 @@ use Rattle.machine.proofs.TableLaws.{row-same, row-other, row-map, turn
 
 -- ---- rows that branch: what holds of each alternative holds of the row
 
-pub passed-cases : (P : Row → Type 0) (r : Row)
+pub started-cases : (P : Row → Type 0) (r : Row)
     → (0 < r .level → P (withLocation 22 (withLis (r .est) r)))
     → (r .level ≡ 0 → P (withLocation 30 r))
-    → P (passed r)
-unfolding passed
-passed-cases P r some none =
+    → P (started r)
+unfolding started
+started-cases P r some none =
     split (λ b. P (cond b (withLocation 22 (withLis (r .est) r)) (withLocation 30 r))) (ltb 0 (r .level))
     (λ h. some (ltb-true _ _ h))
     (λ h. none (omega (arith, ltb-false 0 (r .level) h)))
@@ -82,7 +82,7 @@ module _ (t : Table) (p : ℕ) where
   unfolding gone goRow
   gone-20 e = rw e
 
-  pub gone-21 : row t p .location ≡ 21 → gone t p ≡ set t p (passed (row t p))
+  pub gone-21 : row t p .location ≡ 21 → gone t p ≡ set t p (started (row t p))
   unfolding gone goRow
   gone-21 e = rw e
 

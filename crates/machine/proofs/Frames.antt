@@ -13,8 +13,8 @@ use Rattle.counting.specs.Sets.{without}
 use Rattle.machine.specs.Rows.{withAhead, withTurn, withPasses}
 use Rattle.machine.specs.Tables.{Table, row}
 use Rattle.machine.specs.System.{turnAssigned, Step, exited}
-use Rattle.machine.specs.System.Step.{rests, comes, flickers-20, enters, starts-pass, wins, discards, keeps}
-use Rattle.machine.specs.System.Step.{ends-pass, lowers, to-push, waits, skips, flickers-24, pushes, exits}
+use Rattle.machine.specs.System.Step.{rests, comes, flickers-20, enters, starts-scan, wins, discards, keeps}
+use Rattle.machine.specs.System.Step.{ends-scan, lowers, to-push, waits, skips, flickers-24, pushes, exits}
 use Rattle.machine.specs.System.Step.{flickers-40, leaves, cancels}
 use Rattle.machine.specs.declared.Row.{Row}
 use Rattle.machine.proofs.TableLaws.{row-other, turn-free, map-free}
@@ -42,11 +42,11 @@ module _ (P : Row → Type 0) (t : Table) (p q : ℕ) (ne : q ≢ p)
     other-row (comes e) h = same t _ h
     other-row (flickers-20 a e b) h = same t _ h
     other-row (enters e) h = same t _ h
-    other-row (starts-pass e b) h = same t _ h
+    other-row (starts-scan e b) h = same t _ h
     other-row (wins e b) h = same t _ h
     other-row (discards x e b a) h = same t _ h
     other-row (keeps x e b a) h = same t _ h
-    other-row (ends-pass e b) h = same t _ h
+    other-row (ends-scan e b) h = same t _ h
     other-row (lowers e b) h = same t _ h
     other-row (to-push e a b) h = same t _ h
     other-row (waits e a b v) h = same t _ h

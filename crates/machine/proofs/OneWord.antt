@@ -21,11 +21,11 @@ use Rattle.machine.specs.Rows.{withLocation, withAct}
 use Rattle.machine.specs.Tables.{Table, row, oneOf, sound, tableRefusal, competitors}
 use Rattle.machine.specs.Words.{STAY, COME, FLICKER, GO, LOOK, CANCEL, isKind, kindOf, processOf, argumentOf}
 use Rattle.machine.specs.Words.{spareClear, formed, wordOf}
-use Rattle.machine.specs.Steps.{raised, entered, passed, looked, reconsidered, gone, moved, allowed, argumentFits}
+use Rattle.machine.specs.Steps.{raised, entered, started, looked, reconsidered, gone, moved, allowed, argumentFits}
 use Rattle.machine.specs.Steps.{raisable, overflows, wordRefusal, refusalOf, afterWord}
 use Rattle.machine.specs.System.{assigned, Cp, Step, stepWord}
-use Rattle.machine.specs.System.Step.{rests, comes, flickers-20, enters, starts-pass, wins, discards, keeps}
-use Rattle.machine.specs.System.Step.{ends-pass, lowers, to-push, waits, skips, flickers-24, pushes, exits}
+use Rattle.machine.specs.System.Step.{rests, comes, flickers-20, enters, starts-scan, wins, discards, keeps}
+use Rattle.machine.specs.System.Step.{ends-scan, lowers, to-push, waits, skips, flickers-24, pushes, exits}
 use Rattle.machine.specs.System.Step.{flickers-40, leaves, cancels}
 use Rattle.machine.specs.declared.Row.{Row}
 use Rattle.machine.proofs.OneOfLaws.{oneOf-at}
@@ -221,18 +221,18 @@ module _ (t : Table) (p : ℕ) (z : tableRefusal t ≡ 0) (l : p < length t) whe
   one : {u : Table} (x : Step t p u)
       → (row t p .location ≡ 20 → row u p .location ≡ 21 → Room t p)
       → One t p u (stepWord p x)
-  unfolding allowed argumentFits moved entered raised competitors passed looked reconsidered overflows
+  unfolding allowed argumentFits moved entered raised competitors started looked reconsidered overflows
   one (rests e) room = chosen STAY 0 refl (eq-eqb _ _ e) refl (omega arith) refl refl
   one (comes e) room = chosen COME 0 refl (eq-eqb _ _ e) refl (omega arith) refl refl
   one (flickers-20 a e h) room = chosen-act 20 a e refl (omega arith) h
   one (enters e) room =
       let fit = room e (ap (λ (r : Row). r .location) (row-same t p _ l)) in
       chosen-go 20 e refl (room-fits t p fit) (gone-20 t p e)
-  one (starts-pass e h) room = chosen-on 21 e refl refl (gone-21 t p e ∙ rw (lt-ltb _ _ h))
+  one (starts-scan e h) room = chosen-on 21 e refl refl (gone-21 t p e ∙ rw (lt-ltb _ _ h))
   one (wins e h) room = chosen-on 21 e refl refl (gone-21 t p e ∙ rw (le-ltb 0 (row t p .level) (omega arith)))
   one (discards q e h a) room = chosen-look q e h (rw (eq-eqb _ _ a))
   one (keeps q e h a) room = chosen-look q e h (rw (ne-eqb _ _ a))
-  one (ends-pass e h) room =
+  one (ends-scan e h) room =
       chosen GO 0 refl
       (or-eq-true-iff (oneOf (row t p .location) goes) _ .1
       (Or·inr (and-eq-true-iff (eqb (row t p .location) 22) (eqb (row t p .lis) 0) .1 (eq-eqb _ _ e, eq-eqb _ _ h))))
@@ -317,11 +317,11 @@ one-word t u p h l x = go x
         plain (flickers-20 a e k)
         (λ i f. absurd (omega (arith, ap (λ (r : Row). r .location) (row-same t p (withAct a (row t p)) l))))
     go (enters e) = enter e (raisable (Cp t) (row t p .passes)) refl
-    go (starts-pass e k) = from (starts-pass e k) 21 e (omega arith)
+    go (starts-scan e k) = from (starts-scan e k) 21 e (omega arith)
     go (wins e k) = from (wins e k) 21 e (omega arith)
     go (discards q e k a) = from (discards q e k a) 22 e (omega arith)
     go (keeps q e k a) = from (keeps q e k a) 22 e (omega arith)
-    go (ends-pass e k) = from (ends-pass e k) 22 e (omega arith)
+    go (ends-scan e k) = from (ends-scan e k) 22 e (omega arith)
     go (lowers e k) = from (lowers e k) 23 e (omega arith)
     go (to-push e k b) = from (to-push e k b) 23 e (omega arith)
     go (waits e k b v) = from (waits e k b v) 23 e (omega arith)

@@ -50,7 +50,7 @@ pub data Move (t : Table) (p : ℕ) : Table → Type 0 where
       withLocation 21
       (withEst (others (length t) p)
       (withLevel (length t - 1) (withAct 1 (withAhead (Cp t) (withPasses (incremented (Cp t) (r .passes)) r)))))))
-  starts-pass :
+  starts-scan :
       row t p .location ≡ 21 → 0 < row t p .level
       → Move t p (assigned t p (λ r. withLocation 22 (withLis (r .est) r)))
   wins : row t p .location ≡ 21 → row t p .level ≡ 0 → Move t p (assigned t p (withLocation 30))
@@ -64,7 +64,7 @@ pub data Move (t : Table) (p : ℕ) : Table → Type 0 where
       row t p .location ≡ 22 → has (row t p .lis) (lowest (row t p .lis)) ≡ true
       → (row t (lowest (row t p .lis)) .act ≡ 0 → ⊥)
       → Move t p (assigned t p (λ r. withLis (without (r .lis) (lowest (r .lis))) r))
-  ends-pass : row t p .location ≡ 22 → row t p .lis ≡ 0 → Move t p (assigned t p (withLocation 23))
+  ends-scan : row t p .location ≡ 22 → row t p .lis ≡ 0 → Move t p (assigned t p (withLocation 23))
   lowers :
       row t p .location ≡ 23 → size (row t p .est) < row t p .level
       → Move t p (assigned t p (λ r. withLocation 21 (withBb 0 (withLevel (size (r .est)) r))))
@@ -94,11 +94,11 @@ pub data Move (t : Table) (p : ℕ) : Table → Type 0 where
 unfoldable pub move-step : {t u : Table} {p : ℕ} → Move t p u → Step t p u
 move-step (rests e) = Step.rests e
 move-step (enters e) = Step.enters e
-move-step (starts-pass e h) = Step.starts-pass e h
+move-step (starts-scan e h) = Step.starts-scan e h
 move-step (wins e h) = Step.wins e h
 move-step {t} {p = p} (discards e h a) = Step.discards (lowest (row t p .lis)) e h a
 move-step {t} {p = p} (keeps e h a) = Step.keeps (lowest (row t p .lis)) e h a
-move-step (ends-pass e h) = Step.ends-pass e h
+move-step (ends-scan e h) = Step.ends-scan e h
 move-step (lowers e h) = Step.lowers e h
 move-step (to-push e h b) = Step.to-push e h b
 move-step (waits e h b v) = Step.waits e h b v
@@ -130,11 +130,11 @@ module _ (t : Table) (p : ℕ) where
   unfolding move-step
   move-word (rests e) = word-at 10 e
   move-word (enters e) = word-at 20 e
-  move-word (starts-pass e h) = word-at 21 e
+  move-word (starts-scan e h) = word-at 21 e
   move-word (wins e h) = word-at 21 e
   move-word (discards e h a) = word-look e h
   move-word (keeps e h a) = word-look e h
-  move-word (ends-pass e h) =
+  move-word (ends-scan e h) =
       word-at 22 e
       ∙ ap (λ (s : ℕ). cond (not (eqb s 0)) (wordOf LOOK p (lowest (row t p .lis))) (wordOf GO p 0)) h
   move-word (lowers e h) = word-at 23 e
@@ -149,11 +149,11 @@ module _ (t : Table) (p : ℕ) where
 
 module _ (t : Table) (p : ℕ) where
   at-21 : row t p .location ≡ 21 → Dec (0 < row t p .level) → (u : Table) × Move t p u
-  at-21 e (yes h) = (_, starts-pass e h)
+  at-21 e (yes h) = (_, starts-scan e h)
   at-21 e (no nh) = (_, wins e (omega (arith, nh)))
 
   at-22 : row t p .location ≡ 22 → row t p .lis < 2 ^ 16 → Dec (row t p .lis ≡ 0) → (u : Table) × Move t p u
-  at-22 e l (yes z) = (_, ends-pass e z)
+  at-22 e l (yes z) = (_, ends-scan e z)
   at-22 e l (no nz) = look (ℕ-discrete (row t (lowest (row t p .lis)) .act) 0)
     where
       member : has (row t p .lis) (lowest (row t p .lis)) ≡ true

@@ -24,8 +24,8 @@ use Rattle.machine.specs.Tables.{Table, row, oneOf, locations, tableRefu
 use Rattle.machine.specs.Words.{GO, isKind, kindOf, processOf, argumentOf}
 use Rattle.machine.specs.Steps.{moved, allowed, raisable, overflows, refusalOf, afterWord, afterWords}
 use Rattle.machine.specs.System.{assigned, turnAssigned, Cp, incremented, exited, Step}
-use Rattle.machine.specs.System.Step.{rests, comes, flickers-20, enters, starts-pass, wins, discards, keeps}
-use Rattle.machine.specs.System.Step.{ends-pass, lowers, to-push, waits, skips, flickers-24, pushes, exits}
+use Rattle.machine.specs.System.Step.{rests, comes, flickers-20, enters, starts-scan, wins, discards, keeps}
+use Rattle.machine.specs.System.Step.{ends-scan, lowers, to-push, waits, skips, flickers-24, pushes, exits}
 use Rattle.machine.specs.System.Step.{flickers-40, leaves, cancels}
 use Rattle.machine.specs.declared.Row.{Row}
 use Rattle.machine.proofs.KindLaws.{by-kind}
@@ -114,7 +114,7 @@ step-sound {t} p few l s (enters e) room =
     (incremented-sound (length t) p (Cp t) (row t p .passes) (own s p l .passes-fit) (Cp-fits t)
     (not-among t p l e) fit) in
     sound-set s p _ l (sound-est counted (others (length t) p) (others-lt (length t) p))
-step-sound {t} p few l s (starts-pass e h) room =
+step-sound {t} p few l s (starts-scan e h) room =
     let o = own s p l in
     let placed = sound-moved o 22 (row t p .level) refl (o .level-low) (λ x y. h) (omega arith) in
     sound-set s p _ l (sound-lis placed (row t p .est) (o .est-low))
@@ -124,7 +124,7 @@ step-sound {t} p few l s (discards q e h a) room =
     let fits = without-fits (row t p .est) q (length t) few (o .est-low) in
     sound-set s p _ l (sound-est (sound-seen s p l few q) (without (row t p .est) q) fits)
 step-sound {t} p few l s (keeps q e h a) room = sound-set s p _ l (sound-seen s p l few q)
-step-sound {t} p few l s (ends-pass e h) room =
+step-sound {t} p few l s (ends-scan e h) room =
     sound-placed s p l 23 refl (λ x y. high s p l 22 e refl refl) (omega arith)
 step-sound {t} p few l s (lowers e h) room =
     sound-lowered s p l (size (row t p .est)) (let k = own s p l .level-low in omega arith)
@@ -249,11 +249,11 @@ step-keeps-length t u p x = go x
     go (comes e) = simp length-set
     go (flickers-20 a e h) = simp length-set
     go (enters e) = simp length-set
-    go (starts-pass e h) = simp length-set
+    go (starts-scan e h) = simp length-set
     go (wins e h) = simp length-set
     go (discards q e h a) = simp length-set
     go (keeps q e h a) = simp length-set
-    go (ends-pass e h) = simp length-set
+    go (ends-scan e h) = simp length-set
     go (lowers e h) = simp length-set
     go (to-push e h b) = simp length-set
     go (waits e h b v) = simp length-set

@@ -19,8 +19,8 @@ use Rattle.machine.specs.Rows.{blank, withLocation, withAct, withBb, wit
 use Rattle.machine.specs.Rows.{withPasses}
 use Rattle.machine.specs.Tables.{Table, row}
 use Rattle.machine.specs.System.{Cp, incremented, exited, Step}
-use Rattle.machine.specs.System.Step.{rests, comes, flickers-20, enters, starts-pass, wins, discards, keeps}
-use Rattle.machine.specs.System.Step.{ends-pass, lowers, to-push, waits, skips, flickers-24, pushes, exits}
+use Rattle.machine.specs.System.Step.{rests, comes, flickers-20, enters, starts-scan, wins, discards, keeps}
+use Rattle.machine.specs.System.Step.{ends-scan, lowers, to-push, waits, skips, flickers-24, pushes, exits}
 use Rattle.machine.specs.System.Step.{flickers-40, leaves, cancels}
 use Rattle.machine.specs.declared.Row.{Row}
 use Rattle.machine.proofs.Assignments.{bare, Becomes, set-becomes, turn-becomes, turn-set-becomes, map-becomes}
@@ -51,11 +51,11 @@ module _ (t : Table) (p : ℕ) where
   stepRow (comes e) = withLocation 20 (row t p)
   stepRow (flickers-20 a e h) = withAct a (row t p)
   stepRow (enters e) = enteredRow t p
-  stepRow (starts-pass e h) = withLocation 22 (withLis (row t p .est) (row t p))
+  stepRow (starts-scan e h) = withLocation 22 (withLis (row t p .est) (row t p))
   stepRow (wins e h) = withLocation 30 (row t p)
   stepRow (discards q e h a) = withEst (without (row t p .est) q) (withLis (without (row t p .lis) q) (row t p))
   stepRow (keeps q e h a) = withLis (without (row t p .lis) q) (row t p)
-  stepRow (ends-pass e h) = withLocation 23 (row t p)
+  stepRow (ends-scan e h) = withLocation 23 (row t p)
   stepRow (lowers e h) = loweredRow (size (row t p .est)) (row t p)
   stepRow (to-push e h b) = withLocation 24 (row t p)
   stepRow (waits e h b v) = loweredRow (row t p .level - 1) (row t p)
@@ -72,11 +72,11 @@ module _ (t : Table) (p : ℕ) where
   stepAhead (comes e) s = s
   stepAhead (flickers-20 a e h) s = s
   stepAhead (enters e) s = s
-  stepAhead (starts-pass e h) s = s
+  stepAhead (starts-scan e h) s = s
   stepAhead (wins e h) s = s
   stepAhead (discards q e h a) s = s
   stepAhead (keeps q e h a) s = s
-  stepAhead (ends-pass e h) s = s
+  stepAhead (ends-scan e h) s = s
   stepAhead (lowers e h) s = s
   stepAhead (to-push e h b) s = s
   stepAhead (waits e h b v) s = s
@@ -93,11 +93,11 @@ module _ (t : Table) (p : ℕ) where
   stepPasses (comes e) l = l
   stepPasses (flickers-20 a e h) l = l
   stepPasses (enters e) l = l
-  stepPasses (starts-pass e h) l = l
+  stepPasses (starts-scan e h) l = l
   stepPasses (wins e h) l = l
   stepPasses (discards q e h a) l = l
   stepPasses (keeps q e h a) l = l
-  stepPasses (ends-pass e h) l = l
+  stepPasses (ends-scan e h) l = l
   stepPasses (lowers e h) l = l
   stepPasses (to-push e h b) l = l
   stepPasses (waits e h b v) l = l
@@ -118,11 +118,11 @@ module _ (t : Table) (p : ℕ) where
     step-becomes (comes e) = set-becomes t p l _
     step-becomes (flickers-20 a e h) = set-becomes t p l _
     step-becomes (enters e) = set-becomes t p l _
-    step-becomes (starts-pass e h) = set-becomes t p l _
+    step-becomes (starts-scan e h) = set-becomes t p l _
     step-becomes (wins e h) = set-becomes t p l _
     step-becomes (discards q e h a) = set-becomes t p l _
     step-becomes (keeps q e h a) = set-becomes t p l _
-    step-becomes (ends-pass e h) = set-becomes t p l _
+    step-becomes (ends-scan e h) = set-becomes t p l _
     step-becomes (lowers e h) = set-becomes t p l _
     step-becomes (to-push e h b) = set-becomes t p l _
     step-becomes (waits e h b v) = set-becomes t p l _

@@ -57,9 +57,9 @@ entered n p c r =
     withLocation 21
     (withAct 1 (withLevel (n - 1) (withEst (others n p) (withAhead c (withPasses (raised c (r .passes)) r)))))
 
--- GO at 21: with a level above 0 lis becomes est, to 22; else to 30. The pass that begins at 22 is over lis
-unfoldable pub passed : Row → Row
-passed r = cond (ltb 0 (r .level)) (withLocation 22 (withLis (r .est) r)) (withLocation 30 r)
+-- GO at 21: with a level above 0 lis becomes est, and a scan over lis starts at 22; else to 30
+unfoldable pub started : Row → Row
+started r = cond (ltb 0 (r .level)) (withLocation 22 (withLis (r .est) r)) (withLocation 30 r)
 
 -- LOOK at q, whose act is v: q leaves lis, and est too where v is 0
 unfoldable pub looked : ℕ → ℕ → Row → Row
@@ -81,7 +81,7 @@ pushed n p c r = withLocation 21 (withBb 1 (withEst (others n p) (withAhead (wit
 unfoldable pub goRow : ℕ → ℕ → ℕ → ℕ → Row → Row
 goRow n p c v r =
     cond (eqb (r .location) 20) (entered n p c r)
-    (cond (eqb (r .location) 21) (passed r)
+    (cond (eqb (r .location) 21) (started r)
     (cond (eqb (r .location) 22) (withLocation 23 r)
     (cond (eqb (r .location) 23) (reconsidered p v r)
     (cond (eqb (r .location) 24) (pushed n p c r)

@@ -66,7 +66,7 @@ pub data Step (t : Table) (p : ℕ) : Table → Type 0 where
       (withEst (others (length t) p)
       (withLevel (length t - 1) (withAct 1 (withAhead (Cp t) (withPasses (incremented (Cp t) (r .passes)) r)))))))
   -- 21: if level > 0 then lis := est; goto 22 else goto 30
-  starts-pass :
+  starts-scan :
       row t p .location ≡ 21 → 0 < row t p .level
       → Step t p (assigned t p (λ r. withLocation 22 (withLis (r .est) r)))
   wins : row t p .location ≡ 21 → row t p .level ≡ 0 → Step t p (assigned t p (withLocation 30))
@@ -77,7 +77,7 @@ pub data Step (t : Table) (p : ℕ) : Table → Type 0 where
   keeps :
       (q : ℕ) → row t p .location ≡ 22 → has (row t p .lis) q ≡ true → (row t q .act ≡ 0 → ⊥)
       → Step t p (assigned t p (λ r. withLis (without (r .lis) q) r))
-  ends-pass : row t p .location ≡ 22 → row t p .lis ≡ 0 → Step t p (assigned t p (withLocation 23))
+  ends-scan : row t p .location ≡ 22 → row t p .lis ≡ 0 → Step t p (assigned t p (withLocation 23))
   -- 23: if #est < level then level := #est; bb := false
   lowers :
       row t p .location ≡ 23 → size (row t p .est) < row t p .level
@@ -122,11 +122,11 @@ stepWord p (rests e) = wordOf STAY p 0
 stepWord p (comes e) = wordOf COME p 0
 stepWord p (flickers-20 a e h) = wordOf FLICKER p a
 stepWord p (enters e) = wordOf GO p 0
-stepWord p (starts-pass e h) = wordOf GO p 0
+stepWord p (starts-scan e h) = wordOf GO p 0
 stepWord p (wins e h) = wordOf GO p 0
 stepWord p (discards q e h a) = wordOf LOOK p q
 stepWord p (keeps q e h a) = wordOf LOOK p q
-stepWord p (ends-pass e h) = wordOf GO p 0
+stepWord p (ends-scan e h) = wordOf GO p 0
 stepWord p (lowers e h) = wordOf GO p 0
 stepWord p (to-push e h b) = wordOf GO p 0
 stepWord p (waits e h b v) = wordOf GO p 0
@@ -145,11 +145,11 @@ stepCell p (rests e) = noCell
 stepCell p (comes e) = noCell
 stepCell p (flickers-20 a e h) = actWritten p
 stepCell p (enters e) = actWritten p
-stepCell p (starts-pass e h) = noCell
+stepCell p (starts-scan e h) = noCell
 stepCell p (wins e h) = noCell
 stepCell p (discards q e h a) = actRead q
 stepCell p (keeps q e h a) = actRead q
-stepCell p (ends-pass e h) = noCell
+stepCell p (ends-scan e h) = noCell
 stepCell p (lowers e h) = noCell
 stepCell p (to-push e h b) = noCell
 stepCell {t} p (waits e h b v) = turnRead (row t p .level)

@@ -9,7 +9,7 @@ ghost use Rattle.sets.specs.Bounds.{Among};
 ghost use Rattle.counting.specs.Sets.{without};
 ghost use Rattle.machine.specs.Rows.{withLocation, withAct, withAhead};
 ghost use Rattle.machine.specs.Shared.{asksTurn};
-ghost use Rattle.machine.specs.Steps.{entered, passed, looked, reconsidered, pushed, raisable};
+ghost use Rattle.machine.specs.Steps.{entered, started, looked, reconsidered, pushed, raisable};
 
 // To a location, with everything else kept.
 pub fn moved_to(l: u16, r: Row) -> Row
@@ -65,8 +65,8 @@ pub fn entered(n: u16, p: u16, c: u16, r: Row) -> Row
 }
 
 // GO at 21: to 22 with lis as est, or at level 0 to 30.
-pub fn passed(r: Row) -> Row
-    ensures { λ s. ⌜ s ≡ passed r ⌝ }
+pub fn started(r: Row) -> Row
+    ensures { λ s. ⌜ s ≡ started r ⌝ }
 {
     let mut s = r;
     if 0 < r.level {

@@ -1,15 +1,15 @@
 -- How far a process is from a level below the number of those that compete.
 --
---   Clean C r         <=>  who was looked at in this pass of r and kept in est has C.
+--   Clean C r         <=>  who was looked at in this scan of r and kept in est has C.
 --   Down C n j r      <=>  the level of r is below the number of those that have C, or gets there within j moves of its
---                          process: at the end of this pass, if that is clean, or at the end of the next.
+--                          process: at the end of this scan, if that is clean, or at the end of the next.
 --   AllDown C n f t   <=>  each q that has C gets there within f q moves.
 --   down-at-start          within a phase everybody gets there
 --   down-at-end            and who has no move left is there
---   clean-few              est has fewer members than C at the end of a clean pass
+--   clean-few              est has fewer members than C at the end of a clean scan
 --
--- Est may have members that do not compete, since a pass takes out only those whose act is 0 when they are looked at; a
--- clean pass has kept none of them.
+-- Est may have members that do not compete, since a scan takes out only those whose act is 0 when they are looked at; a
+-- clean scan has kept none of them.
 -- Assumes nothing.
 use Prim.Native.Nat.{ℕ, _+_, _≤_, _<_}
 use mathlib.Core.Path.{_≡_, _∙_}
@@ -26,13 +26,13 @@ use Rattle.silence.proofs.DueLaws.{left-pos}
 use Rattle.silence.proofs.QuietLaws.{quiet-few, quiet-sound, quiet-within, left-most}
 use Rattle.silence.proofs.Moving.{Among}
 
--- at 22 of those looked at, at 23 of all; at 21 and at 24 no pass is on
+-- at 22 of those looked at, at 23 of all; at 21 and at 24 no scan is on
 abbrev pub Clean : (ℕ → Bool) → Row → Type 0
 Clean C r =
     (r .location ≡ 22 → (x : ℕ) → has (r .est) x ≡ true → has (r .lis) x ≡ false → C x ≡ true)
     × (r .location ≡ 23 → (x : ℕ) → has (r .est) x ≡ true → C x ≡ true)
 
--- another pass takes n + 2 moves, and one more at 24
+-- another scan takes n + 2 moves, and one more at 24
 abbrev pub Down : (ℕ → Bool) → ℕ → ℕ → Row → Type 0
 Down C n j r =
     (r .level < count C n) ⊎ (((r .location ≡ 24 → ⊥) × Clean C r × (left r ≤ j)) ⊎ (left r + (n + 3) ≤ j))

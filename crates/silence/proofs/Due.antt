@@ -3,7 +3,7 @@
 --   left r    ==  its own moves until it has decided at 23.
 --   due n r   ==  its own moves, of n processes, until it has decided at 23 with bb set; with bb 0 it has to pass 24
 --                 first.
---   phase n   ==  the most that is due of one of n processes: a pass, GO at 24, and another pass.
+--   phase n   ==  the most that is due of one of n processes: a scan, GO at 24, and another scan.
 --
 -- Assumes nothing.
 use Prim.Native.Nat.{ℕ, _+_, _*_}
@@ -23,6 +23,6 @@ left r =
 abbrev pub due : ℕ → Row → ℕ
 due n r = left r + cond (eqb (r .bb) 0) (n + 3) 0
 
--- a pass takes at most n + 2 moves
+-- a scan takes at most n + 2 moves
 abbrev pub phase : ℕ → ℕ
 phase n = 2 * n + 5

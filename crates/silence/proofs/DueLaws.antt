@@ -2,7 +2,7 @@
 --
 --   left-21 .. left-24        what is left at each location
 --   left-pos                  away from 24 the decision at 23 is to come
---   due-set, due-unset        with bb set no more than that is due, and with bb 0 a push and a second pass
+--   due-set, due-unset        with bb set no more than that is due, and with bb 0 a push and a second scan
 --   due-falls                 a move nearer to 23 is one move less
 --
 -- Assumes nothing.

@@ -18,7 +18,7 @@ use Rattle.counting.proofs.SetLaws.{has-without, others-same}
 use Rattle.machine.specs.Tables.{Table, row, tableRefusal, fresh, competes}
 use Rattle.machine.specs.Steps.{afterWords}
 use Rattle.machine.specs.System.{Step}
-use Rattle.machine.specs.System.Step.{rests, comes, flickers-20, enters, starts-pass, wins, discards, keeps, ends-pass}
+use Rattle.machine.specs.System.Step.{rests, comes, flickers-20, enters, starts-scan, wins, discards, keeps, ends-scan}
 use Rattle.machine.specs.System.Step.{lowers, to-push, waits, skips, flickers-24, pushes, exits, flickers-40, leaves}
 use Rattle.machine.specs.System.Step.{cancels}
 use Rattle.machine.specs.declared.Row.{Row}
@@ -46,11 +46,11 @@ module _ (t : Table) (p : ℕ) (z : tableRefusal t ≡ 0) (l : p < length t) (s 
   unseen (comes e) i = omega arith
   unseen (flickers-20 a e h) i = omega arith
   unseen (enters e) i = omega arith
-  unseen (starts-pass e h) i = omega arith
+  unseen (starts-scan e h) i = omega arith
   unseen (wins e h) i = omega arith
   unseen (discards q e h a) i = omega arith
   unseen (keeps q e h a) i = omega arith
-  unseen (ends-pass e h) i = omega arith
+  unseen (ends-scan e h) i = omega arith
   unseen (lowers e h) i = omega arith
   unseen (to-push e h b) i = omega arith
   unseen (waits e h b v) i = omega arith
@@ -78,11 +78,11 @@ module _ (t : Table) (p : ℕ) (z : tableRefusal t ≡ 0) (l : p < length t) (s 
   others-only (comes e) c = absurd (false≢true c)
   others-only (flickers-20 a e h) c = own-est c
   others-only (enters e) c = others-same (length t) p
-  others-only (starts-pass e h) c = own-est (competes-at (row t p) 21 e)
+  others-only (starts-scan e h) c = own-est (competes-at (row t p) 21 e)
   others-only (wins e h) c = own-est (competes-at (row t p) 21 e)
   others-only (discards q e h a) c = fewer q (own-est c)
   others-only (keeps q e h a) c = own-est c
-  others-only (ends-pass e h) c = own-est (competes-at (row t p) 22 e)
+  others-only (ends-scan e h) c = own-est (competes-at (row t p) 22 e)
   others-only (lowers e h) c = own-est (competes-at (row t p) 23 e)
   others-only (to-push e h b) c = own-est (competes-at (row t p) 23 e)
   others-only (waits e h b v) c = own-est (competes-at (row t p) 23 e)

@@ -16,7 +16,7 @@ use Rattle.machine.proofs.OneOfLaws.{oneOf-at}
 use Rattle.machine.proofs.Assignments.{competes-at}
 use Rattle.machine.proofs.StepRows.{stepRow}
 use Rattle.machine.proofs.RoundLaws.{Move, move-step}
-use Rattle.machine.proofs.RoundLaws.Move.{rests, enters, starts-pass, wins, discards, keeps, ends-pass, lowers, to-push}
+use Rattle.machine.proofs.RoundLaws.Move.{rests, enters, starts-scan, wins, discards, keeps, ends-scan, lowers, to-push}
 use Rattle.machine.proofs.RoundLaws.Move.{waits, skips, pushes, exits, leaves}
 use Rattle.silence.proofs.Steady.{quietPlaces}
 
@@ -44,11 +44,11 @@ module _ (t : Table) (p : ℕ) where
     competes-at (row t p) 10 e ∙ pending-at 10 e,
   )
   lands (enters e) n = (refl, pending-at 20 e)
-  lands (starts-pass e h) n = (refl, pending-at 21 e)
+  lands (starts-scan e h) n = (refl, pending-at 21 e)
   lands (wins e h) n = (refl, pending-at 21 e)
   lands (discards e h a) n = looks e
   lands (keeps e h a) n = looks e
-  lands (ends-pass e h) n = (refl, pending-at 22 e)
+  lands (ends-scan e h) n = (refl, pending-at 22 e)
   lands (lowers e h) n = (refl, pending-at 23 e)
   lands (to-push e h b) n = (refl, pending-at 23 e)
   lands (waits e h b v) n = (refl, pending-at 23 e)

@@ -23,7 +23,7 @@ use Rattle.machine.proofs.Assignments.{Becomes, TurnsKeptBut, other-rows-keep, 
 use Rattle.machine.proofs.Assignments.{turn-set-becomes, turn-set-is, turn-set-others, competes-at}
 use Rattle.machine.proofs.StepRows.{pushedRow}
 use Rattle.machine.proofs.RoundLaws.{Move}
-use Rattle.machine.proofs.RoundLaws.Move.{rests, enters, starts-pass, wins, discards, keeps, ends-pass, lowers, to-push}
+use Rattle.machine.proofs.RoundLaws.Move.{rests, enters, starts-scan, wins, discards, keeps, ends-scan, lowers, to-push}
 use Rattle.machine.proofs.RoundLaws.Move.{waits, skips, pushes, exits, leaves}
 use Rattle.silence.proofs.Steady.{Quiet}
 use Rattle.silence.proofs.Due.{left, due}
@@ -132,9 +132,9 @@ module _ (n : ℕ) (t : Table) (p : ℕ) (l : p < n) (h : Quiet n t) (k j : ℕ)
         (b : Becomes t p (λ r. r) (pushedRow t p (row t p)) u)
         (kept : TurnsKeptBut (row t p .level) t u) (own : row u (row t p .level) .turn ≡ p)
       where
-        -- another pass, with bb set
-        pass-due : due n (pushedRow t p (row t p)) ≤ n + 2
-        pass-due = omega (arith, push-left n t h p l)
+        -- another scan, with bb set
+        scan-due : due n (pushedRow t p (row t p)) ≤ n + 2
+        scan-due = omega (arith, push-left n t h p l)
 
         -- at another level turn[k] is kept
         pushed-elsewhere : (k ≡ row t p .level → ⊥) → onTime n t k f ≤ onTime n u k g
@@ -147,7 +147,7 @@ module _ (n : ℕ) (t : Table) (p : ℕ) (l : p < n) (h : Quiet n t) (k j : ℕ)
         -- with so many rounds left nobody needs turn[k] to be counted
         pushed-early : n + 3 ≤ suc j → k ≡ row t p .level → onTime n t k f ≤ onTime n u k g
         pushed-early many i =
-            rows-on-time u _ b (λ o. (refl, inr (sym i, inl (omega (arith, pass-due)))))
+            rows-on-time u _ b (λ o. (refl, inr (sym i, inl (omega (arith, scan-due)))))
             (λ q ne c m z.
             let last = left-most n t h q c in
             inl (omega (arith, due-set (row t q) n m, spends .same q ne, spends .least q)))
@@ -171,7 +171,7 @@ module _ (n : ℕ) (t : Table) (p : ℕ) (l : p < n) (h : Quiet n t) (k j : ℕ)
             held : OnTime n x k (g p) p (pushedRow t p (row t p))
             held = (refl, inr (sym i, inr ((λ z. omega arith), ap (λ (y : ℕ). row u y .turn) i ∙ own)))
 
-            -- bb is 0 at 24, and a whole pass is to come
+            -- bb is 0 at 24, and a whole scan is to come
             bb-none : (row t p .bb ≡ 0 → ⊥) → ⊥
             bb-none m = omega (arith, h .steady .rows p .bb-inside m .1)
 
@@ -198,14 +198,14 @@ module _ (n : ℕ) (t : Table) (p : ℕ) (l : p < n) (h : Quiet n t) (k j : ℕ)
         alone-on-time t (row t p) (record { same-size = refl; own = refl; other = λ q ne. refl }) refl
         (λ o. absurd (false≢true (sym (competes-at (row t p) 10 e) ∙ o .0)))
     moved-on-time on (enters e) = absurd (quiet-never n t h p 20 l e refl)
-    moved-on-time on (starts-pass e i) =
+    moved-on-time on (starts-scan e i) =
         set-paced _ refl refl refl refl (omega (arith, left-21 (row t p) e))
     moved-on-time on (wins e i) = absurd (on (ap (λ (r : Row). r .location) (row-same t p _ in-t)))
     moved-on-time on (discards e m a) =
         set-paced _ refl (competes-at (row t p) 22 e) refl refl (look-left n t h p l e m _)
     moved-on-time on (keeps e m a) =
         set-paced _ refl (competes-at (row t p) 22 e) refl refl (look-left n t h p l e m (row t p .est))
-    moved-on-time on (ends-pass e i) =
+    moved-on-time on (ends-scan e i) =
         set-paced _ refl refl refl refl (omega (arith, left-22 (row t p) e))
     moved-on-time on (lowers e i) = set-dropped _ refl refl i
     moved-on-time on (to-push e i b) =

@@ -1,7 +1,7 @@
 -- A move of a process that competes takes it one move nearer to a level below the number of those that compete.
 --
---   carried-on, begun-anew          a row whose pass goes on, and one whose pass is over
---   kept-clean, discarded-clean     a look keeps a pass clean: who shows act competes
+--   carried-on, begun-anew          a row whose scan goes on, and one whose scan is over
+--   kept-clean, discarded-clean     a look keeps a scan clean: who shows act competes
 --   row-down                        the row of p after its move
 --   moved-down                      every row
 --
@@ -23,7 +23,7 @@ use Rattle.machine.proofs.SoundRows.{SoundRow}
 use Rattle.machine.proofs.Assignments.{competes-at}
 use Rattle.machine.proofs.StepRows.{stepRow, step-becomes, step-keeps-rows}
 use Rattle.machine.proofs.RoundLaws.{Move, move-step}
-use Rattle.machine.proofs.RoundLaws.Move.{rests, enters, starts-pass, wins, discards, keeps, ends-pass, lowers, to-push}
+use Rattle.machine.proofs.RoundLaws.Move.{rests, enters, starts-scan, wins, discards, keeps, ends-scan, lowers, to-push}
 use Rattle.machine.proofs.RoundLaws.Move.{waits, skips, pushes, exits, leaves}
 use Rattle.silence.proofs.Due.{left}
 use Rattle.silence.proofs.DueLaws.{left-21, left-22, left-23}
@@ -51,7 +51,7 @@ module _ (C : ℕ → Bool) (n : ℕ) (t : Table) (a : Among C n t) (p : ℕ) (c
   -- ---- its row becomes s
 
   module _ (j : ℕ) (s : Row) where
-    -- the pass goes on
+    -- the scan goes on
     carried-on : s .level ≡ r .level
         → (s .location ≡ 24 → ⊥)
         → left s + 1 ≤ left r
@@ -62,7 +62,7 @@ module _ (C : ℕ → Bool) (n : ℕ) (t : Table) (a : Among C n t) (p : ℕ) (c
     carried-on e ne h f (inr (inl (_, d, i))) = inr (inl (ne, f d, omega arith))
     carried-on e ne h f (inr (inr i)) = inr (inr (omega arith))
 
-    -- the pass is over, and a clean one led to a low level
+    -- the scan is over, and a clean one led to a low level
     begun-anew : s .location ≡ 21
         → left s ≤ n + 2
         → s .level ≤ r .level
@@ -87,7 +87,7 @@ module _ (C : ℕ → Bool) (n : ℕ) (t : Table) (a : Among C n t) (p : ℕ) (c
         let next = left-21 s to ∙ ap (λ (x : ℕ). size x + 3) same in
         begun-anew to (omega arith) low (λ ne d. omega (arith, clean-few C n t a p c e d))
 
-  -- to 24, which a clean pass does not lead to but at a low level
+  -- to 24, which a clean scan does not lead to but at a low level
   undecided : (j : ℕ)
       → r .location ≡ 23
       → r .level ≤ size (r .est)
@@ -138,8 +138,8 @@ module _ (C : ℕ → Bool) (n : ℕ) (t : Table) (a : Among C n t) (p : ℕ) (c
   unfolding move-step
   row-down j (rests e) on = absurd (false≢true (sym (competes-at r 10 e) ∙ in-C))
   row-down j (enters e) on = absurd (quiet-never n t (a .quiet) p 20 l e refl)
-  row-down j (starts-pass e i) on =
-      carried-on j (after (starts-pass e i)) refl (λ z. omega arith) (omega (arith, left-21 r e))
+  row-down j (starts-scan e i) on =
+      carried-on j (after (starts-scan e i)) refl (λ z. omega arith) (omega (arith, left-21 r e))
       (λ d. ((λ z x m o. absurd (false≢true (sym o ∙ m))), (λ z. absurd (omega arith))))
   row-down j (wins e i) on = absurd (on refl)
   row-down j (discards e m act) on =
@@ -149,8 +149,8 @@ module _ (C : ℕ → Bool) (n : ℕ) (t : Table) (a : Among C n t) (p : ℕ) (c
   row-down j (keeps e m act) on =
       carried-on j (after (keeps e m act)) refl (λ z. omega arith) (look-left n t (a .quiet) p l e m (r .est))
       (λ d. ((λ z. kept-clean e m act d), (λ z. absurd (omega arith))))
-  row-down j (ends-pass e i) on =
-      carried-on j (after (ends-pass e i)) refl (λ z. omega arith) (omega (arith, left-22 r e))
+  row-down j (ends-scan e i) on =
+      carried-on j (after (ends-scan e i)) refl (λ z. omega arith) (omega (arith, left-22 r e))
       (λ d. ((λ z. absurd (omega arith)), (λ z x m. d .0 e x m (ap (λ (s : ℕ). has s x) i ∙ has-zero x))))
   row-down j (lowers e i) on = decided j (after (lowers e i)) e refl refl (omega arith) (omega arith)
   row-down j (to-push e i b) on = undecided j e i

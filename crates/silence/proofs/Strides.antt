@@ -21,7 +21,7 @@ use Rattle.machine.specs.declared.Row.{Row}
 use Rattle.machine.proofs.SoundRows.{sound-row, sound-few}
 use Rattle.machine.proofs.StepRows.{pushedRow}
 use Rattle.machine.proofs.RoundLaws.{Move}
-use Rattle.machine.proofs.RoundLaws.Move.{rests, enters, starts-pass, wins, discards, keeps, ends-pass, lowers}
+use Rattle.machine.proofs.RoundLaws.Move.{rests, enters, starts-scan, wins, discards, keeps, ends-scan, lowers}
 use Rattle.machine.proofs.RoundLaws.Move.{to-push, waits, skips, pushes, exits, leaves}
 
 pub data Stride (p v : ℕ) (r : Row) : Row → Type 0 where
@@ -57,12 +57,12 @@ module _ (t : Table) (p : ℕ) (z : tableRefusal t ≡ 0) (l : p < length t)
     pub move-advances : {u : Table} → Move t p u → Advances t p u
     move-advances (rests e) = absurd (omega arith)
     move-advances (enters e) = absurd (omega arith)
-    move-advances (starts-pass e h) = strides _ (begins e)
+    move-advances (starts-scan e h) = strides _ (begins e)
     move-advances (wins e h) = absurd (omega arith)
     move-advances (discards e h a) = absurd (shown _ (member-in _ h) a)
     move-advances (keeps e h a) =
         strides _ (looks (lowest (row t p .lis)) (omega (arith, member-in _ h, sound-few t z)) e h)
-    move-advances (ends-pass e h) = strides _ (ends e h)
+    move-advances (ends-scan e h) = strides _ (ends e h)
     move-advances (lowers e h) = absurd (omega (arith, sound-row t z p l .level-low))
     move-advances (to-push e h b) = strides _ (turns-up e b)
     move-advances (waits e h b v) = strides _ (falls e b v)

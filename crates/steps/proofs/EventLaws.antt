@@ -11,13 +11,13 @@ use borrow.Author.Tests.{eqb-true, eq-eqb, ne-eqb}
 use Rattle.counting.proofs.TestLaws.{split}
 use Rattle.machine.specs.Tables.{Table, row, tableRefusal}
 use Rattle.machine.specs.Words.{STAY, COME, FLICKER, LOOK, CANCEL, isKind, kindOf, processOf, argumentOf}
-use Rattle.machine.specs.Steps.{passed, gone, moved, allowed, wordRefusal, refusalOf, afterWord, eventOf}
+use Rattle.machine.specs.Steps.{started, gone, moved, allowed, wordRefusal, refusalOf, afterWord, eventOf}
 use Rattle.machine.specs.declared.Row.{Row}
 use Rattle.machine.specs.declared.Event.{Event}
 use Rattle.machine.proofs.OneOfLaws.{by-one}
 use Rattle.machine.proofs.KindLaws.{by-kind}
 use Rattle.machine.proofs.TableLaws.{row-same}
-use Rattle.machine.proofs.Forms.{passed-cases, gone-21}
+use Rattle.machine.proofs.Forms.{started-cases, gone-21}
 use Rattle.machine.proofs.Accepted.{word-says, says-accepted, accepted-moved}
 use Rattle.machine.proofs.Arcs.{same-arc}
 use Rattle.steps.specs.Moves.{goEvent, kindEvent}
@@ -62,9 +62,9 @@ module _ (t : Table) (p : ℕ) (l : p < length t) where
   r = row t p
 
   -- GO at 21 goes to 30 at level 0
-  passed-told : eqb (passed r .location) 30 ≡ eqb (r .level) 0
-  passed-told =
-      passed-cases (λ s. eqb (s .location) 30 ≡ eqb (r .level) 0) r
+  started-told : eqb (started r .location) 30 ≡ eqb (r .level) 0
+  started-told =
+      started-cases (λ s. eqb (s .location) 30 ≡ eqb (r .level) 0) r
       (λ h. sym (ne-eqb (r .level) 0 (λ z. omega arith)))
       (λ z. sym (eq-eqb (r .level) 0 z))
 
@@ -75,8 +75,8 @@ module _ (t : Table) (p : ℕ) (l : p < length t) where
       (eqb (r .location) 21)
       (λ e.
       ap (λ (u : Table). event (eqb (row u p .location) 30) d) (gone-21 t p (eqb-true _ _ e))
-      ∙ ap (λ (s : Row). event (eqb (s .location) 30) d) (row-same t p (passed r) l)
-      ∙ ap (λ (b : Bool). event b d) passed-told)
+      ∙ ap (λ (s : Row). event (eqb (s .location) 30) d) (row-same t p (started r) l)
+      ∙ ap (λ (b : Bool). event b d) started-told)
       (λ e. refl)
 
   -- the other kinds are allowed neither at 21 nor at 30

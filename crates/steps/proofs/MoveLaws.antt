@@ -10,7 +10,7 @@ use borrow.Author.Tests.{eqb-true}
 use Rattle.machine.specs.Rows.{withLocation, withAct}
 use Rattle.machine.specs.Tables.{Table, row, oneOf, competitors}
 use Rattle.machine.specs.Words.{STAY, COME, FLICKER, GO, LOOK, CANCEL}
-use Rattle.machine.specs.Steps.{entered, passed, reconsidered, pushed, turned, looked, flickered, gone, moved, allowed}
+use Rattle.machine.specs.Steps.{entered, started, reconsidered, pushed, turned, looked, flickered, gone, moved, allowed}
 use Rattle.machine.specs.declared.Row.{Row}
 use Rattle.counting.proofs.TestLaws.{or-cases}
 use Rattle.machine.proofs.OneOfLaws.{Cases, by-one}
@@ -34,8 +34,8 @@ module _ (x : List (List ℕ)) (p : ℕ) (r s : Row) (own : r ≡ row (rowsOf x)
       let d = ap (λ (m : ℕ). entered (length t) p m r) k in
       ap (set t p) (h ∙ n ∙ d ∙ ap (entered (length t) p (competitors t)) own) ∙ sym (gone-20 t p e)
 
-  pub put-passed : row (rowsOf x) p .location ≡ 21 → s ≡ passed r → set (rowsOf x) p s ≡ gone (rowsOf x) p
-  put-passed e h = let t = rowsOf x in ap (set t p) (h ∙ ap passed own) ∙ sym (gone-21 t p e)
+  pub put-started : row (rowsOf x) p .location ≡ 21 → s ≡ started r → set (rowsOf x) p s ≡ gone (rowsOf x) p
+  put-started e h = let t = rowsOf x in ap (set t p) (h ∙ ap started own) ∙ sym (gone-21 t p e)
 
   pub put-reconsidered : (v : ℕ) → row (rowsOf x) p .location ≡ 23 → v ≡ row (rowsOf x) (r .level) .turn
       → s ≡ reconsidered p v r

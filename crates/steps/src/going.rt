@@ -45,12 +45,12 @@ fn enter(cells: &mut [[u16; 24]], p: u16) -> Stepped
 }
 
 // GO at 21: to 22, or at level 0 into the critical section.
-fn pass(cells: &mut [[u16; 24]], p: u16) -> Told
+fn start_scan(cells: &mut [[u16; 24]], p: u16) -> Told
     requires { ⌜ At (now cells) p 21 ⌝ }
     ensures { λ s. ⌜ Goes (now (cells .entry)) p (now (cells .exit)) s ⌝ }
 {
     let r = row_at(cells, p as usize);
-    put_row(cells, p as usize, rows::moves::passed(r));
+    put_row(cells, p as usize, rows::moves::started(r));
     if r.level == 0 {
         return Told::QUIET.with_event(Event::Arrival);
     }
@@ -58,7 +58,7 @@ fn pass(cells: &mut [[u16; 24]], p: u16) -> Told
 }
 
 // GO at 22: to 23.
-fn end_pass(cells: &mut [[u16; 24]], p: u16) -> Told
+fn end_scan(cells: &mut [[u16; 24]], p: u16) -> Told
     requires { ⌜ At (now cells) p 22 ⌝ }
     ensures { λ s. ⌜ Goes (now (cells .entry)) p (now (cells .exit)) s ⌝ }
 {
@@ -122,8 +122,8 @@ pub fn go(cells: &mut [[u16; 24]], p: u16) -> Stepped
     let l = row_at(cells, p as usize).location;
     match l {
         20 => enter(cells, p),
-        21 => Stepped::Moved(pass(cells, p)),
-        22 => Stepped::Moved(end_pass(cells, p)),
+        21 => Stepped::Moved(start_scan(cells, p)),
+        22 => Stepped::Moved(end_scan(cells, p)),
         23 => Stepped::Moved(reconsider(cells, p)),
         24 => Stepped::Moved(push(cells, p)),
         30 => Stepped::Moved(leave(cells, p)),

@@ -42,11 +42,11 @@ moves c l e away m = goes-on l (sym (there c) ∙ e) away (c .before .before .pr
 enter-requires : tie.Need-enter-requires
 enter-requires c κs = at (c .before .before) 20 (c .before .match .keys1)
 
-pass-requires : tie.Need-pass-requires
-pass-requires c κs = at (c .before .before) 21 (c .before .match .keys2)
+start-scan-requires : tie.Need-start-scan-requires
+start-scan-requires c κs = at (c .before .before) 21 (c .before .match .keys2)
 
-end-pass-requires : tie.Need-end-pass-requires
-end-pass-requires c κs = at (c .before .before) 22 (c .before .match .keys3)
+end-scan-requires : tie.Need-end-scan-requires
+end-scan-requires c κs = at (c .before .before) 22 (c .before .match .keys3)
 
 reconsider-requires : tie.Need-reconsider-requires
 reconsider-requires c κs = at (c .before .before) 23 (c .before .match .keys4)
@@ -76,7 +76,7 @@ same-length-2 c = search needs
 returns-2 : tie.Need-returns-2
 returns-2 c =
     let m = c .before .before .before in
-    moves (m .before) 21 (m .match .keys2) refl (c .before .pass .ensures)
+    moves (m .before) 21 (m .match .keys2) refl (c .before .start-scan .ensures)
 
 same-length-3 : tie.Need-same-length-3
 same-length-3 c = search needs
@@ -84,7 +84,7 @@ same-length-3 c = search needs
 returns-3 : tie.Need-returns-3
 returns-3 c =
     let m = c .before .before .before in
-    moves (m .before) 22 (m .match .keys3) refl (c .before .end-pass .ensures)
+    moves (m .before) 22 (m .match .keys3) refl (c .before .end-scan .ensures)
 
 same-length-4 : tie.Need-same-length-4
 same-length-4 c = search needs
@@ -126,8 +126,8 @@ go-spec =
     (tie.spec
     row-at-requires
     enter-requires
-    pass-requires
-    end-pass-requires
+    start-scan-requires
+    end-scan-requires
     reconsider-requires
     push-requires
     leave-requires
