@@ -1,7 +1,8 @@
 -- The words with passes, as the loops go through them.
 --
 --   sized-long, sized-counted   the words of either form are at least those of a bare image
---   passes-within, image-mono, image-low, either-low    the words of a process stand within the image, which is not long
+--   passes-within               the words of a process stand within the image
+--   image-mono, image-low, either-low    which is not long
 --   counts-start, counts-on, counts-stop, counts-end     the loop over processes: what is left decides
 --   passes-start, passes-on, passes-stop, passes-end     the loop over the words of one process
 --   fit-is         no word of a process is refused just where each has its upper half, and that over itself is 0
