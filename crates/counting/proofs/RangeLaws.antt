@@ -2,12 +2,14 @@
 --
 --   upTo-cong, upTo-length, upTo-at, upTo-all   the list of g 0, g 1, ..; a list is that of its places
 --   every-cong, every-at, every-all, every-fails    a test of all numbers below n, and of one of them
+--   some-cong, some-one, one-some                   a test of any number below n
 --   filled ..                                   an array that is filled with g 0, g 1, ..
 --
 -- Assumes nothing.
 use Prim.Native.Nat.{ℕ, zero, suc, _+_, _≤_, _<_}
-use mathlib.Core.Bool.{Bool, true, false, _&&_, and-eq-true-iff, false≢true}
+use mathlib.Core.Bool.{Bool, true, false, _&&_, _||_, and-eq-true-iff, or-eq-true-iff, false≢true}
 use mathlib.Core.Path.{_≡_, refl, ap, ap₂, sym, _∙_}
+use mathlib.Core.Logic.{⊎-elim, Or·inl, Or·inr}
 use mathlib.Core.List.{List, [], _∷_, _++_}
 use native.Mathlib.Decide.{ℕ-discrete}
 use native.Mathlib.Omega.{arith}
@@ -15,7 +17,8 @@ use native.Mathlib.Numerals.{add-one}
 use lib.ListN.{length, getD, set, replicate, length-append, length-replicate, List·getD-append}
 use lib.Seq.{getD-at, ext-getD}
 use Rattle.counting.proofs.PlacingLaws.{begun, begun-start, begun-next, begun-end, placed-whole}
-use Rattle.counting.specs.Ranges.{upTo, every}
+use Rattle.counting.specs.Ranges.{upTo, every, some}
+use Rattle.counting.proofs.TestLaws.{or-cases}
 
 pub upTo-cong : (f g : ℕ → ℕ) (n : ℕ) → ((i : ℕ) → i < n → f i ≡ g i) → upTo f n ≡ upTo g n
 unfolding upTo
@@ -87,6 +90,33 @@ module _ (P : ℕ → Bool) where
         | false ↦ λ x y z f. let g = f x in (g .0, omega (arith, g .1), g .2)
       ] in
       go (every P n) (P n) refl refl h (every-fails n)
+
+-- ---- a test of any
+
+pub some-cong : (P Q : ℕ → Bool) (n : ℕ) → ((i : ℕ) → i < n → P i ≡ Q i) → some P n ≡ some Q n
+unfolding some
+some-cong P Q zero h = refl
+some-cong P Q (suc n) h =
+    ap₂ (λ (a b : Bool). a || b) (some-cong P Q n (λ i l. h i (omega arith))) (h n (omega arith))
+
+module _ (P : ℕ → Bool) where
+  pub some-one : (n : ℕ) → some P n ≡ true → (i : ℕ) × (i < n) × (P i ≡ true)
+  unfolding some
+  some-one zero h = absurd (false≢true h)
+  some-one (suc n) h =
+      ⊎-elim (λ e. let g = some-one n e in (g .0, omega (arith, g .1), g .2)) (λ e. (n, omega arith, e))
+      (or-cases (some P n) (P n) h)
+
+  pub one-some : (n i : ℕ) → i < n → P i ≡ true → some P n ≡ true
+  unfolding some
+  one-some zero i l h = absurd (omega arith)
+  one-some (suc n) i l h =
+      let go : Dec (i ≡ n) → (some P n || P n) ≡ true =
+      elim [
+        | yes e ↦ or-eq-true-iff (some P n) (P n) .1 (Or·inr (ap P (sym e) ∙ h))
+        | no ne ↦ or-eq-true-iff (some P n) (P n) .1 (Or·inl (one-some n i (omega (arith, ne)) h))
+      ] in
+      go (ℕ-discrete i n)
 
 -- ---- an array of m numbers that is filled with those of g
 

@@ -10,10 +10,11 @@ use lib.ListN.{take, replicate}
 use Rattle.counting.specs.Sums.{sum, count}
 use Rattle.counting.specs.Sets.{has, setOf, size, without, others}
 use Rattle.counting.specs.Placing.{placed}
-use Rattle.counting.specs.Ranges.{upTo}
+use Rattle.counting.specs.Ranges.{upTo, some}
 use Rattle.machine.specs.Tables.{Table, freshTable, soundFrom, tableRefusal, competitors}
 use Rattle.machine.specs.Steps
 use Rattle.machine.specs.Census.{below, held, critical, waiting}
+use Rattle.machine.specs.Settings.{weakest, forbiddenBy, refusalUnder}
 use Rattle.machine.specs.Runs.{Outcome, runFrom, runOf}
 use Rattle.machine.specs.Images
 use Rattle.machine.specs.Bytes.{wordsIn, bytesOf, bytesLimit}
@@ -28,9 +29,9 @@ use Rattle.machine.specs.Exports.{printedIn}
 unfoldable pub evaluated : Table → List ℕ → Outcome
 unfolding Steps.turned Steps.forgets Steps.flickered Steps.entered Steps.started Steps.looked Steps.reconsidered
     Steps.pushed Steps.goRow Steps.gone Steps.moved Steps.allowed Steps.argumentFits Steps.wordRefusal Steps.refusalOf
-    Steps.afterWord Steps.eventOf soundFrom tableRefusal competitors sum count has setOf size without others runFrom
-    runOf
-evaluated t ws = runOf t ws
+    Steps.afterWord Steps.eventOf soundFrom tableRefusal competitors sum count has setOf size without others some
+    forbiddenBy refusalUnder runFrom runOf
+evaluated t ws = runOf weakest t ws
 
 -- the image of a table, likewise
 pictured : Table → List ℕ
@@ -182,7 +183,7 @@ cancels-pass = refl
 
 -- it is no event of a tally, but a word
 pub cancel-is-quiet :
-    runOf (freshTable 2) (0x20000000 ∷ 0x60000000 ∷ []) .tally ≡ record { words = 2; comes = 1; arrivals = 0 }
+    runOf weakest (freshTable 2) (0x20000000 ∷ 0x60000000 ∷ []) .tally ≡ record { words = 2; comes = 1; arrivals = 0 }
 unfolding evaluated
 cancel-is-quiet = refl
 
@@ -376,7 +377,7 @@ printed-examples = (refl, refl, refl)
 
 pub exampleCall : Called
 unfolding exampleInput evaluated agrees callOf callFor ranCall placed inputOf wordsHold wordsIn
-exampleCall = callOf exampleInput (replicate 58 255)
+exampleCall = callOf weakest exampleInput (replicate 58 255)
 
 pub example-called :
     (exampleCall .number ≡ 1792)

@@ -10,6 +10,7 @@ use Rattle.machine.specs.Rows.{idle, withLocation, withAct}
 use Rattle.machine.specs.Tables.{Table}
 use Rattle.machine.specs.Steps.{afterWords, eventOf}
 use Rattle.machine.specs.Census.{critical, censusOf}
+use Rattle.machine.specs.Settings.{weakest}
 use Rattle.machine.specs.Runs.{carriedOver, runOf}
 use Rattle.machine.specs.Images
 use Rattle.machine.specs.Bytes.{wordsIn, bytesOf}
@@ -59,7 +60,7 @@ unfolding told evaluated
 two-at-30-told = refl
 
 -- a run counts them as words: 7 were taken, up to the CANCEL, with one COME and one arrival
-pub departure-is-a-word : runOf start words .tally ≡ record { words = 7; comes = 1; arrivals = 1 }
+pub departure-is-a-word : runOf weakest start words .tally ≡ record { words = 7; comes = 1; arrivals = 1 }
 unfolding evaluated
 departure-is-a-word = refl
 

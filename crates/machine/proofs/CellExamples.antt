@@ -12,6 +12,7 @@ use Rattle.machine.specs.Rows.{idle, withLocation, withAct, withBb, with
 use Rattle.machine.specs.Tables.{Table, row}
 use Rattle.machine.specs.Shared.{noCell, actRead, actWritten, turnRead, turnWritten, clash, butHistory}
 use Rattle.machine.specs.Steps.{refusalOf, afterWord, cellOf}
+use Rattle.machine.specs.Settings.{weakest}
 use Rattle.machine.specs.Runs.{runOf}
 use Rattle.machine.specs.Text.{digits, cellText}
 use Rattle.machine.specs.declared.Row.{Row}
@@ -155,11 +156,11 @@ refused-has-none = (refl, refl, refl, refl)
 -- FLICKER of turn[1], the last word; before a STAY at 24, which stops the run; after such a STAY; before a STAY of
 -- process 0, which is taken and uses none; and no word
 pub run-cells :
-    (runOf sharing (0x30020002 ∷ []) .cell ≡ turnWritten 1)
-    × (runOf sharing (0x30020002 ∷ 0x10020000 ∷ []) .cell ≡ turnWritten 1)
-    × (runOf sharing (0x10020000 ∷ 0x30020002 ∷ []) .cell ≡ noCell)
-    × (runOf sharing (0x30020002 ∷ 0x10000000 ∷ []) .cell ≡ noCell)
-    × (runOf sharing [] .cell ≡ noCell)
+    (runOf weakest sharing (0x30020002 ∷ []) .cell ≡ turnWritten 1)
+    × (runOf weakest sharing (0x30020002 ∷ 0x10020000 ∷ []) .cell ≡ turnWritten 1)
+    × (runOf weakest sharing (0x10020000 ∷ 0x30020002 ∷ []) .cell ≡ noCell)
+    × (runOf weakest sharing (0x30020002 ∷ 0x10000000 ∷ []) .cell ≡ noCell)
+    × (runOf weakest sharing [] .cell ≡ noCell)
 unfolding evaluated
 run-cells = (refl, refl, refl, refl, refl)
 

@@ -10,13 +10,14 @@ use Rattle.counting.specs.Ranges.{upTo}
 use Rattle.machine.specs.Rows.{idle, withLocation, withLevel}
 use Rattle.machine.specs.Tables.{locations, freshTable}
 use Rattle.machine.specs.Census.{censusOf}
+use Rattle.machine.specs.Settings.{weakest}
 use Rattle.machine.specs.Runs.{runOf}
 use Rattle.machine.specs.declared.Census.{Census}
 use Rattle.machine.proofs.Benchmarks.{evaluated}
 
 -- process 0 at 20, where it still writes act, and process 1 at 21, where it has written it: one waits, not two
 pub one-at-20-one-at-21 :
-    censusOf (runOf (freshTable 2) (0x20000000 ∷ 0x20010000 ∷ 0x40010000 ∷ []) .table)
+    censusOf (runOf weakest (freshTable 2) (0x20000000 ∷ 0x20010000 ∷ 0x40010000 ∷ []) .table)
     ≡ record {
       refusal = 0;
       critical = 0;

@@ -1,6 +1,6 @@
 -- Which words meet 15, and that none is all that a process has.
 --
---   full-word, word-full    15 is met just by GO at 20 with a count of 65,535 over a process that competes
+--   full-go, full-word, word-full    15 is met just by GO at 20 with a count of 65,535 over a process that competes
 --   some-word               every process of a sound table has a word that is accepted
 --
 -- Assumes nothing.
@@ -90,6 +90,13 @@ full-says t w h =
     over true e = refl
     over false e = absurd (omega arith)
 
+pub full-go : (t : Table) (w : ℕ) → refusalOf t w ≡ 15 → (kindOf w ≡ GO) × (row t (processOf w) .location ≡ 20)
+unfolding overflows
+full-go t w h =
+    let both = and-eq-true-iff (eqb (kindOf w) GO) _ .0 (full-says t w h .overflows-so) in
+    let there = and-eq-true-iff (eqb (row t (processOf w) .location) 20) _ .0 (both .1) in
+    (eqb-true _ _ (both .0), eqb-true _ _ (there .0))
+
 -- a process of the set of competitors competes
 competes-so : (t : Table) (q : ℕ) → has (competitors t) q ≡ true → competes (row t q) ≡ true
 unfolding competitors
@@ -135,7 +142,7 @@ full-word t w h =
     let s = full-says t w h in
     let p = processOf w in
     let both = and-eq-true-iff (eqb (kindOf w) GO) _ .0 (s .overflows-so) in
-    let kind : kindOf w ≡ GO = eqb-true _ _ (both .0) in
+    let kind = full-go t w h .0 in
     let there = and-eq-true-iff (eqb (row t p .location) 20) _ .0 (both .1) in
     let none : argumentOf w ≡ 0 =
     eqb-true _ _
@@ -143,7 +150,7 @@ full-word t w h =
     let full = full-count t p (s .table-sound) (s .process-in) (not-true _ (there .1)) in (
       accepted-sound t (s .table-sound),
       sym (formed-is w (s .formed-so)) ∙ ap₂ (λ (k a : ℕ). wordOf k p a) kind none,
-      eqb-true _ _ (there .0),
+      full-go t w h .1,
       full .0,
       full .1,
       full .2,

@@ -11,6 +11,7 @@ use Rattle.counting.specs.Ranges.{upTo}
 use Rattle.counting.specs.Placing.{placed}
 use Rattle.machine.specs.Rows.{idle, withLocation, withAct, withLevel, withEst, withPasses}
 use Rattle.machine.specs.Tables.{Table, handed}
+use Rattle.machine.specs.Settings.{weakest}
 use Rattle.machine.specs.Runs.{Outcome, untaken, runOf}
 use Rattle.machine.specs.Images
 use Rattle.machine.specs.Bytes.{bytesOf}
@@ -67,7 +68,7 @@ counts-kept = (refl, refl)
 -- GO of process 1 from an image in which it has this count over process 0, which competes
 pub entry : ℕ → Outcome
 unfolding evaluated upTo Images.tableIn
-entry c = runOf (Images.tableIn (image (counted 0 c))) (0x40010000 ∷ [])
+entry c = runOf weakest (Images.tableIn (image (counted 0 c))) (0x40010000 ∷ [])
 
 -- 65,535 is read; the GO meets 15, no word is taken and the table is as given
 pub full-stops :
@@ -96,7 +97,7 @@ pub full-stops-an-input :
     ≡ 112 ∷ 111 ∷ 115 ∷ 116 ∷ 115 ∷ 32 ∷ 50 ∷ 10 ∷
     48 ∷ 32 ∷ 48 ∷ 32 ∷ 50 ∷ 49 ∷ 32 ∷ 50 ∷ 50 ∷ 32 ∷ 48 ∷ 32 ∷ 45 ∷ 10 ∷
     115 ∷ 116 ∷ 111 ∷ 112 ∷ 32 ∷ 49 ∷ 32 ∷ 49 ∷ 53 ∷ 10 ∷ [])
-    × (callOf (bytesOf (image (counted 0 65535) ++ events)) (replicate 56 255) .number ≡ 256 + 15)
+    × (callOf weakest (bytesOf (image (counted 0 65535) ++ events)) (replicate 56 255) .number ≡ 256 + 15)
 unfolding evaluated upTo digits printed callOf
 full-stops-an-input = (refl, refl)
 
@@ -187,7 +188,7 @@ lent-words = (refl, refl, refl)
 
 -- so have 56 lent bytes of a call on the bare image, and 55 meet 13
 pub lent-bytes :
-    (callOf (bytesOf bare) (replicate 56 7) ≡ record { number = 0; lent = bytesOf (image (counted 0 0)) })
-    × (callOf (bytesOf bare) (replicate 55 7) ≡ record { number = 13; lent = replicate 55 7 })
+    (callOf weakest (bytesOf bare) (replicate 56 7) ≡ record { number = 0; lent = bytesOf (image (counted 0 0)) })
+    × (callOf weakest (bytesOf bare) (replicate 55 7) ≡ record { number = 13; lent = replicate 55 7 })
 unfolding upTo callOf
 lent-bytes = (refl, refl)

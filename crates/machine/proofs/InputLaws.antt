@@ -1,18 +1,20 @@
 -- What an input holds, and the call for it, by their cases. Assumes nothing.
 use Prim.Native.Nat.{ℕ, _≤_, _<_}
-use mathlib.Core.Path.{_≡_, refl, ap, _∙_}
-use mathlib.Core.Bool.{Bool, true, false}
+use mathlib.Core.Path.{_≡_, refl, ap, ap₂, _∙_}
+use mathlib.Core.Bool.{Bool, true, false, cond}
 use mathlib.Core.List.{List}
 use lib.Dec.{eqb, leb}
 use lib.ListN.{length}
 use borrow.Author.Tests.{eq-eqb, ne-eqb, le-leb, lt-leb}
-use Rattle.machine.specs.Refusals.{accepted, tooFewLent}
+use Rattle.machine.specs.Refusals.{accepted, tooManyWords, tooFewLent, badSettings}
 use Rattle.machine.specs.Tables.{Table}
+use Rattle.machine.specs.Settings.{settingsFit}
 use Rattle.machine.specs.Runs.{limit}
 use Rattle.machine.specs.Images.{imageRefusal, tableIn}
 use Rattle.machine.specs.Bytes.{wordsIn, bytesFit}
 use Rattle.machine.specs.Inputs.{imagePart, eventPart, Input, wordsHold, inputOf}
 use Rattle.machine.specs.Calls.{Called, refusedCall, roomFor, ranCall, callFor}
+use Rattle.machine.specs.declared.Settings.{Settings}
 
 -- ---- the words of an input
 
@@ -68,18 +70,39 @@ module _ (bs : List ℕ) where
   pub bytes-words : bytesFit bs ≡ true → inputOf bs ≡ wordsHold (wordsIn bs)
   bytes-words e = bytes-by ∙ ap fits e
 
--- ---- the call for a table and its event words
+-- ---- the call for a table, under settings
 
-module _ (t : Table) (ws l : List ℕ) where
-  abbrev lends : Bool → Called
-  lends b = elim b [ false ↦ refusedCall l tooFewLent | true ↦ ranCall t ws l ]
+module _ (s : Settings) (t : Table) (ws l : List ℕ) where
+  abbrev fit : Bool → Bool → Called
+  fit b c =
+      elim b [
+        | false ↦ refusedCall l badSettings
+        | true ↦ elim c [ false ↦ refusedCall l tooFewLent | true ↦ ranCall s t ws l ]
+      ]
 
-  call-by : (b : Bool) → leb (roomFor t) (length l) ≡ b → callFor (Input.Ready t ws) l ≡ lends b
+  call-by : callFor s (Input.Ready t ws) l ≡ fit (settingsFit s) (leb (roomFor t) (length l))
   unfolding callFor
-  call-by b e = ap lends e
+  call-by = refl
 
-  pub call-short : length l < roomFor t → callFor (Input.Ready t ws) l ≡ refusedCall l tooFewLent
-  call-short h = call-by false (lt-leb (roomFor t) (length l) h)
+  pub call-unfit : settingsFit s ≡ false → callFor s (Input.Ready t ws) l ≡ refusedCall l badSettings
+  call-unfit e = call-by ∙ ap (λ (b : Bool). fit b (leb (roomFor t) (length l))) e
 
-  pub call-ran : roomFor t ≤ length l → callFor (Input.Ready t ws) l ≡ ranCall t ws l
-  call-ran h = call-by true (le-leb (roomFor t) (length l) h)
+  pub call-short : settingsFit s ≡ true → length l < roomFor t → callFor s (Input.Ready t ws) l ≡ refusedCall l tooFewLent
+  call-short e h = call-by ∙ ap₂ fit e (lt-leb (roomFor t) (length l) h)
+
+  pub call-ran : settingsFit s ≡ true → roomFor t ≤ length l → callFor s (Input.Ready t ws) l ≡ ranCall s t ws l
+  call-ran e h = call-by ∙ ap₂ fit e (le-leb (roomFor t) (length l) h)
+
+  -- more event words than a run takes
+  abbrev many : Bool → Called
+  many b = cond b (refusedCall l tooManyWords) (refusedCall l badSettings)
+
+  many-by : callFor s (Input.TooMany t) l ≡ many (settingsFit s)
+  unfolding callFor
+  many-by = refl
+
+  pub many-unfit : settingsFit s ≡ false → callFor s (Input.TooMany t) l ≡ refusedCall l badSettings
+  many-unfit e = many-by ∙ ap many e
+
+  pub many-words : settingsFit s ≡ true → callFor s (Input.TooMany t) l ≡ refusedCall l tooManyWords
+  many-words e = many-by ∙ ap many e

@@ -21,6 +21,7 @@ pub mod OneWord
 pub mod SameOutcome
 pub mod RoundLaws
 pub mod FullLaws
+pub mod SettingLaws
 pub mod RoundAnswers
 pub mod OwnMoves
 pub mod Arriving
@@ -35,6 +36,7 @@ pub mod CellLaws
 pub mod CellBounds
 pub mod CellEffects
 pub mod CellTheorems
+pub mod SettingTheorems
 pub mod RoundTheorems
 pub mod Benchmarks
 pub mod ExportExamples

@@ -13,6 +13,7 @@ use Rattle.machine.specs.Rows.{idle, withLocation, withAct, withBb, with
 use Rattle.machine.specs.Tables.{Table, locations, sound, tableRefusal, fresh, freshTable}
 use Rattle.machine.specs.Shared.{butHistory}
 use Rattle.machine.specs.Steps.{refusalOf, afterWord}
+use Rattle.machine.specs.Settings.{weakest}
 use Rattle.machine.specs.Runs.{runOf}
 use Rattle.machine.specs.Images.{countOf}
 use Rattle.machine.specs.declared.Row.{Row}
@@ -57,7 +58,7 @@ twice =
 pub entered-twice :
     (along 1 0 (freshTable 2) twice ≡ replicate 4 0 ++ replicate 19 1 ++ replicate 11 2 ++ (0 ∷ []))
     × (along 0 1 (freshTable 2) twice ≡ replicate 35 0)
-    × (runOf (freshTable 2) twice .refusal ≡ 0)
+    × (runOf weakest (freshTable 2) twice .refusal ≡ 0)
 unfolding evaluated along
 entered-twice = (refl, refl, refl)
 

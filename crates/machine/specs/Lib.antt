@@ -6,6 +6,7 @@ pub mod Tables
 pub mod Words
 pub mod Shared
 pub mod Steps
+pub mod Settings
 pub mod Local
 pub mod System
 pub mod Census

@@ -64,3 +64,15 @@ badBytes = 14
 -- an event word: it would carry a count of passes past 65,535
 abbrev pub passesFull : ℕ
 passesFull = 15
+
+-- an event word: FLICKER of a cell that the settings say is plain
+abbrev pub plainFlicker : ℕ
+plainFlicker = 16
+
+-- an event word: GO from 23 to 24, where the settings leave a turn cell one writer, and another process is it
+abbrev pub secondWriter : ℕ
+secondWriter = 17
+
+-- settings: a value that is none of those listed
+abbrev pub badSettings : ℕ
+badSettings = 18

@@ -4,9 +4,9 @@
 --   counted e h      ==  the tally h after an accepted word with event e.
 --   carried e n      ==  the number at 30 after such a word, from the number n before it.
 --   carriedOver t n ws  ==  that number after words given one by one to table t, where it is n.
---   runFrom t h c ws ==  the words in order from table t with tally h, up to the first refused one; c is the shared
---                        cell of the word before them.
---   runOf t ws       ==  a run: 6, 7, then 12 for more than 8,192 words, before any is taken.
+--   runFrom s t h c ws  ==  the words in order from table t with tally h, up to the first that is refused under the
+--                        settings s; c is the shared cell of the word before them.
+--   runOf s t ws     ==  a run under settings: 6, 7, 18, then 12 for more than 8,192 words, before any is taken.
 --
 -- How many words a run took is what its tally says, which is zero at the start. Assumes nothing.
 use Prim.Native.Nat.{ℕ, _+_, _-_}
@@ -14,13 +14,15 @@ use mathlib.Core.Bool.{true, false, cond, not}
 use mathlib.Core.List.{List, [], _∷_}
 use lib.Dec.{eqb, leb}
 use lib.ListN.{length}
-use Rattle.machine.specs.Refusals.{accepted, tooManyWords}
+use Rattle.machine.specs.Refusals.{accepted, tooManyWords, badSettings}
 use Rattle.machine.specs.Tables.{Table, tableRefusal}
 use Rattle.machine.specs.Shared.{noCell}
 use Rattle.machine.specs.Steps.{refusalOf, afterWord, eventOf, cellOf}
+use Rattle.machine.specs.Settings.{settingsFit, refusalUnder}
 use Rattle.machine.specs.declared.Event.{Event}
 use Rattle.machine.specs.declared.Event.the-variants.{Quiet, Come, Arrival, Departure}
 use Rattle.machine.specs.declared.SharedCell.{SharedCell}
+use Rattle.machine.specs.declared.Settings.{Settings}
 use Rattle.machine.specs.declared.Tally.{Tally}
 use Rattle.machine.specs.declared.Ran.{Ran}
 
@@ -71,18 +73,19 @@ untaken t n = ended t zeroTally noCell n
 abbrev pub ranOf : Outcome → Ran
 ranOf o = record { taken = o .tally .words; refusal = o .refusal; cell = o .cell }
 
-unfoldable pub runFrom : Table → Tally → SharedCell → List ℕ → Outcome
-unfolding refusalOf afterWord eventOf cellOf
-runFrom t h c [] = ended t h c accepted
-runFrom t h c (w ∷ ws) =
-    elim (eqb (refusalOf t w) accepted) [
-      | true ↦ runFrom (afterWord t w) (counted (eventOf t w) h) (cellOf t w) ws
-      | false ↦ ended t h c (refusalOf t w)
+unfoldable pub runFrom : Settings → Table → Tally → SharedCell → List ℕ → Outcome
+unfolding refusalUnder afterWord eventOf cellOf
+runFrom s t h c [] = ended t h c accepted
+runFrom s t h c (w ∷ ws) =
+    elim (eqb (refusalUnder s t w) accepted) [
+      | true ↦ runFrom s (afterWord t w) (counted (eventOf t w) h) (cellOf t w) ws
+      | false ↦ ended t h c (refusalUnder s t w)
     ]
 
-unfoldable pub runOf : Table → List ℕ → Outcome
+unfoldable pub runOf : Settings → Table → List ℕ → Outcome
 unfolding tableRefusal runFrom
-runOf t ws =
-    let taken = runFrom t zeroTally noCell ws in
+runOf s t ws =
+    let taken = runFrom s t zeroTally noCell ws in
     cond (not (eqb (tableRefusal t) accepted)) (untaken t (tableRefusal t))
-    (cond (not (leb (length ws) limit)) (untaken t tooManyWords) taken)
+    (cond (not (settingsFit s)) (untaken t badSettings)
+    (cond (not (leb (length ws) limit)) (untaken t tooManyWords) taken))

@@ -1,0 +1,286 @@
+-- Laws of the step under settings: which check answers, and which words the settings forbid.
+--
+--   refusal-low                            no refusal of the step without settings is above 15
+--   flicker-forbidden, flicker-free, go-forbidden, go-free, others-free, weakest-free    what forbiddenBy answers
+--   Flickers, Goes, forbidden-cases        what 16, and what 17, says
+--   under-table, under-unfit, under-fit    6 and 7, then 18, then the word
+--   accepted-under, under-accepted         what is accepted under settings
+--   full-free                              a word that meets 15 is not forbidden
+--   met-16, met-17, met-18                 what meets 16, 17 and 18
+--   Under, under-cases                     the refusal without settings, one of these two, or 18
+--
+-- Assumes nothing.
+use Prim.Native.Nat.{ℕ, _≤_, _<_}
+use mathlib.Core.Path.{_≡_, refl, sym, ap, _∙_, subst}
+use mathlib.Core.Bool.{Bool, true, false, cond, _&&_, not, false≢true, and-eq-true-iff}
+use mathlib.Core.Logic.{_≢_, _⊎_, inl, inr, ⊎-elim}
+use mathlib.Core.List.{[], _∷_}
+use native.Mathlib.Decide.{ℕ-discrete}
+use native.Mathlib.Omega.{arith}
+use lib.Dec.{eqb, ltb}
+use lib.ListN.{length}
+use borrow.Author.Tests.{eqb-true, eqb-false, eq-eqb, ne-eqb, not-true}
+use Rattle.counting.proofs.TestLaws.{split, cond-le}
+use Rattle.machine.specs.Refusals.{accepted, passesFull, plainFlicker, secondWriter}
+use Rattle.machine.specs.Tables.{Table, row, oneOf, sizeFits, soundFrom, tableRefusal}
+use Rattle.machine.specs.Words.{FLICKER, GO, kindOf, processOf, argumentOf, formed}
+use Rattle.machine.specs.Steps.{allowed, argumentFits, overflows, refusalAt, wordRefusal, refusalOf}
+use Rattle.machine.specs.Settings.{weakest, oneWriter, settingsFit, flickerForbidden, otherWriter, goesTo24}
+use Rattle.machine.specs.Settings.{goForbidden, forbiddenBy, before15, refusalUnder}
+use Rattle.machine.specs.declared.Settings.{Settings}
+use Rattle.machine.proofs.Accepted.{accepted-table}
+use Rattle.machine.proofs.FullLaws.{full-go}
+
+-- ---- no refusal without settings is above 15
+
+pub refusal-low : (t : Table) (w : ℕ) → refusalOf t w ≤ 15
+unfolding refusalOf wordRefusal tableRefusal
+refusal-low t w =
+    cond-le (eqb (tableRefusal t) 0) (wordRefusal t w) (tableRefusal t) 15
+    (cond-le (not (formed w)) 8 _ 15 (omega arith)
+    (cond-le (not (ltb (processOf w) (length t))) 9 _ 15 (omega arith)
+    (cond-le (not (allowed (kindOf w) (row t (processOf w)))) 10 _ 15 (omega arith)
+    (cond-le (not (argumentFits (length t) (kindOf w) (row t (processOf w)) (argumentOf w))) 11 _ 15 (omega arith)
+    (cond-le (overflows t (kindOf w) (processOf w)) 15 0 15 (omega arith) (omega arith))))))
+    (cond-le (not (sizeFits (length t))) 6 _ 15 (omega arith)
+    (cond-le (not (soundFrom (length t) 0 t)) 7 0 15 (omega arith) (omega arith)))
+
+-- ---- what is forbidden
+
+-- a choice between two numbers by what both tests say
+chosen : (a b : Bool) (v : ℕ)
+    → cond a plainFlicker (cond b secondWriter accepted) ≡ v
+    → ((a ≡ true) × (v ≡ 16)) ⊎ ((a ≡ false) × (b ≡ true) × (v ≡ 17)) ⊎ ((a ≡ false) × (b ≡ false) × (v ≡ 0))
+chosen true b v e = inl (refl, sym e)
+chosen false true v e = inr (inl (refl, refl, sym e))
+chosen false false v e = inr (inr (refl, refl, sym e))
+
+module _ (s : Settings) (t : Table) (k p : ℕ) where
+  pub flicker-forbidden : k ≡ FLICKER → flickerForbidden s (row t p) ≡ true → forbiddenBy s t k p ≡ 16
+  unfolding forbiddenBy
+  flicker-forbidden e h = rw (eq-eqb k FLICKER e, h) refl
+
+  pub flicker-free : k ≡ FLICKER → flickerForbidden s (row t p) ≡ false → forbiddenBy s t k p ≡ 0
+  unfolding forbiddenBy
+  flicker-free e h = rw (eq-eqb k FLICKER e, ne-eqb k GO (omega (arith, e)), h) refl
+
+  pub go-forbidden : k ≡ GO → goForbidden s t p ≡ true → forbiddenBy s t k p ≡ 17
+  unfolding forbiddenBy
+  go-forbidden e h = rw (ne-eqb k FLICKER (omega (arith, e)), eq-eqb k GO e, h) refl
+
+  pub go-free : k ≡ GO → goForbidden s t p ≡ false → forbiddenBy s t k p ≡ 0
+  unfolding forbiddenBy
+  go-free e h = rw (ne-eqb k FLICKER (omega (arith, e)), eq-eqb k GO e, h) refl
+
+  -- FLICKER and GO alone
+  pub others-free : k ≢ FLICKER → k ≢ GO → forbiddenBy s t k p ≡ 0
+  unfolding forbiddenBy
+  others-free f g = rw (ne-eqb k FLICKER f, ne-eqb k GO g) refl
+
+  abbrev pub Flickers : Type 0
+  Flickers = (k ≡ FLICKER) × (flickerForbidden s (row t p) ≡ true)
+
+  abbrev pub Goes : Type 0
+  Goes = (k ≡ GO) × (goForbidden s t p ≡ true)
+
+  pub forbidden-cases : ((forbiddenBy s t k p ≡ 16) × Flickers)
+      ⊎ ((forbiddenBy s t k p ≡ 17) × Goes)
+      ⊎ (forbiddenBy s t k p ≡ 0)
+  unfolding forbiddenBy
+  forbidden-cases =
+      let a = eqb k FLICKER && flickerForbidden s (row t p) in
+      let b = eqb k GO && goForbidden s t p in
+      let both : (x : ℕ) (y : Bool) → (eqb k x && y) ≡ true → (k ≡ x) × (y ≡ true) =
+      λ x y h. let c = and-eq-true-iff (eqb k x) y .0 h in (eqb-true k x (c .0), c .1) in
+      go (λ h. both FLICKER _ h) (λ h. both GO _ h) (chosen a b (forbiddenBy s t k p) refl)
+    where
+      go : {a b : Bool} → (a ≡ true → Flickers) → (b ≡ true → Goes)
+          → ((a ≡ true) × (forbiddenBy s t k p ≡ 16))
+          ⊎ ((a ≡ false) × (b ≡ true) × (forbiddenBy s t k p ≡ 17))
+          ⊎ ((a ≡ false) × (b ≡ false) × (forbiddenBy s t k p ≡ 0))
+          → ((forbiddenBy s t k p ≡ 16) × Flickers)
+          ⊎ ((forbiddenBy s t k p ≡ 17) × Goes)
+          ⊎ (forbiddenBy s t k p ≡ 0)
+      go f g (inl (x, e)) = inl (e, f x)
+      go f g (inr (inl (x, y, e))) = inr (inl (e, g y))
+      go f g (inr (inr (x, y, e))) = inr (inr e)
+
+  pub forbidden-16 : forbiddenBy s t k p ≡ 16 → Flickers
+  forbidden-16 e =
+      ⊎-elim (λ h. h .1)
+      (⊎-elim (λ h. absurd (omega (arith, h .0, e))) (λ h. absurd (omega (arith, h, e)))) forbidden-cases
+
+  pub forbidden-17 : forbiddenBy s t k p ≡ 17 → Goes
+  forbidden-17 e =
+      ⊎-elim (λ h. absurd (omega (arith, h .0, e)))
+      (⊎-elim (λ h. h .1) (λ h. absurd (omega (arith, h, e)))) forbidden-cases
+
+  pub forbidden-low : forbiddenBy s t k p ≤ 17
+  forbidden-low =
+      ⊎-elim (λ h. omega (arith, h .0)) (⊎-elim (λ h. omega (arith, h .0)) (λ h. omega (arith, h))) forbidden-cases
+
+-- 0 and 0 forbid nothing
+pub weakest-free : (t : Table) (k p : ℕ) → forbiddenBy weakest t k p ≡ 0
+weakest-free t k p =
+    ⊎-elim (λ h. absurd (neither (eqb (row t p .location) 24) (h .1 .1)))
+    (⊎-elim (λ h. absurd (false≢true (h .1 .1))) (λ h. h)) (forbidden-cases weakest t k p)
+  where
+    neither : (b : Bool) → cond b false false ≡ true → ⊥
+    neither true e = false≢true e
+    neither false e = false≢true e
+
+-- ---- before 15
+
+-- f where n is 0 or 15, and else n
+before15-cases : (f n : ℕ)
+    → ((before15 f n ≡ f) × (f ≢ 0) × ((n ≡ 0) ⊎ (n ≡ 15)))
+    ⊎ ((before15 f n ≡ n) × ((n ≡ 0) → f ≡ 0))
+before15-cases f n = go (ℕ-discrete f 0) (ℕ-discrete n 0) (ℕ-discrete n 15)
+  where
+    go : Dec (f ≡ 0) → Dec (n ≡ 0) → Dec (n ≡ 15)
+        → ((before15 f n ≡ f) × (f ≢ 0) × ((n ≡ 0) ⊎ (n ≡ 15)))
+        ⊎ ((before15 f n ≡ n) × ((n ≡ 0) → f ≡ 0))
+    go (yes e) x y =
+        inr (
+          split (λ b. cond (b && not (eqb f 0)) f n ≡ n) (oneOf n (accepted ∷ passesFull ∷ []))
+              (λ _. rw (eq-eqb f 0 e) refl) (λ _. refl),
+          λ _. e,
+        )
+    go (no ne) (yes z) y = inl (rw (ne-eqb f 0 ne, z) refl, ne, inl z)
+    go (no ne) (no x) (yes y) = inl (rw (ne-eqb f 0 ne, y) refl, ne, inr y)
+    go (no ne) (no x) (no y) = inr (rw (ne-eqb n 0 x, ne-eqb n 15 y) refl, λ z. absurd (x z))
+
+-- f counts first where n is 0; where it counts, it is not 0
+before15-zero : (f n : ℕ) → before15 f n ≡ 0 → (f ≡ 0) × (n ≡ 0)
+before15-zero f n z = go (before15-cases f n)
+  where
+    go : ((before15 f n ≡ f) × (f ≢ 0) × ((n ≡ 0) ⊎ (n ≡ 15)))
+        ⊎ ((before15 f n ≡ n) × ((n ≡ 0) → f ≡ 0))
+        → (f ≡ 0) × (n ≡ 0)
+    go (inl (e, ne, h)) = absurd (ne (sym e ∙ z))
+    go (inr (e, h)) = (h (sym e ∙ z), sym e ∙ z)
+
+before15-free : (f n : ℕ) → f ≡ 0 → before15 f n ≡ n
+before15-free f n z = go (before15-cases f n)
+  where
+    go : ((before15 f n ≡ f) × (f ≢ 0) × ((n ≡ 0) ⊎ (n ≡ 15)))
+        ⊎ ((before15 f n ≡ n) × ((n ≡ 0) → f ≡ 0))
+        → before15 f n ≡ n
+    go (inl (e, ne, h)) = absurd (ne z)
+    go (inr (e, h)) = e
+
+-- ---- which check answers
+
+module _ (s : Settings) (t : Table) (w : ℕ) where
+  pub under-table : tableRefusal t ≢ 0 → refusalUnder s t w ≡ refusalOf t w
+  unfolding refusalUnder
+  under-table ne = rw (ne-eqb (tableRefusal t) 0 ne) refl
+
+  pub under-unfit : tableRefusal t ≡ 0 → settingsFit s ≡ false → refusalUnder s t w ≡ 18
+  unfolding refusalUnder
+  under-unfit z h = rw (eq-eqb (tableRefusal t) 0 z, h) refl
+
+  abbrev pub forbidden : ℕ
+  forbidden = forbiddenBy s t (kindOf w) (processOf w)
+
+  pub under-fit : tableRefusal t ≡ 0 → settingsFit s ≡ true
+      → refusalUnder s t w ≡ before15 forbidden (refusalOf t w)
+  unfolding refusalUnder
+  under-fit z h = rw (eq-eqb (tableRefusal t) 0 z, h) refl
+
+  -- a word that meets 15 is not forbidden: 16 and 17 never meet it
+  pub full-free : refusalOf t w ≡ 15 → forbidden ≡ 0
+  unfolding forbiddenBy goesTo24
+  full-free e =
+      let full = full-go t w e in
+      go-free s t (kindOf w) (processOf w) (full .0)
+      (split (λ b. (b && (goesTo24 t (processOf w) && otherWriter t (processOf w))) ≡ false) (eqb (s .turn) oneWriter)
+      (λ _. rw (full .1) refl) (λ _. refl))
+
+-- a word that is accepted without settings, given with settings that fit
+pub record Allowed (s : Settings) (t : Table) (w : ℕ) : Type 0 where
+  pub settings-fit : settingsFit s ≡ true
+  pub not-refused : refusalOf t w ≡ 0
+
+-- the refusal without settings; 16 or 17; 18
+pub data Under (s : Settings) (t : Table) (w : ℕ) : Type 0 where
+  same : refusalUnder s t w ≡ refusalOf t w → Under s t w
+  forbids : refusalUnder s t w ≡ forbidden s t w → forbidden s t w ≢ 0 → Allowed s t w → Under s t w
+  unfit : refusalUnder s t w ≡ 18 → tableRefusal t ≡ 0 → settingsFit s ≡ false → Under s t w
+
+module _ (s : Settings) (t : Table) (w : ℕ) where
+  pub under-cases : Under s t w
+  under-cases = go (ℕ-discrete (tableRefusal t) 0)
+    where
+      fit : tableRefusal t ≡ 0
+          → settingsFit s ≡ true
+          → ((before15 (forbidden s t w) (refusalOf t w) ≡ forbidden s t w)
+          × (forbidden s t w ≢ 0)
+          × ((refusalOf t w ≡ 0) ⊎ (refusalOf t w ≡ 15)))
+          ⊎ ((before15 (forbidden s t w) (refusalOf t w) ≡ refusalOf t w)
+          × ((refusalOf t w ≡ 0) → forbidden s t w ≡ 0))
+          → Under s t w
+      fit z h (inl (e, ne, inl n)) =
+          Under.forbids (under-fit s t w z h ∙ e) ne (record { settings-fit = h; not-refused = n })
+      fit z h (inl (e, ne, inr full)) = absurd (ne (full-free s t w full))
+      fit z h (inr (e, f)) = Under.same (under-fit s t w z h ∙ e)
+
+      go : Dec (tableRefusal t ≡ 0) → Under s t w
+      go (no ne) = Under.same (under-table s t w ne)
+      go (yes z) =
+          split (λ _. Under s t w) (settingsFit s)
+          (λ h. fit z h (before15-cases (forbidden s t w) (refusalOf t w)))
+          (λ h. Under.unfit (under-unfit s t w z h) z h)
+
+  -- what is accepted under settings is accepted without them, and the settings do not forbid it
+  pub accepted-under : refusalUnder s t w ≡ 0 → Allowed s t w × (forbidden s t w ≡ 0)
+  accepted-under z = go under-cases
+    where
+      fit : tableRefusal t ≡ 0 → settingsFit s ≡ true
+      fit sound =
+          split (λ b. b ≡ true) (settingsFit s) (λ _. refl)
+          (λ h. absurd (omega (arith, under-unfit s t w sound h, z)))
+
+      go : Under s t w → Allowed s t w × (forbidden s t w ≡ 0)
+      go (Under.same e) =
+          let n = sym e ∙ z in
+          let sound = accepted-table t w n in (
+            record { settings-fit = fit sound; not-refused = n },
+            before15-zero (forbidden s t w) (refusalOf t w) (sym (under-fit s t w sound (fit sound)) ∙ z) .0,
+          )
+      go (Under.forbids e ne a) = absurd (ne (sym e ∙ z))
+      go (Under.unfit e x y) = absurd (omega (arith, e, z))
+
+  pub under-accepted : Allowed s t w → forbidden s t w ≡ 0 → refusalUnder s t w ≡ 0
+  under-accepted a f =
+      let n = a .not-refused in
+      under-fit s t w (accepted-table t w n) (a .settings-fit) ∙ before15-free (forbidden s t w) (refusalOf t w) f ∙ n
+
+  -- what the settings forbid, where nothing else refuses it
+  pub under-forbidden : Allowed s t w → forbidden s t w ≢ 0 → refusalUnder s t w ≡ forbidden s t w
+  under-forbidden a f =
+      under-fit s t w (accepted-table t w (a .not-refused)) (a .settings-fit)
+      ∙ rw (ne-eqb (forbidden s t w) 0 f, a .not-refused) refl
+
+  -- what is answered above 15
+  over : (v : ℕ) → 15 < v → v < 18 → refusalUnder s t w ≡ v → (forbidden s t w ≡ v) × Allowed s t w
+  over v l k e = go under-cases
+    where
+      go : Under s t w → (forbidden s t w ≡ v) × Allowed s t w
+      go (Under.same i) = absurd (omega (arith, i, e, l, refusal-low t w))
+      go (Under.forbids i ne a) = (sym i ∙ e, a)
+      go (Under.unfit i x y) = absurd (omega (arith, i, e, k))
+
+  pub met-16 : refusalUnder s t w ≡ 16 → Allowed s t w × Flickers s t (kindOf w) (processOf w)
+  met-16 e = let o = over 16 (omega arith) (omega arith) e in (o .1, forbidden-16 s t (kindOf w) (processOf w) (o .0))
+
+  pub met-17 : refusalUnder s t w ≡ 17 → Allowed s t w × Goes s t (kindOf w) (processOf w)
+  met-17 e = let o = over 17 (omega arith) (omega arith) e in (o .1, forbidden-17 s t (kindOf w) (processOf w) (o .0))
+
+  pub met-18 : refusalUnder s t w ≡ 18 → (tableRefusal t ≡ 0) × (settingsFit s ≡ false)
+  met-18 e = go under-cases
+    where
+      go : Under s t w → (tableRefusal t ≡ 0) × (settingsFit s ≡ false)
+      go (Under.same i) = absurd (omega (arith, i, e, refusal-low t w))
+      go (Under.forbids i ne a) = absurd (omega (arith, i, e, forbidden-low s t (kindOf w) (processOf w)))
+      go (Under.unfit i x y) = (x, y)

@@ -1,0 +1,355 @@
+-- Settings, as a reader opens them: what a step or a run answers under settings, for all six of them together, and for
+-- numbers that are none. `refusalOf`, `afterWord` and `answerOf` are the step without settings, which is the one under
+-- 0 and 0 (`weakest-step`); `refusalUnder s`, `afterUnder s` and `answerUnder s` the step under the settings s
+-- (Settings.antt).
+--
+--   weakest-step                          0 and 0 is the step without settings
+--   accepted-same, refused-same           settings refuse some words that 0 and 0 accept, and change nothing else
+--   forbidden-flicker, flicker-forbidden  which words meet 16
+--   forbidden-go, go-forbidden            which words meet 17
+--   unfit-settings, settings-unfit        which words meet 18
+--   accepted-list, each-accepted          a list under settings is its accepted words under 0 and 0
+--   allowed-run                           a run under settings is the run of the words it took under 0 and 0
+--   exchange-under                        two words in either order, where turn is not to have one writer
+--
+-- Assumes nothing.
+use Prim.Native.Nat.{ℕ, zero, suc, _+_, _≤_, _<_}
+use mathlib.Core.Path.{_≡_, refl, sym, ap, ap₂, _∙_, subst}
+use mathlib.Core.Bool.{Bool, true, false, cond, _&&_, not, false≢true, and-eq-true-iff}
+use mathlib.Core.Logic.{_≢_, _⊎_, inl, inr, ⊎-elim, by-cases}
+use mathlib.Core.List.{List, [], _∷_}
+use native.Mathlib.Decide.{ℕ-discrete, decLt}
+use native.Mathlib.Omega.{arith}
+use lib.Dec.{eqb}
+use lib.ListN.{length, getD, take}
+use borrow.Author.Tests.{eqb-true, eqb-false, eq-eqb, ne-eqb, not-true}
+use Rattle.counting.proofs.TestLaws.{split}
+use Rattle.counting.proofs.RangeLaws.{some-one, one-some}
+use Rattle.machine.specs.Tables.{Table, row, sound, tableRefusal}
+use Rattle.machine.specs.Words.{FLICKER, GO, kindOf, processOf}
+use Rattle.machine.specs.Shared.{noCell, clash, own, butHistory}
+use Rattle.machine.specs.Steps.{gone, moved, refusalOf, afterWord, afterWords, cellOf, answerOf, stepAnswerOf}
+use Rattle.machine.specs.Settings.{weakest, settingsFit, flickerForbidden, writesTurn, otherWriter, goesTo24}
+use Rattle.machine.specs.Settings.{goForbidden, forbiddenBy, refusalUnder, afterUnder, listUnder, acceptedOf}
+use Rattle.machine.specs.Settings.{answerUnder, stepAnswerUnder}
+use Rattle.machine.specs.declared.Row.{Row}
+use Rattle.machine.specs.declared.Settings.{Settings}
+use Rattle.machine.specs.declared.SharedCell.{SharedCell}
+use Rattle.machine.specs.declared.Stepped.{Stepped}
+use Rattle.machine.specs.declared.StepAnswer.{StepAnswer}
+use Rattle.machine.proofs.TableLaws.{row-over}
+use Rattle.machine.proofs.SoundRows.{sound-accepted, accepted-sound}
+use Rattle.machine.proofs.Accepted as Accepted
+use Rattle.machine.proofs.FullLaws.{full-word}
+use Rattle.machine.proofs.CellLaws.{refused-cell}
+use Rattle.machine.proofs.CellTheorems.{others-kept, exchange}
+use Rattle.machine.proofs.SettingLaws as Laws
+use Rattle.machine.proofs.SettingLaws.{weakest-free, forbidden-cases}
+use Rattle.machine.proofs.SettingLaws.{Under, Allowed, under-cases, accepted-under, under-accepted}
+use Rattle.machine.proofs.SettingLaws.{under-forbidden, under-unfit, under-fit, full-free, met-16, met-17, met-18}
+
+-- ---- the step
+
+-- what a step hands back
+pub record SameStep (s : Settings) (t : Table) (w : ℕ) : Type 0 where
+  pub refusal-same : refusalUnder s t w ≡ refusalOf t w
+  pub table-same : afterUnder s t w ≡ afterWord t w
+  pub answer-same : answerUnder s t w ≡ answerOf t w
+  pub to-c-same : stepAnswerUnder s t w ≡ stepAnswerOf t w
+
+-- where the refusal is the same, so is everything else
+same-step : (s : Settings) (t : Table) (w : ℕ) → refusalUnder s t w ≡ refusalOf t w → SameStep s t w
+unfolding afterUnder answerUnder answerOf
+same-step s t w e =
+    record {
+      refusal-same = e;
+      table-same = go (ℕ-discrete (refusalOf t w) 0);
+      answer-same = rw e refl;
+      to-c-same = cell (ℕ-discrete (refusalOf t w) 0);
+    }
+  where
+    go : Dec (refusalOf t w ≡ 0) → afterUnder s t w ≡ afterWord t w
+    go (yes z) = rw (eq-eqb (refusalUnder s t w) 0 (e ∙ z)) refl
+    go (no ne) = rw (ne-eqb (refusalUnder s t w) 0 (λ z. ne (sym e ∙ z))) (sym (Accepted.refused-same t w ne))
+
+    cell : Dec (refusalOf t w ≡ 0) → stepAnswerUnder s t w ≡ stepAnswerOf t w
+    cell (yes z) = rw (eq-eqb (refusalUnder s t w) 0 (e ∙ z), e) refl
+    cell (no ne) = rw (ne-eqb (refusalUnder s t w) 0 (λ z. ne (sym e ∙ z)), e, refused-cell t w ne) refl
+
+-- Under 0 and 0 a step is the step without settings, of every table and with every word.
+-- Excludes: settings 0 and 0 that forbid something, or that are refused with 18.
+pub weakest-step : (t : Table) (w : ℕ) → SameStep weakest t w
+weakest-step t w = same-step weakest t w (go (under-cases weakest t w))
+  where
+    go : Under weakest t w → refusalUnder weakest t w ≡ refusalOf t w
+    go (Under.same e) = e
+    go (Under.forbids e ne a) = absurd (ne (weakest-free t (kindOf w) (processOf w)))
+    go (Under.unfit e z h) = absurd (false≢true (sym h))
+
+-- What is accepted under settings is accepted under 0 and 0, with the same table, event and shared cell.
+-- Excludes: a setting that moves a table otherwise, that tells another cell, or that accepts what 0 and 0 refuse.
+-- Not empty: `weakest-step`, and under each of the six the words of SettingExamples.antt.
+pub accepted-same : (s : Settings) (t : Table) (w : ℕ) → refusalUnder s t w ≡ 0 → (refusalOf t w ≡ 0) × SameStep s t w
+accepted-same s t w z =
+    let n = accepted-under s t w z .0 .not-refused in
+    (n, same-step s t w (z ∙ sym n))
+
+-- A refusal under settings other than 16, 17 and 18 is that under 0 and 0; so the results differ in nothing else.
+-- Excludes: a setting that answers 10 where 11 is due, or that refuses with a number that has a meaning already.
+pub refused-same : (s : Settings) (t : Table) (w : ℕ)
+    → refusalUnder s t w ≢ 16
+    → refusalUnder s t w ≢ 17
+    → refusalUnder s t w ≢ 18
+    → SameStep s t w
+refused-same s t w a b c = same-step s t w (go (under-cases s t w))
+  where
+    go : Under s t w → refusalUnder s t w ≡ refusalOf t w
+    go (Under.same e) = e
+    go (Under.forbids e ne h) =
+        absurd
+        (⊎-elim (λ i. a (e ∙ i .0)) (⊎-elim (λ i. b (e ∙ i .0)) (λ i. ne i))
+        (forbidden-cases s t (kindOf w) (processOf w)))
+    go (Under.unfit e z h) = absurd (c e)
+
+-- A word that is refused under settings changes nothing and uses no cell, whatever the table.
+-- Excludes: a forbidden FLICKER that writes, or that tells the cell it did not write.
+pub refused-under : (s : Settings) (t : Table) (w : ℕ)
+    → refusalUnder s t w ≢ 0
+    → (afterUnder s t w ≡ t) × (stepAnswerUnder s t w .cell ≡ noCell)
+unfolding afterUnder
+refused-under s t w ne = (rw (ne-eqb _ _ ne) refl, rw (ne-eqb _ _ ne) refl)
+
+-- ---- which words are forbidden
+
+-- A word meets 16 just where the settings are two of those listed, the word is accepted under 0 and 0, it is FLICKER,
+-- and the cell that it would show while it is written is plain: turn at 24, act at 20 and 40.
+-- Excludes: act plain that forbids the FLICKER at 24, turn plain that forbids one at 20 or 40, one writer that forbids
+-- any; 16 before 11; a setting that forbids nothing.
+pub forbidden-flicker : (s : Settings) (t : Table) (w : ℕ)
+    → refusalUnder s t w ≡ 16
+    → (settingsFit s ≡ true)
+    × (refusalOf t w ≡ 0)
+    × (kindOf w ≡ FLICKER)
+    × (((row t (processOf w) .location ≡ 24) × (s .turn ≡ 2))
+    ⊎ ((row t (processOf w) .location ≢ 24) × (s .act ≡ 1)))
+forbidden-flicker s t w e =
+    let m = met-16 s t w e in
+    (m .0 .settings-fit, m .0 .not-refused, m .1 .0, go (ℕ-discrete (row t (processOf w) .location) 24) (m .1 .1))
+  where
+    go : Dec (row t (processOf w) .location ≡ 24)
+        → flickerForbidden s (row t (processOf w)) ≡ true
+        → ((row t (processOf w) .location ≡ 24) × (s .turn ≡ 2))
+        ⊎ ((row t (processOf w) .location ≢ 24) × (s .act ≡ 1))
+    go (yes l) h = inl (l, eqb-true _ _ (rw (eq-eqb _ _ l) at h))
+    go (no l) h = inr (l, eqb-true _ _ (rw (ne-eqb _ _ l) at h))
+
+pub flicker-forbidden : (s : Settings) (t : Table) (w : ℕ)
+    → settingsFit s ≡ true
+    → refusalOf t w ≡ 0
+    → kindOf w ≡ FLICKER
+    → ((row t (processOf w) .location ≡ 24) × (s .turn ≡ 2))
+    ⊎ ((row t (processOf w) .location ≢ 24) × (s .act ≡ 1))
+    → refusalUnder s t w ≡ 16
+flicker-forbidden s t w fit n k h =
+    let f = Laws.flicker-forbidden s t (kindOf w) (processOf w) k (go h) in
+    under-forbidden s t w (record { settings-fit = fit; not-refused = n }) (omega (arith, f)) ∙ f
+  where
+    go : ((row t (processOf w) .location ≡ 24) × (s .turn ≡ 2))
+        ⊎ ((row t (processOf w) .location ≢ 24) × (s .act ≡ 1))
+        → flickerForbidden s (row t (processOf w)) ≡ true
+    go (inl (l, e)) = rw (eq-eqb _ _ l) (eq-eqb _ _ e)
+    go (inr (l, e)) = rw (ne-eqb _ _ l) (eq-eqb _ _ e)
+
+-- an accepted GO is what `gone` makes
+go-gone : (t : Table) (w : ℕ) → refusalOf t w ≡ 0 → kindOf w ≡ GO → afterWord t w ≡ gone t (processOf w)
+unfolding moved
+go-gone t w n k = Accepted.accepted-moved t w n ∙ rw k refl
+
+-- another process than p is at 24 with the level of p
+abbrev pub Writer : Table → ℕ → ℕ → Type 0
+Writer t p q = (q ≢ p) × (row t q .location ≡ 24) × (row t q .level ≡ row t p .level)
+
+-- A word meets 17 just where turn is to have one writer, the word is accepted under 0 and 0, it is GO that goes from 23
+-- to 24, and another process at 24 has the level of its process.
+-- Excludes: 17 where est is below level, or where bb is 1; 17 for the process itself; for a process at 24 of another
+-- level, or at 23 of the same; 17 before 11; one writer that lets a second one in.
+pub forbidden-go : (s : Settings) (t : Table) (w : ℕ)
+    → refusalUnder s t w ≡ 17
+    → (settingsFit s ≡ true)
+    × (refusalOf t w ≡ 0)
+    × (kindOf w ≡ GO)
+    × (s .turn ≡ 1)
+    × (row t (processOf w) .location ≡ 23)
+    × (row (afterWord t w) (processOf w) .location ≡ 24)
+    × (q : ℕ) × Writer t (processOf w) q
+unfolding otherWriter goesTo24
+forbidden-go s t w e =
+    let m = met-17 s t w e in
+    let p = processOf w in
+    let n = m .0 .not-refused in
+    let k = m .1 .0 in
+    let one = and-eq-true-iff (eqb (s .turn) 1) _ .0 (m .1 .1) in
+    let goes = and-eq-true-iff (goesTo24 t p) (otherWriter t p) .0 (one .1) in
+    let there = and-eq-true-iff (eqb (row t p .location) 23) _ .0 (goes .0) in
+    let other = some-one _ (length t) (goes .1) in
+    let apart = and-eq-true-iff (not (eqb (other .0) p)) _ .0 (other .2) in
+    let writes = and-eq-true-iff (eqb (row t (other .0) .location) 24) _ .0 (apart .1) in (
+      m .0 .settings-fit,
+      n,
+      k,
+      eqb-true _ _ (one .0),
+      eqb-true _ _ (there .0),
+      ap (λ (u : Table). row u p .location) (go-gone t w n k) ∙ eqb-true _ _ (there .1),
+      other .0,
+      (eqb-false _ _ (not-true _ (apart .0)), eqb-true _ _ (writes .0), eqb-true _ _ (writes .1)),
+    )
+
+pub go-forbidden : (s : Settings) (t : Table) (w q : ℕ)
+    → settingsFit s ≡ true
+    → refusalOf t w ≡ 0
+    → kindOf w ≡ GO
+    → s .turn ≡ 1
+    → row t (processOf w) .location ≡ 23
+    → row (afterWord t w) (processOf w) .location ≡ 24
+    → Writer t (processOf w) q
+    → refusalUnder s t w ≡ 17
+unfolding otherWriter goesTo24
+go-forbidden s t w q fit n k one l m (ne, there, level) =
+    let p = processOf w in
+    let goes = ap (λ (u : Table). row u p .location) (sym (go-gone t w n k)) ∙ m in
+    let other = one-some (λ i. not (eqb i p) && writesTurn (row t p .level) (row t i)) (length t) q
+    (inside q there) (rw (ne-eqb _ _ ne, eq-eqb _ _ there, eq-eqb _ _ level) refl) in
+    let f = Laws.go-forbidden s t (kindOf w) p k
+    (rw (eq-eqb _ _ one, eq-eqb _ _ l, eq-eqb _ _ goes) other) in
+    under-forbidden s t w (record { settings-fit = fit; not-refused = n }) (omega (arith, f)) ∙ f
+  where
+    inside : (q : ℕ) → row t q .location ≡ 24 → q < length t
+    inside q e = by-cases (decLt q (length t)) (λ h. h)
+        (λ nl. absurd (omega (arith, e, ap (λ (r : Row). r .location) (row-over t q (omega (arith, nl))))))
+
+-- A word meets 18 just where the table is sound and one of the settings is none of those listed, whatever the word.
+-- Excludes: 18 before 7, or after 8; act 2, turn 3, or a value of which only some bits are looked at.
+pub unfit-settings : (s : Settings) (t : Table) (w : ℕ)
+    → refusalUnder s t w ≡ 18
+    → (sound t ≡ true) × (settingsFit s ≡ false)
+unfit-settings s t w e = let m = met-18 s t w e in (accepted-sound t (m .0), m .1)
+
+pub settings-unfit : (s : Settings) (t : Table) (w : ℕ)
+    → sound t ≡ true
+    → settingsFit s ≡ false
+    → refusalUnder s t w ≡ 18
+settings-unfit s t w h f = under-unfit s t w (sound-accepted t h) f
+
+-- ---- lists
+
+-- The table after a list under settings is the table after its accepted words under 0 and 0.
+-- Excludes: a setting under which a list leads anywhere else; so whatever holds of every list holds under settings.
+pub accepted-list : (s : Settings) (t : Table) (ws : List ℕ) → listUnder s t ws ≡ afterWords t (acceptedOf s t ws)
+unfolding listUnder acceptedOf afterWords afterUnder
+accepted-list s t [] = refl
+accepted-list s t (w ∷ ws) = go (ℕ-discrete (refusalUnder s t w) 0) (accepted-list s (afterUnder s t w) ws)
+  where
+    go : Dec (refusalUnder s t w ≡ 0)
+        → listUnder s (afterUnder s t w) ws ≡ afterWords (afterUnder s t w) (acceptedOf s (afterUnder s t w) ws)
+        → listUnder s (afterUnder s t w) ws ≡ afterWords t (acceptedOf s t (w ∷ ws))
+    go (yes z) h = h ∙ rw (eq-eqb _ _ z) refl
+    go (no ne) h = h ∙ rw (ne-eqb _ _ ne) refl
+
+-- every word of a list is accepted under 0 and 0, after the ones before it
+abbrev pub AllAccepted : Table → List ℕ → Type 0
+AllAccepted t vs = (i : ℕ) → i < length vs → refusalOf (afterWords t (take i vs)) (getD vs i 0) ≡ 0
+
+one-more : (t : Table) (w : ℕ) (vs : List ℕ)
+    → refusalOf t w ≡ 0
+    → AllAccepted (afterWord t w) vs
+    → AllAccepted t (w ∷ vs)
+unfolding afterWords
+one-more t w vs z h zero l = z
+one-more t w vs z h (suc i) l = h i (omega arith)
+
+-- And these words are accepted under 0 and 0, every one.
+-- Excludes: words that are only passed over.
+pub each-accepted : (s : Settings) (t : Table) (ws : List ℕ) → AllAccepted t (acceptedOf s t ws)
+unfolding acceptedOf
+each-accepted s t [] = λ i l. absurd (omega arith)
+each-accepted s t (w ∷ ws) =
+    let u = afterUnder s t w in
+    let rest = acceptedOf s u ws in
+    let h = each-accepted s u ws in
+    let pick : Bool → List ℕ = λ b. cond b (w ∷ rest) rest in
+    by-cases (ℕ-discrete (refusalUnder s t w) 0)
+    (λ z.
+    let a = accepted-same s t w z in
+    subst (AllAccepted t) (sym (ap pick (eq-eqb _ _ z)))
+    (one-more t w rest (a .0) (subst (λ (v : Table). AllAccepted v rest) (a .1 .table-same) h)))
+    (λ ne.
+    subst (AllAccepted t) (sym (ap pick (ne-eqb _ _ ne)))
+    (subst (λ (v : Table). AllAccepted v rest) (refused-under s t w ne .0) h))
+
+-- ---- two words
+
+-- forbidding looks at the location of the process alone, where turn is not to have one writer
+same-forbidden : (s : Settings) (t u : Table) (k p : ℕ)
+    → s .turn ≢ 1
+    → row u p .location ≡ row t p .location
+    → forbiddenBy s u k p ≡ forbiddenBy s t k p
+unfolding forbiddenBy
+same-forbidden s t u k p ne e = rw (ne-eqb _ _ ne, e) refl
+
+-- w after v, by what the exchange of the two says of 0 and 0
+accepted-after : (s : Settings) (t : Table) (v w : ℕ)
+    → s .turn ≢ 1
+    → refusalUnder s t w ≡ 0
+    → processOf v ≢ processOf w
+    → refusalOf (afterWord t v) w ≡ 0
+    → refusalUnder s (afterWord t v) w ≡ 0
+accepted-after s t v w one z ne n =
+    let a = accepted-under s t w z in
+    under-accepted s (afterWord t v) w (record { settings-fit = a .0 .settings-fit; not-refused = n })
+    (same-forbidden s t (afterWord t v) (kindOf w) (processOf w) one
+    (ap (λ (r : Row). r .location) (others-kept t v (processOf w) (λ e. ne (sym e))))
+    ∙ a .1)
+
+-- 15 is met under settings where it is met under 0 and 0
+full-under : (s : Settings) (t : Table) (w : ℕ)
+    → settingsFit s ≡ true
+    → refusalOf t w ≡ 15
+    → refusalUnder s t w ≡ 15
+full-under s t w fit e =
+    under-fit s t w (sound-accepted t (full-word t w e .0)) fit ∙ rw (full-free s t w e, e) refl
+
+-- Two words as for `exchange` of CellTheorems.antt, under settings of which turn is 0 or 2, and act either: each is
+-- accepted after the other under the same settings, and both orders lead to the same table, history apart.
+-- Excludes: act plain, or turn plain, that look at a process of which the word tells nothing.
+-- Under one writer it is false: `one-writer-exchange` of SettingExamples.antt, where each of two may go to 24, and after
+-- either the other may not.
+pub exchange-under : (s : Settings) (t : Table) (v w : ℕ)
+    → s .turn ≢ 1
+    → refusalUnder s t v ≡ 0
+    → refusalUnder s t w ≡ 0
+    → processOf v ≢ processOf w
+    → clash (cellOf t v) (cellOf t w) ≡ false
+    → refusalUnder s (afterUnder s t v) w ≢ 15
+    → refusalUnder s (afterUnder s t w) v ≢ 15
+    → (refusalUnder s (afterUnder s t v) w ≡ 0)
+    × (refusalUnder s (afterUnder s t w) v ≡ 0)
+    × (butHistory (afterUnder s (afterUnder s t v) w) ≡ butHistory (afterUnder s (afterUnder s t w) v))
+exchange-under s t v w one x y ne free fw fv =
+    let a = accepted-same s t v x in
+    let b = accepted-same s t w y in
+    let fit = accepted-under s t v x .0 .settings-fit in
+    let tv = a .1 .table-same in
+    let tw = b .1 .table-same in
+    let e =
+    exchange t v w (a .0) (b .0) ne free
+    (λ f. fw (ap (λ (u : Table). refusalUnder s u w) tv ∙ full-under s (afterWord t v) w fit f))
+    (λ f. fv (ap (λ (u : Table). refusalUnder s u v) tw ∙ full-under s (afterWord t w) v fit f)) in
+    let p = accepted-after s t v w one y ne (e .0) in
+    let q = accepted-after s t w v one x (λ i. ne (sym i)) (e .1) in (
+      ap (λ (u : Table). refusalUnder s u w) tv ∙ p,
+      ap (λ (u : Table). refusalUnder s u v) tw ∙ q,
+      ap (λ (u : Table). butHistory (afterUnder s u w)) tv
+          ∙ ap butHistory (accepted-same s (afterWord t v) w p .1 .table-same) ∙ e .2
+          ∙ sym (ap butHistory (accepted-same s (afterWord t w) v q .1 .table-same))
+          ∙ sym (ap (λ (u : Table). butHistory (afterUnder s u v)) tw),
+    )
