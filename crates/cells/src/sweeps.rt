@@ -9,6 +9,7 @@ ghost use lib.ListN.{length, set};
 ghost use Rattle.machine.specs.Tables.{row, competitors};
 ghost use Rattle.machine.specs.Steps.{forgets};
 ghost use Rattle.cells.specs.View.{rowsOf, Becomes};
+ghost use Rattle.cells.specs.Writers.{hasWriter};
 
 // The set of the processes that compete.
 pub fn competitors(cells: &[[u16; 24]]) -> u16
@@ -25,6 +26,22 @@ pub fn competitors(cells: &[[u16; 24]]) -> u16
         q += 1;
     }
     s
+}
+
+// Whether some process at 24 has level k: it is about to write turn[k].
+pub fn has_writer(cells: &[[u16; 24]], k: u16) -> bool
+    ensures { λ b. ⌜ b ≡ hasWriter k (rowsOf (now (cells .entry))) ⌝ }
+{
+    let n = cells.len();
+    let mut q = 0;
+    while q < n {
+        let r = row_at(cells, q);
+        if (r.location == 24) & (r.level == k) {
+            return true;
+        }
+        q += 1;
+    }
+    false
 }
 
 // Process p leaves the ahead set of process q, which has no passes over it any more.

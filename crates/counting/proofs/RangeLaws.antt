@@ -2,7 +2,7 @@
 --
 --   upTo-cong, upTo-length, upTo-at, upTo-all   the list of g 0, g 1, ..; a list is that of its places
 --   every-cong, every-at, every-all, every-fails    a test of all numbers below n, and of one of them
---   some-cong, some-one, one-some                   a test of any number below n
+--   some-cong, some-one, none-next, one-some                   a test of any number below n
 --   filled ..                                   an array that is filled with g 0, g 1, ..
 --
 -- Assumes nothing.
@@ -106,6 +106,11 @@ module _ (P : ℕ → Bool) where
   some-one (suc n) h =
       ⊎-elim (λ e. let g = some-one n e in (g .0, omega (arith, g .1), g .2)) (λ e. (n, omega arith, e))
       (or-cases (some P n) (P n) h)
+
+  -- none so far, and not the next
+  pub none-next : (n : ℕ) → some P n ≡ false → P n ≡ false → some P (n + 1) ≡ false
+  unfolding some
+  none-next n h e = ap (some P) (add-one n) ∙ rw (h, e) refl
 
   pub one-some : (n i : ℕ) → i < n → P i ≡ true → some P n ≡ true
   unfolding some

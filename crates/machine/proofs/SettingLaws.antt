@@ -3,6 +3,7 @@
 --   refusal-low                            no refusal of the step without settings is above 15
 --   flicker-forbidden, flicker-free, go-forbidden, go-free, others-free, weakest-free    what forbiddenBy answers
 --   Flickers, Goes, forbidden-cases        what 16, and what 17, says
+--   before15-cases, before15-zero, before15-free    16 and 17 between 11 and 15
 --   under-table, under-unfit, under-fit    6 and 7, then 18, then the word
 --   accepted-under, under-accepted         what is accepted under settings
 --   full-free                              a word that meets 15 is not forbidden
@@ -132,7 +133,7 @@ weakest-free t k p =
 -- ---- before 15
 
 -- f where n is 0 or 15, and else n
-before15-cases : (f n : ℕ)
+pub before15-cases : (f n : ℕ)
     → ((before15 f n ≡ f) × (f ≢ 0) × ((n ≡ 0) ⊎ (n ≡ 15)))
     ⊎ ((before15 f n ≡ n) × ((n ≡ 0) → f ≡ 0))
 before15-cases f n = go (ℕ-discrete f 0) (ℕ-discrete n 0) (ℕ-discrete n 15)
@@ -151,7 +152,7 @@ before15-cases f n = go (ℕ-discrete f 0) (ℕ-discrete n 0) (ℕ-discrete n 15
     go (no ne) (no x) (no y) = inr (rw (ne-eqb n 0 x, ne-eqb n 15 y) refl, λ z. absurd (x z))
 
 -- f counts first where n is 0; where it counts, it is not 0
-before15-zero : (f n : ℕ) → before15 f n ≡ 0 → (f ≡ 0) × (n ≡ 0)
+pub before15-zero : (f n : ℕ) → before15 f n ≡ 0 → (f ≡ 0) × (n ≡ 0)
 before15-zero f n z = go (before15-cases f n)
   where
     go : ((before15 f n ≡ f) × (f ≢ 0) × ((n ≡ 0) ⊎ (n ≡ 15)))
@@ -160,7 +161,7 @@ before15-zero f n z = go (before15-cases f n)
     go (inl (e, ne, h)) = absurd (ne (sym e ∙ z))
     go (inr (e, h)) = (h (sym e ∙ z), sym e ∙ z)
 
-before15-free : (f n : ℕ) → f ≡ 0 → before15 f n ≡ n
+pub before15-free : (f n : ℕ) → f ≡ 0 → before15 f n ≡ n
 before15-free f n z = go (before15-cases f n)
   where
     go : ((before15 f n ≡ f) × (f ≢ 0) × ((n ≡ 0) ⊎ (n ≡ 15)))

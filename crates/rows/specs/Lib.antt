@@ -2,3 +2,4 @@
 pub mod Bounds
 pub mod Masks
 pub mod Passes
+pub mod Pushing

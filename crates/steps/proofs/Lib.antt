@@ -3,4 +3,5 @@ pub mod MoveLaws
 pub mod EventLaws
 pub mod ToldLaws
 pub mod TakeLaws
+pub mod SettingLaws
 pub mod StepLaws

@@ -1,5 +1,5 @@
 -- A kind with an argument at cells: refused and nothing moved, or taken. Assumes nothing.
-use Prim.Native.Nat.{ℕ}
+use Prim.Native.Nat.{ℕ, _≤_}
 use mathlib.Core.Path.{_≡_, refl, sym, ap, _∙_, subst}
 use mathlib.Core.Bool.{Bool, true, false, cond, _&&_, not, and-eq-true-iff}
 use mathlib.Core.Logic.{_⊎_, inl, inr, ⊎-elim}
@@ -15,10 +15,10 @@ use Rattle.machine.specs.Words.{STAY, COME, FLICKER, GO, LOOK, CANCEL, isKind, 
 use Rattle.machine.specs.Steps.{moved, allowed, argumentFits, raisable, overflows, refusalAt}
 use Rattle.machine.specs.declared.Told.{Told}
 use Rattle.machine.specs.declared.Stepped.{Stepped}
-use Rattle.counting.proofs.TestLaws.{cond-zero}
+use Rattle.counting.proofs.TestLaws.{cond-zero, cond-le}
 use Rattle.machine.proofs.KindLaws.{by-kind}
 use Rattle.cells.specs.View.{rowsOf}
-use Rattle.steps.specs.Moves.{kindTold, rowRefusal, Ready, Free, Sees, Moves, Goes, Takes}
+use Rattle.steps.specs.Moves.{kindTold, rowRefusal, Ready, Free, Sees, Moves, Goes, TakesBy, Takes}
 use Rattle.steps.proofs.MoveLaws.{becomes-as}
 
 -- ---- the kinds
@@ -80,6 +80,11 @@ module _ (t : Table) (k p a : ℕ) where
       go true false n = refl
       go true true n = absurd (n refl)
 
+  pub row-refusals : rowRefusal t k p a ≤ 11
+  row-refusals =
+      cond-le (not (allowed k (row t p))) notAllowed second 11 (omega arith)
+      (cond-le (not (argumentFits (length t) k (row t p) a)) badArgument accepted 11 (omega arith) (omega arith))
+
   pub refused-late : rowRefusal t k p a ≡ 0 → refusalAt t k p a ≡ cond (overflows t k p) passesFull accepted
   refused-late z = rw (allowed-there z, argument-fits z) refl
 
@@ -98,23 +103,23 @@ may-look {x} {p} {a} ready why z =
 
 -- ---- refused, or moved
 
-module _ (x : List (List ℕ)) (k p a : ℕ) where
+module _ (n : ℕ) (x : List (List ℕ)) (k p a : ℕ) where
   abbrev answers : Bool → Stepped
-  answers b = cond b (Stepped.Moved (kindTold k p a (row (rowsOf x) p))) (Stepped.Refused (refusalAt (rowsOf x) k p a))
+  answers b = cond b (Stepped.Moved (kindTold k p a (row (rowsOf x) p))) (Stepped.Refused n)
 
   abbrev tables : Bool → Table
   tables b = cond b (moved (rowsOf x) k p a) (rowsOf x)
 
 -- refused with v
-refused-with : {x : List (List ℕ)} {k p a : ℕ} (v : ℕ)
-    → v ≡ refusalAt (rowsOf x) k p a
+pub refused-with : {x : List (List ℕ)} {k p a n : ℕ} (v : ℕ)
+    → v ≡ n
     → (v ≡ 0 → ⊥)
-    → Takes x k p a x (Stepped.Refused v)
-refused-with {x} {k} {p} {a} v why n =
-    let ne = ne-eqb (refusalAt (rowsOf x) k p a) 0 (λ z. n (why ∙ z)) in
+    → TakesBy n x k p a x (Stepped.Refused v)
+refused-with {x} {k} {p} {a} {n} v why some =
+    let ne = ne-eqb n 0 (λ z. some (why ∙ z)) in
     record {
-      answer-is = ap (λ (m : ℕ). Stepped.Refused m) why ∙ sym (ap (answers x k p a) ne);
-      becomes = record { rows-are = sym (ap (tables x k p a) ne); size-is = refl };
+      answer-is = ap (λ (m : ℕ). Stepped.Refused m) why ∙ sym (ap (answers n x k p a) ne);
+      becomes = record { rows-are = sym (ap (tables n x k p a) ne); size-is = refl };
     }
 
 module _ {x : List (List ℕ)} {k p a v : ℕ} (why : v ≡ rowRefusal (rowsOf x) k p a) where
@@ -133,11 +138,12 @@ module _ {x : List (List ℕ)} {k p a v : ℕ} (why : v ≡ rowRefusal (rowsOf x
       → Moves x k p a y s
       → Takes x k p a y (Stepped.Moved s)
   takes-moved z fits m =
-      let eq = eq-eqb (refusalAt (rowsOf x) k p a) 0
+      let n = refusalAt (rowsOf x) k p a in
+      let eq = eq-eqb n 0
       (refused-late (rowsOf x) k p a (sym why ∙ z) ∙ ap (λ (b : Bool). cond b passesFull accepted) fits) in
       record {
-        answer-is = ap (λ (g : Told). Stepped.Moved g) (m .told-is) ∙ sym (ap (answers x k p a) eq);
-        becomes = becomes-as (m .becomes) (sym (ap (tables x k p a) eq));
+        answer-is = ap (λ (g : Told). Stepped.Moved g) (m .told-is) ∙ sym (ap (answers n x k p a) eq);
+        becomes = becomes-as (m .becomes) (sym (ap (tables n x k p a) eq));
       }
 
 -- ---- which kinds add to counts

@@ -11,7 +11,9 @@
 --   Jumping x k p     <=>  it can, and k is STAY, COME or CANCEL, which change no cell but the location.
 --   Moves x k p a y s <=>  kind k with argument a made y of the cells x and tells s, where it is allowed.
 --   Goes x p y s      <=>  so did GO.
---   Takes x k p a y s <=>  kind k with argument a made y of the cells x and answered s.
+--   TakesBy n x k p a y s  <=>  kind k with argument a made y of the cells x and answered s, by the refusal n, or 0.
+--   Takes x k p a y s <=>  so it did, by its refusal without settings.
+--   TakesUnder m x k p a y s  <=>  so it did, by its refusal under the settings m.
 --
 -- Assumes nothing.
 use Prim.Native.Nat.{ℕ, _^_, _≤_, _<_}
@@ -26,8 +28,10 @@ use Rattle.machine.specs.Tables.{Table, row}
 use Rattle.machine.specs.Words.{STAY, COME, GO, CANCEL, isKind}
 use Rattle.machine.specs.Shared.{cellAt}
 use Rattle.machine.specs.Steps.{moved, allowed, argumentFits, refusalAt}
+use Rattle.machine.specs.Settings.{forbiddenBy, before15}
 use Rattle.machine.specs.declared.Row.{Row}
 use Rattle.machine.specs.declared.Event.{Event}
+use Rattle.machine.specs.declared.Settings.{Settings}
 use Rattle.machine.specs.declared.Told.{Told}
 use Rattle.machine.specs.declared.Stepped.{Stepped}
 use Rattle.cells.specs.View.{rowsOf, Becomes}
@@ -91,8 +95,17 @@ pub record Moves (x : List (List ℕ)) (k p a : ℕ) (y : List (List ℕ)) (s : 
 abbrev pub Goes : List (List ℕ) → ℕ → List (List ℕ) → Told → Type 0
 Goes x p y s = Moves x GO p 0 y s
 
-pub record Takes (x : List (List ℕ)) (k p a : ℕ) (y : List (List ℕ)) (s : Stepped) : Type 0 where
+pub record TakesBy (n : ℕ) (x : List (List ℕ)) (k p a : ℕ) (y : List (List ℕ)) (s : Stepped) : Type 0 where
   pub answer-is : s
-      ≡ cond (eqb (refusalAt (rowsOf x) k p a) accepted) (Stepped.Moved (kindTold k p a (row (rowsOf x) p)))
-      (Stepped.Refused (refusalAt (rowsOf x) k p a))
-  pub becomes : Becomes x (cond (eqb (refusalAt (rowsOf x) k p a) accepted) (moved (rowsOf x) k p a) (rowsOf x)) y
+      ≡ cond (eqb n accepted) (Stepped.Moved (kindTold k p a (row (rowsOf x) p))) (Stepped.Refused n)
+  pub becomes : Becomes x (cond (eqb n accepted) (moved (rowsOf x) k p a) (rowsOf x)) y
+
+abbrev pub Takes : List (List ℕ) → ℕ → ℕ → ℕ → List (List ℕ) → Stepped → Type 0
+Takes x k p a y s = TakesBy (refusalAt (rowsOf x) k p a) x k p a y s
+
+-- 16 and 17 after 11 and before 15
+abbrev pub refusalBy : Settings → Table → ℕ → ℕ → ℕ → ℕ
+refusalBy m t k p a = before15 (forbiddenBy m t k p) (refusalAt t k p a)
+
+abbrev pub TakesUnder : Settings → List (List ℕ) → ℕ → ℕ → ℕ → List (List ℕ) → Stepped → Type 0
+TakesUnder m x k p a y s = TakesBy (refusalBy m (rowsOf x) k p a) x k p a y s

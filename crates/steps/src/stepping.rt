@@ -1,21 +1,25 @@
-// The step: the check of the table, the check of the word, the move.
+// The step: the check of the table, of the settings and of the word, and the move.
 use crate::taking::take_flicker;
 use crate::taking::take_go;
 use crate::taking::take_jump;
 use crate::taking::take_look;
 use cells::checks::check;
+use machine::Settings;
 use machine::Stepped;
 ghost use mathlib.Core.Path.{_≡_};
+ghost use mathlib.Core.Bool.{true};
 ghost use Rattle.machine.specs.Tables.{tableRefusal};
+ghost use Rattle.machine.specs.Settings.{settingsFit};
 ghost use Rattle.cells.specs.View.{rowsOf};
-ghost use Rattle.steps.specs.Stepping.{Steps};
+ghost use Rattle.steps.specs.Stepping.{Steps, StepsUnder};
 
-// The step of a word at a table that is known to be sound, which is not checked again: what it
-// tells of an accepted word; else the number of the refusal, and no row is changed. The frequent
-// kinds come first.
-pub fn advance(cells: &mut [[u16; 24]], word: u32) -> Stepped
+// The step of a word under settings, at a table that is known to be sound and with settings that are
+// known to fit, which are not checked again: what it tells of an accepted word; else the number of the
+// refusal, and no row is changed. The frequent kinds come first.
+pub fn advance_under(cells: &mut [[u16; 24]], word: u32, settings: Settings) -> Stepped
     requires { ⌜ tableRefusal (rowsOf (now cells)) ≡ 0 ⌝ }
-    ensures { λ s. ⌜ Steps (now (cells .entry)) word (now (cells .exit)) s ⌝ }
+    requires { ⌜ settingsFit settings ≡ true ⌝ }
+    ensures { λ s. ⌜ StepsUnder settings (now (cells .entry)) word (now (cells .exit)) s ⌝ }
 {
     let p = words::process_of(word);
     let well_formed = words::formed(word);
@@ -31,22 +35,34 @@ pub fn advance(cells: &mut [[u16; 24]], word: u32) -> Stepped
         return take_look(cells, p, a);
     }
     if kind == machine::GO {
-        return take_go(cells, p, a);
+        return take_go(cells, p, a, settings);
     }
     if kind == machine::FLICKER {
-        return take_flicker(cells, p, a);
+        return take_flicker(cells, p, a, settings);
     }
     take_jump(cells, kind, p, a)
 }
 
-// The step of a word at a table of any size and content: what it tells of an accepted word;
-// else the number of the refusal, of the table or of the word, and no row is changed.
-pub fn step(cells: &mut [[u16; 24]], word: u32) -> Stepped
+// The same under settings that forbid nothing.
+pub fn advance(cells: &mut [[u16; 24]], word: u32) -> Stepped
+    requires { ⌜ tableRefusal (rowsOf (now cells)) ≡ 0 ⌝ }
     ensures { λ s. ⌜ Steps (now (cells .entry)) word (now (cells .exit)) s ⌝ }
+{
+    advance_under(cells, word, Settings::WEAKEST)
+}
+
+// The step of a word under settings at a table of any size and content: what it tells of an accepted
+// word; else the number of the refusal, of the table, of the settings or of the word, and no row is
+// changed.
+pub fn step(cells: &mut [[u16; 24]], word: u32, settings: Settings) -> Stepped
+    ensures { λ s. ⌜ StepsUnder settings (now (cells .entry)) word (now (cells .exit)) s ⌝ }
 {
     let unsound = check(cells);
     if unsound != 0 {
         return Stepped::Refused(unsound);
     }
-    advance(cells, word)
+    if !rows::settings::settings_fit(settings) {
+        return Stepped::Refused(machine::BAD_SETTINGS);
+    }
+    advance_under(cells, word, settings)
 }

@@ -7,15 +7,19 @@ use crate::moving::come;
 use crate::moving::flicker;
 use crate::moving::look;
 use cells::access::row_at;
+use cells::sweeps::has_writer;
+use machine::Settings;
 use machine::Stepped;
 use machine::Told;
 ghost use mathlib.Core.Path.{_≡_};
 ghost use Rattle.machine.specs.Words.{FLICKER, GO, LOOK};
+ghost use Rattle.machine.specs.Settings.{goForbidden};
 ghost use Rattle.cells.specs.View.{rowsOf};
-ghost use Rattle.steps.specs.Moves.{rowRefusal, Ready, Asked, Jumping, Takes};
+ghost use Rattle.steps.specs.Moves.{rowRefusal, Ready, Asked, Jumping, Takes, TakesUnder};
 
-// 0, or the refusal of a kind and an argument at the row of p: 10, then 11. What is left of a refusal,
-// 15, GO finds at 20, with the competitors that it counts.
+// 0, or the refusal of a kind and an argument at the row of p: 10, then 11. What is left of a refusal:
+// 16 and 17, which settings give to FLICKER and GO, and 15, which GO finds at 20, with the competitors
+// that it counts.
 fn refusal_at(cells: &[[u16; 24]], kind: u16, p: u16, a: u16) -> u16
     requires { ⌜ Asked (now cells) kind p ⌝ }
     ensures { λ v. ⌜ v ≡ rowRefusal (rowsOf (now (cells .entry))) kind p a ⌝ }
@@ -44,26 +48,48 @@ pub(crate) fn take_look(cells: &mut [[u16; 24]], p: u16, a: u16) -> Stepped
     Stepped::Moved(look(cells, p, a))
 }
 
-// GO of process p.
-pub(crate) fn take_go(cells: &mut [[u16; 24]], p: u16, a: u16) -> Stepped
+// Whether the settings forbid GO of process p: it goes from 23 to 24, while another process at 24 has
+// its level. Process p itself is at 23 then.
+fn go_forbidden(cells: &[[u16; 24]], p: u16, settings: Settings) -> bool
     requires { ⌜ Ready (now cells) p ⌝ }
-    ensures { λ s. ⌜ Takes (now (cells .entry)) GO p a (now (cells .exit)) s ⌝ }
+    ensures { λ b. ⌜ b ≡ goForbidden settings (rowsOf (now (cells .entry))) p ⌝ }
+{
+    if settings.turn != machine::ONE_WRITER {
+        return false;
+    }
+    let r = row_at(cells, p as usize);
+    if !rows::settings::to_push(r) {
+        return false;
+    }
+    has_writer(cells, r.level)
+}
+
+// GO of process p.
+pub(crate) fn take_go(cells: &mut [[u16; 24]], p: u16, a: u16, settings: Settings) -> Stepped
+    requires { ⌜ Ready (now cells) p ⌝ }
+    ensures { λ s. ⌜ TakesUnder settings (now (cells .entry)) GO p a (now (cells .exit)) s ⌝ }
 {
     let refusal = refusal_at(cells, machine::GO, p, a);
     if refusal != 0 {
         return Stepped::Refused(refusal);
     }
+    if go_forbidden(cells, p, settings) {
+        return Stepped::Refused(machine::SECOND_WRITER);
+    }
     go(cells, p)
 }
 
 // FLICKER of process p to `a`.
-pub(crate) fn take_flicker(cells: &mut [[u16; 24]], p: u16, a: u16) -> Stepped
+pub(crate) fn take_flicker(cells: &mut [[u16; 24]], p: u16, a: u16, settings: Settings) -> Stepped
     requires { ⌜ Ready (now cells) p ⌝ }
-    ensures { λ s. ⌜ Takes (now (cells .entry)) FLICKER p a (now (cells .exit)) s ⌝ }
+    ensures { λ s. ⌜ TakesUnder settings (now (cells .entry)) FLICKER p a (now (cells .exit)) s ⌝ }
 {
     let refusal = refusal_at(cells, machine::FLICKER, p, a);
     if refusal != 0 {
         return Stepped::Refused(refusal);
+    }
+    if rows::settings::flicker_forbidden(settings, row_at(cells, p as usize)) {
+        return Stepped::Refused(machine::PLAIN_FLICKER);
     }
     Stepped::Moved(flicker(cells, p, a))
 }

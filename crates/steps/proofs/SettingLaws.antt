@@ -1,0 +1,127 @@
+-- What settings forbid, in the words of the code; and a kind taken under settings, from what it is without them.
+--
+--   forbids-not, forbids-away, forbids-by    GO of p is forbidden, by its row and by who is at 24
+--   takes-early, takes-forbidden, takes-free    a kind with an argument under settings: 10 or 11; 16 or 17; as without
+--
+-- Assumes nothing.
+use Prim.Native.Nat.{ℕ, _≤_, _<_}
+use mathlib.Core.Path.{_≡_, refl, sym, ap, _∙_, subst}
+use mathlib.Core.Bool.{Bool, true, false, cond, _&&_, not, and-eq-true-iff}
+use mathlib.Core.Logic.{_≢_, _⊎_, inl, inr}
+use mathlib.Core.List.{List}
+use native.Mathlib.Decide.{ℕ-discrete}
+use native.Mathlib.Omega.{arith}
+use lib.Dec.{eqb, ltb}
+use lib.ListN.{length}
+use borrow.Author.Tests.{eqb-true, eq-eqb, ne-eqb, lt-ltb, le-ltb}
+use Rattle.counting.specs.Sets.{size}
+use Rattle.counting.proofs.TestLaws.{split}
+use Rattle.counting.proofs.RangeLaws.{some-cong}
+use Rattle.machine.specs.Refusals.{accepted, passesFull}
+use Rattle.machine.specs.Tables.{Table, row}
+use Rattle.machine.specs.Steps.{reconsidered, gone, overflows, refusalAt}
+use Rattle.machine.specs.Settings.{writesTurn, otherWriter, goesTo24, goForbidden, forbiddenBy, before15}
+use Rattle.machine.specs.declared.Row.{Row}
+use Rattle.machine.specs.declared.Settings.{Settings}
+use Rattle.machine.specs.declared.Stepped.{Stepped}
+use Rattle.machine.proofs.TableLaws.{row-same}
+use Rattle.machine.proofs.Forms.{reconsidered-cases, gone-23}
+use Rattle.machine.proofs.SettingLaws.{before15-cases, before15-free}
+use Rattle.rows.specs.Pushing.{toPush}
+use Rattle.cells.specs.View.{rowsOf}
+use Rattle.cells.specs.Writers.{hasWriter}
+use Rattle.steps.specs.Moves.{rowRefusal, refusalBy, TakesBy, Takes, TakesUnder}
+use Rattle.steps.proofs.TakeLaws.{refused-early, refused-late, row-refusals, refused-with}
+
+-- ---- GO
+
+-- GO at 23 goes to 24 by est, level and bb
+to-24 : (p v : ℕ) (r : Row)
+    → eqb (reconsidered p v r .location) 24 ≡ (not (ltb (size (r .est)) (r .level)) && eqb (r .bb) 0)
+to-24 p v r =
+    let low = ltb (size (r .est)) (r .level) in
+    reconsidered-cases (λ x. eqb (x .location) 24 ≡ (not low && eqb (r .bb) 0)) p v r
+    (λ h. rw (lt-ltb _ _ h) refl)
+    (λ h z. rw (le-ltb _ _ h, eq-eqb _ _ z) refl)
+    (λ h z _. rw (le-ltb _ _ h, ne-eqb _ _ z) refl)
+    (λ h z _. rw (le-ltb _ _ h, ne-eqb _ _ z) refl)
+
+module _ (t : Table) (p : ℕ) where
+  push-so : p < length t → goesTo24 t p ≡ toPush (row t p)
+  unfolding goesTo24
+  push-so l =
+      split (λ b. (b && eqb (row (gone t p) p .location) 24)
+      ≡ (b && (not (ltb (size (row t p .est)) (row t p .level)) && eqb (row t p .bb) 0)))
+      (eqb (row t p .location) 23)
+      (λ e.
+      ap (λ (u : Table). eqb (row u p .location) 24) (gone-23 t p (eqb-true _ _ e))
+      ∙ ap (λ (r : Row). eqb (r .location) 24) (row-same t p _ l)
+      ∙ to-24 p _ (row t p))
+      (λ _. refl)
+
+  -- a process at 23 is not at 24 itself
+  writer-so : row t p .location ≡ 23 → otherWriter t p ≡ hasWriter (row t p .level) t
+  unfolding otherWriter
+  writer-so e = some-cong _ _ (length t) (λ q l. go q (ℕ-discrete q p))
+    where
+      go : (q : ℕ) → Dec (q ≡ p)
+          → (not (eqb q p) && writesTurn (row t p .level) (row t q)) ≡ writesTurn (row t p .level) (row t q)
+      go q (yes i) = rw (eq-eqb q p i, ap (λ (j : ℕ). row t j .location) i ∙ e) refl
+      go q (no ne) = rw (ne-eqb q p ne) refl
+
+  module _ (m : Settings) where
+    pub forbids-not : m .turn ≢ 1 → goForbidden m t p ≡ false
+    forbids-not ne = rw (ne-eqb (m .turn) 1 ne) refl
+
+    pub forbids-away : m .turn ≡ 1 → p < length t → toPush (row t p) ≡ false → goForbidden m t p ≡ false
+    forbids-away one l h = rw (eq-eqb (m .turn) 1 one, push-so l, h) refl
+
+    pub forbids-by : m .turn ≡ 1 → p < length t → toPush (row t p) ≡ true
+        → goForbidden m t p ≡ hasWriter (row t p .level) t
+    forbids-by one l h =
+        let at-23 = eqb-true _ _ (and-eq-true-iff (eqb (row t p .location) 23) _ .0 h .0) in
+        rw (eq-eqb (m .turn) 1 one, push-so l, h) (writer-so at-23)
+
+-- ---- a kind taken under settings
+
+-- by another number that is the same
+by-same : {n v : ℕ} {x y : List (List ℕ)} {k p a : ℕ} {s : Stepped} → v ≡ n → TakesBy n x k p a y s → TakesBy v x k p a y s
+by-same {x = x} {y} {k} {p} {a} {s} e h = subst (λ (i : ℕ). TakesBy i x k p a y s) (sym e) h
+
+module _ {x y : List (List ℕ)} {k p a : ℕ} {s : Stepped} (m : Settings) where
+  pub takes-free : forbiddenBy m (rowsOf x) k p ≡ 0 → Takes x k p a y s → TakesUnder m x k p a y s
+  takes-free e h = by-same (before15-free (forbiddenBy m (rowsOf x) k p) (refusalAt (rowsOf x) k p a) e) h
+
+module _ {x : List (List ℕ)} {k p a v : ℕ} (m : Settings) (why : v ≡ rowRefusal (rowsOf x) k p a) where
+  -- 10 and 11 come before 16 and 17
+  pub takes-early : (v ≡ 0 → ⊥) → TakesUnder m x k p a x (Stepped.Refused v)
+  takes-early ne =
+      let t = rowsOf x in
+      let n = refusalAt t k p a in
+      let early = why ∙ sym (refused-early t k p a (λ z. ne (why ∙ z))) in
+      let few = row-refusals t k p a in
+      refused-with v (early ∙ go n early few (before15-cases (forbiddenBy m t k p) n)) ne
+    where
+      go : (n : ℕ) → v ≡ n → rowRefusal (rowsOf x) k p a ≤ 11
+          → ((before15 (forbiddenBy m (rowsOf x) k p) n ≡ forbiddenBy m (rowsOf x) k p)
+          × (forbiddenBy m (rowsOf x) k p ≢ 0)
+          × ((n ≡ 0) ⊎ (n ≡ 15)))
+          ⊎ ((before15 (forbiddenBy m (rowsOf x) k p) n ≡ n) × ((n ≡ 0) → forbiddenBy m (rowsOf x) k p ≡ 0))
+          → n ≡ before15 (forbiddenBy m (rowsOf x) k p) n
+      go n e few (inl (i, f, inl z)) = absurd (ne (e ∙ z))
+      go n e few (inl (i, f, inr z)) = absurd (omega (arith, why, e, z, few))
+      go n e few (inr (i, f)) = sym i
+
+  -- and these before 15
+  pub takes-forbidden : (f : ℕ) → v ≡ 0 → forbiddenBy m (rowsOf x) k p ≡ f → (f ≡ 0 → ⊥)
+      → TakesUnder m x k p a x (Stepped.Refused f)
+  takes-forbidden f z e ne =
+      refused-with f
+      (sym (late (overflows (rowsOf x) k p) (refused-late (rowsOf x) k p a (sym why ∙ z))))
+      ne
+    where
+      late : (b : Bool)
+          → refusalAt (rowsOf x) k p a ≡ cond b passesFull accepted
+          → before15 (forbiddenBy m (rowsOf x) k p) (refusalAt (rowsOf x) k p a) ≡ f
+      late true i = rw (i, e, ne-eqb f 0 ne) refl
+      late false i = rw (i, e, ne-eqb f 0 ne) refl
