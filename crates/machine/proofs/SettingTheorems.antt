@@ -40,6 +40,7 @@ use Rattle.machine.specs.declared.StepAnswer.{StepAnswer}
 use Rattle.machine.proofs.TableLaws.{row-over}
 use Rattle.machine.proofs.SoundRows.{sound-accepted, accepted-sound}
 use Rattle.machine.proofs.Accepted as Accepted
+use Rattle.machine.proofs.Soundness.{word-keeps-sound}
 use Rattle.machine.proofs.FullLaws.{full-word}
 use Rattle.machine.proofs.CellLaws.{refused-cell}
 use Rattle.machine.proofs.CellTheorems.{others-kept, exchange}
@@ -118,6 +119,13 @@ pub refused-under : (s : Settings) (t : Table) (w : ℕ)
     → (afterUnder s t w ≡ t) × (stepAnswerUnder s t w .cell ≡ noCell)
 unfolding afterUnder
 refused-under s t w ne = (rw (ne-eqb _ _ ne) refl, rw (ne-eqb _ _ ne) refl)
+
+-- A word under settings keeps a sound table sound, and its number of processes.
+pub under-keeps-sound : (s : Settings) (t : Table) (w : ℕ) → tableRefusal t ≡ 0 → tableRefusal (afterUnder s t w) ≡ 0
+under-keeps-sound s t w z =
+    by-cases (ℕ-discrete (refusalUnder s t w) 0)
+    (λ a. ap tableRefusal (accepted-same s t w a .1 .table-same) ∙ word-keeps-sound t w z)
+    (λ ne. ap tableRefusal (refused-under s t w ne .0) ∙ z)
 
 -- ---- which words are forbidden
 

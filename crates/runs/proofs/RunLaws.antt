@@ -17,77 +17,79 @@ use lib.ListN.{length, getD, drop}
 use lib.Seq.{drop-cons, drop-length}
 use borrow.Author.Tests.{eq-eqb, ne-eqb}
 use Rattle.machine.specs.Tables.{Table}
-use Rattle.machine.specs.Steps.{refusalOf, afterWord, eventOf, cellOf}
+use Rattle.machine.specs.Steps.{afterWord, eventOf, cellOf}
+use Rattle.machine.specs.Settings.{refusalUnder, afterUnder}
 use Rattle.machine.specs.Runs.{Outcome, ended, counted, ranOf, runFrom}
 use Rattle.machine.specs.declared.Event.{Event}
 use Rattle.machine.specs.declared.Event.the-variants.{Quiet, Come, Arrival, Departure}
+use Rattle.machine.specs.declared.Settings.{Settings}
 use Rattle.machine.specs.declared.SharedCell.{SharedCell}
 use Rattle.machine.specs.declared.Tally.{Tally}
-use Rattle.machine.proofs.Accepted.{refused-same}
+use Rattle.machine.proofs.SettingTheorems.{refused-under}
 use Rattle.cells.specs.View.{rowsOf}
 use Rattle.runs.specs.Outcomes.{answered, Runs}
 use Rattle.runs.specs.declared.RunAnswer.{RunAnswer}
 
 -- ---- word by word
 
-module _ (t : Table) (h : Tally) (c : SharedCell) (w : ℕ) (ws : List ℕ) where
+module _ (m : Settings) (t : Table) (h : Tally) (c : SharedCell) (w : ℕ) (ws : List ℕ) where
   -- the run from w on, by whether w is accepted
   unfoldable from : Bool → Outcome
   from b =
       elim b [
-        | true ↦ runFrom (afterWord t w) (counted (eventOf t w) h) (cellOf t w) ws
-        | false ↦ ended t h c (refusalOf t w)
+        | true ↦ runFrom m (afterWord t w) (counted (eventOf t w) h) (cellOf t w) ws
+        | false ↦ ended t h c (refusalUnder m t w)
       ]
 
-  from-is : runFrom t h c (w ∷ ws) ≡ from (eqb (refusalOf t w) 0)
+  from-is : runFrom m t h c (w ∷ ws) ≡ from (eqb (refusalUnder m t w) 0)
   unfolding runFrom from
   from-is = refl
 
-  pub run-more : refusalOf t w ≡ 0
-      → runFrom t h c (w ∷ ws) ≡ runFrom (afterWord t w) (counted (eventOf t w) h) (cellOf t w) ws
+  pub run-more : refusalUnder m t w ≡ 0
+      → runFrom m t h c (w ∷ ws) ≡ runFrom m (afterWord t w) (counted (eventOf t w) h) (cellOf t w) ws
   unfolding from
   run-more e = from-is ∙ ap from (eq-eqb _ _ e)
 
-  pub run-stop : (refusalOf t w ≡ 0 → ⊥)
-      → runFrom t h c (w ∷ ws) ≡ ended t h c (refusalOf t w)
+  pub run-stop : (refusalUnder m t w ≡ 0 → ⊥)
+      → runFrom m t h c (w ∷ ws) ≡ ended t h c (refusalUnder m t w)
   unfolding from
   run-stop e = from-is ∙ ap from (ne-eqb _ _ e)
 
-pub run-end : (t : Table) (h : Tally) (c : SharedCell) → runFrom t h c [] ≡ ended t h c 0
+pub run-end : (m : Settings) (t : Table) (h : Tally) (c : SharedCell) → runFrom m t h c [] ≡ ended t h c 0
 unfolding runFrom
-run-end t h c = refl
+run-end m t h c = refl
 
 -- word i of a list met: accepted, with u the table and g the tally after it, and it used the cell d
-pub run-turn : (t u : Table) (h g : Tally) (c d : SharedCell) (ws : List ℕ) (i : ℕ)
+pub run-turn : (m : Settings) (t u : Table) (h g : Tally) (c d : SharedCell) (ws : List ℕ) (i : ℕ)
     → i < length ws
-    → refusalOf t (getD ws i 0) ≡ 0
+    → refusalUnder m t (getD ws i 0) ≡ 0
     → u ≡ afterWord t (getD ws i 0)
     → g ≡ counted (eventOf t (getD ws i 0)) h
     → d ≡ cellOf t (getD ws i 0)
-    → runFrom t h c (drop i ws) ≡ runFrom u g d (drop (i + 1) ws)
-run-turn t u h g c d ws i l e a b f =
-    ap (runFrom t h c) (drop-cons ws i 0 l)
-    ∙ run-more t h c (getD ws i 0) (drop (suc i) ws) e
+    → runFrom m t h c (drop i ws) ≡ runFrom m u g d (drop (i + 1) ws)
+run-turn m t u h g c d ws i l e a b f =
+    ap (runFrom m t h c) (drop-cons ws i 0 l)
+    ∙ run-more m t h c (getD ws i 0) (drop (suc i) ws) e
     ∙ rw (a, b, f, add-one i) refl
 
 -- or refused with v, and the table after it is the same
-pub run-halt : (t u : Table) (h : Tally) (c : SharedCell) (ws : List ℕ) (i v : ℕ)
+pub run-halt : (m : Settings) (t u : Table) (h : Tally) (c : SharedCell) (ws : List ℕ) (i v : ℕ)
     → i < length ws
-    → (refusalOf t (getD ws i 0) ≡ 0 → ⊥)
-    → u ≡ afterWord t (getD ws i 0)
-    → v ≡ refusalOf t (getD ws i 0)
-    → runFrom t h c (drop i ws) ≡ ended u h c v
-run-halt t u h c ws i v l n a b =
-    ap (runFrom t h c) (drop-cons ws i 0 l)
-    ∙ run-stop t h c (getD ws i 0) (drop (suc i) ws) n
-    ∙ rw (a ∙ refused-same t (getD ws i 0) n, b) refl
+    → (refusalUnder m t (getD ws i 0) ≡ 0 → ⊥)
+    → u ≡ afterUnder m t (getD ws i 0)
+    → v ≡ refusalUnder m t (getD ws i 0)
+    → runFrom m t h c (drop i ws) ≡ ended u h c v
+run-halt m t u h c ws i v l n a b =
+    ap (runFrom m t h c) (drop-cons ws i 0 l)
+    ∙ run-stop m t h c (getD ws i 0) (drop (suc i) ws) n
+    ∙ rw (a ∙ refused-under m t (getD ws i 0) n .0, b) refl
 
 -- past the last word
-pub run-past : (t : Table) (h : Tally) (c : SharedCell) (ws : List ℕ) (i : ℕ)
+pub run-past : (m : Settings) (t : Table) (h : Tally) (c : SharedCell) (ws : List ℕ) (i : ℕ)
     → i ≡ length ws
-    → runFrom t h c (drop i ws) ≡ ended t h c 0
-run-past t h c ws i e =
-    ap (λ (k : ℕ). runFrom t h c (drop k ws)) e ∙ ap (runFrom t h c) (drop-length ws) ∙ run-end t h c
+    → runFrom m t h c (drop i ws) ≡ ended t h c 0
+run-past m t h c ws i e =
+    ap (λ (k : ℕ). runFrom m t h c (drop k ws)) e ∙ ap (runFrom m t h c) (drop-length ws) ∙ run-end m t h c
 
 -- ---- the tally
 

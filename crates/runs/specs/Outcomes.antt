@@ -3,8 +3,8 @@
 --   answered h c v    ==   the answer of a run that ended with tally h, last cell c and refusal v, or 0.
 --   Runs x o y r      <=>  the cells x have become y, and r is the answer, by a run with outcome o.
 --   RunsSound x o y r <=>  and the table is sound again.
---   RunsTo ws r h t u <=>  the words ws make the table u of t, with the answer r and the tally h: what the function
---                          for C ensures.
+--   RunsTo m ws r h t u  <=>  the words ws, under the settings m, make the table u of t, with the answer r and the
+--                          tally h: what the function for C ensures.
 --
 -- Assumes nothing.
 use Prim.Native.Nat.{ℕ}
@@ -12,6 +12,7 @@ use mathlib.Core.Path.{_≡_}
 use mathlib.Core.List.{List}
 use Rattle.machine.specs.Tables.{Table, tableRefusal}
 use Rattle.machine.specs.Runs.{Outcome, runOf, ranOf}
+use Rattle.machine.specs.declared.Settings.{Settings}
 use Rattle.machine.specs.declared.SharedCell.{SharedCell}
 use Rattle.machine.specs.declared.Ran.{Ran}
 use Rattle.machine.specs.declared.Tally.{Tally}
@@ -30,5 +31,5 @@ pub record RunsSound (x : List (List ℕ)) (o : Outcome) (y : List (List ℕ)) (
   pub runs : Runs x o y r
   pub sound-after : tableRefusal (rowsOf y) ≡ 0
 
-abbrev pub RunsTo : List ℕ → Ran → Tally → Table → Table → Type 0
-RunsTo ws r h t u = (u ≡ runOf t ws .table) × (r ≡ ranOf (runOf t ws)) × (h ≡ runOf t ws .tally)
+abbrev pub RunsTo : Settings → List ℕ → Ran → Tally → Table → Table → Type 0
+RunsTo m ws r h t u = (u ≡ runOf m t ws .table) × (r ≡ ranOf (runOf m t ws)) × (h ≡ runOf m t ws .tally)

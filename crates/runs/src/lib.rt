@@ -3,10 +3,11 @@
 use cells::checks::check;
 use machine::Event;
 use machine::Ran;
+use machine::Settings;
 use machine::SharedCell;
 use machine::Stepped;
 use machine::Tally;
-use steps::stepping::advance;
+use steps::stepping::advance_under;
 ghost use mathlib.Core.Path.{_≡_};
 ghost use Rattle.machine.specs.Shared.{noCell};
 ghost use Rattle.machine.specs.Runs.{counted, zeroTally, runFrom, runOf};
@@ -66,12 +67,13 @@ pub fn untaken(refusal: u16) -> RunAnswer
     answer(refusal, SharedCell::NONE, Tally::ZERO)
 }
 
-// At most 8,192 words at a table that is known to be sound, which is not checked again.
-pub fn run_words(cells: &mut [[u16; 24]], words: &[u32]) -> RunAnswer
-    requires { ⌜ Runnable (now cells) (now words) ⌝ }
+// At most 8,192 words, under settings that fit, at a table that is known to be sound: neither is
+// checked again.
+pub fn run_words(cells: &mut [[u16; 24]], words: &[u32], settings: Settings) -> RunAnswer
+    requires { ⌜ Runnable settings (now cells) (now words) ⌝ }
     ensures { λ r. ⌜
         RunsSound (now (cells .entry))
-        (runFrom (rowsOf (now (cells .entry))) zeroTally noCell (now (words .entry)))
+        (runFrom settings (rowsOf (now (cells .entry))) zeroTally noCell (now (words .entry)))
         (now (cells .exit)) r
         ⌝ }
 {
@@ -80,7 +82,7 @@ pub fn run_words(cells: &mut [[u16; 24]], words: &[u32]) -> RunAnswer
     let mut cell = SharedCell::NONE;
     let mut i = 0;
     while i < n {
-        match advance(cells, words[i]) {
+        match advance_under(cells, words[i], settings) {
             Stepped::Moved(told) => {
                 let event = told.event;
                 tally = counted(event, tally);
@@ -95,12 +97,13 @@ pub fn run_words(cells: &mut [[u16; 24]], words: &[u32]) -> RunAnswer
     answer(0, cell, tally)
 }
 
-// A run at a table of any size and content: 6 or 7 for the table, then 12 for more than 8,192
-// words, and no row is changed; else the words in order up to the first that is refused.
-pub fn run(cells: &mut [[u16; 24]], words: &[u32]) -> RunAnswer
+// A run under settings at a table of any size and content: 6 or 7 for the table, then 18 for the
+// settings, then 12 for more than 8,192 words, and no row is changed; else the words in order up to
+// the first that is refused.
+pub fn run(cells: &mut [[u16; 24]], words: &[u32], settings: Settings) -> RunAnswer
     ensures { λ r. ⌜
         Runs (now (cells .entry))
-        (runOf (rowsOf (now (cells .entry))) (now (words .entry)))
+        (runOf settings (rowsOf (now (cells .entry))) (now (words .entry)))
         (now (cells .exit)) r
         ⌝ }
 {
@@ -108,24 +111,41 @@ pub fn run(cells: &mut [[u16; 24]], words: &[u32]) -> RunAnswer
     if refusal != 0 {
         return untaken(refusal);
     }
+    if !rows::settings::settings_fit(settings) {
+        return untaken(machine::BAD_SETTINGS);
+    }
     if machine::RUN_LIMIT < words.len() {
         return untaken(machine::TOO_MANY_WORDS);
     }
-    run_words(cells, words)
+    run_words(cells, words, settings)
 }
 
-// A run of the lent rows by the words, for C (include/zaguypo.h): how many were taken, the refusal or 0,
-// and the shared cell of the last word taken. The rows are left as the taken words make them, and the
-// tally, whatever it held, is that of this run. Proved by hand: the borrow checker covers no reference
-// to a struct.
-#[no_mangle]
-pub extern "C" fn zaguypo_run_rows(rows: &mut [[u16; 24]], words: &[u32], tally: &mut Tally) -> Ran
+// The same with the settings as two numbers.
+fn run_by(cells: &mut [[u16; 24]], words: &[u32], act: u32, turn: u32) -> RunAnswer
     ensures { λ r. ⌜
-        RunsTo (now (words .entry)) r (now (tally .exit))
+        Runs (now (cells .entry))
+        (runOf (record { act = act; turn = turn }) (rowsOf (now (cells .entry))) (now (words .entry)))
+        (now (cells .exit)) r
+        ⌝ }
+{
+    run(cells, words, Settings {
+        act: act,
+        turn: turn,
+    })
+}
+
+// A run of the lent rows by the words under settings, for C (include/zaguypo.h): how many were taken,
+// the refusal or 0, and the shared cell of the last word taken. The rows are left as the taken words
+// make them, and the tally, whatever it held, is that of this run. Proved by hand: the borrow checker
+// covers no reference to a struct.
+#[no_mangle]
+pub extern "C" fn zaguypo_run_rows(rows: &mut [[u16; 24]], words: &[u32], tally: &mut Tally, act: u32, turn: u32) -> Ran
+    ensures { λ r. ⌜
+        RunsTo (record { act = act; turn = turn }) (now (words .entry)) r (now (tally .exit))
         (rowsOf (now (rows .entry))) (rowsOf (now (rows .exit)))
         ⌝ }
 {
-    let answer = run(rows, words);
+    let answer = run_by(rows, words, act, turn);
     *tally = answer.tally;
     answer.ran
 }
