@@ -6,16 +6,19 @@
 -- after the list is the one that the words name is demand 2, in machine/proofs. Controls.antt breaks near variants.
 -- Assumes nothing.
 use Prim.Native.Nat.{ℕ, _≤_}
-use mathlib.Core.Path.{_≡_}
+use mathlib.Core.Path.{_≡_, sym, subst}
 use mathlib.Core.Bool.{true}
 use mathlib.Core.List.{List}
 use lib.ListN.{length}
 use Rattle.machine.specs.Tables.{Table, sound, fresh, freshTable}
 use Rattle.machine.specs.Steps.{afterWords}
+use Rattle.machine.specs.Settings.{listUnder, acceptedOf}
 use Rattle.machine.specs.Census.{held, critical}
+use Rattle.machine.specs.declared.Settings.{Settings}
 use Rattle.machine.proofs.SoundRows.{sound-accepted, accepted-sound}
 use Rattle.machine.proofs.Soundness.{words-keep-length, words-keep-sound}
 use Rattle.machine.proofs.FreshRows.{fresh-sound}
+use Rattle.machine.proofs.SettingTheorems.{accepted-list}
 use Rattle.exclusion.proofs.Fresh.{freshTable-fresh}
 use Rattle.exclusion.proofs.Exclusion.{invariant-after, invariant-held, invariant-critical}
 
@@ -49,6 +52,24 @@ pub exclusion : (t : Table) (ws : List ℕ)
     × ((k : ℕ) → held k (afterWords t ws) ≤ k)
     × (critical (afterWords t ws) ≤ 1)
 exclusion t ws h = (stays-sound t ws (fresh-sound t h), words-keep-length t ws, at-most-k t ws h, at-most-one t ws h)
+
+-- ---- under settings
+
+-- Demand 3 whole under settings, the same statement for every one of them: a list under settings leads to the table
+-- after its accepted words, given without settings (`accepted-list` of machine/proofs/SettingTheorems.antt).
+-- Excludes: a setting under which a list brings two processes to 30, or k + 1 to be held at k.
+-- Not empty: `fresh-exists`, and each setting accepts words (machine/proofs/SettingExamples.antt).
+pub exclusion-under : (s : Settings) (t : Table) (ws : List ℕ)
+    → fresh t ≡ true
+    → (sound (listUnder s t ws) ≡ true)
+    × (length (listUnder s t ws) ≡ length t)
+    × ((k : ℕ) → held k (listUnder s t ws) ≤ k)
+    × (critical (listUnder s t ws) ≤ 1)
+exclusion-under s t ws h =
+    subst
+    (λ (u : Table). (sound u ≡ true) × (length u ≡ length t) × ((k : ℕ) → held k u ≤ k) × (critical u ≤ 1))
+    (sym (accepted-list s t ws))
+    (exclusion t (acceptedOf s t ws) h)
 
 -- ---- the theorems are not empty
 

@@ -1,5 +1,6 @@
 // The step as C calls it (include/zaguypo.h), in the lent rows: each is 24 numbers of 16 bits, the layout
 // of C's struct, and is changed where it stands.
+use machine::Settings;
 use machine::SharedCell;
 use machine::StepAnswer;
 use machine::Stepped;
@@ -27,12 +28,17 @@ fn to_c(answer: Stepped) -> StepAnswer
     }
 }
 
-// A step of the lent rows by a word: the refusal or 0, and the shared cell that the word used. A
-// refused word changes no row and uses no cell.
+// A step of the lent rows by a word under settings: the refusal or 0, and the shared cell that the word
+// used. A refused word changes no row and uses no cell.
 #[no_mangle]
-pub extern "C" fn zaguypo_step(rows: &mut [[u16; 24]], word: u32) -> StepAnswer
-    ensures { λ r. ⌜ StepsTo word r (rowsOf (now (rows .entry))) (rowsOf (now (rows .exit))) ⌝ }
+pub extern "C" fn zaguypo_step(rows: &mut [[u16; 24]], word: u32, act: u32, turn: u32) -> StepAnswer
+    ensures { λ r. ⌜
+        StepsTo (record { act = act; turn = turn }) word r (rowsOf (now (rows .entry))) (rowsOf (now (rows .exit)))
+        ⌝ }
 {
-    let answer = step(rows, word);
+    let answer = step(rows, word, Settings {
+        act: act,
+        turn: turn,
+    });
     to_c(answer)
 }

@@ -14,6 +14,7 @@ use mathlib.Core.List.{List, [], _∷_}
 use native.Mathlib.Decide.{ℕ-discrete, decLt}
 use native.Mathlib.Omega.{arith}
 use lib.ListN.{length, getD, take}
+use lib.Seq.{length-take-le}
 use Rattle.counting.proofs.TestLaws.{split}
 use Rattle.machine.specs.Refusals.{tooManyWords, badSettings}
 use Rattle.machine.specs.Tables.{Table, tableRefusal}
@@ -201,6 +202,38 @@ from-allowed m t h c (w ∷ ws) =
       run-end weakest t h c ∙ sym (ap (λ (o : Outcome). ended (o .table) (o .tally) (o .cell) 0) stop),
     ))
 
+-- o is what the run of its words under 0 and 0 ends in, where the table does not refuse
+abbrev Allowed : Table → List ℕ → Outcome → Type 0
+Allowed t ws o =
+    (o .tally .words ≤ length ws)
+    × (runOf weakest t (take (o .tally .words) ws) ≡ ended (o .table) (o .tally) (o .cell) (tableRefusal t))
+
+-- no word
+none-allowed : (t : Table) (ws : List ℕ) (v : ℕ) → Allowed t ws (untaken t v)
+none-allowed t ws v = (
+  omega arith,
+  by-cases (ℕ-discrete (tableRefusal t) 0)
+      (λ z. runOf-taken weakest t [] z refl (omega arith) ∙ run-end weakest t zeroTally noCell
+      ∙ ap (ended t zeroTally noCell) (sym z))
+      (λ n. runOf-table weakest t [] (tableRefusal t) refl n),
+)
+
+all-allowed : (m : Settings) (t : Table) (ws : List ℕ)
+    → tableRefusal t ≡ 0
+    → length ws ≤ limit
+    → Allowed t ws (runFrom m t zeroTally noCell ws)
+all-allowed m t ws z l =
+    let (k, s, r) = from-allowed m t zeroTally noCell ws in
+    let o = runFrom m t zeroTally noCell ws in
+    let steps = from-steps m t zeroTally noCell ws in
+    let same : k ≡ o .tally .words = omega (arith, s) in
+    let few = steps .2 .taken .few in
+    let short : length (take k ws) ≤ limit = omega (arith, length-take-le k ws (omega (arith, s, steps .1))) in (
+      omega (arith, steps .1),
+      ap (λ (i : ℕ). runOf weakest t (take i ws)) (sym same) ∙ runOf-taken weakest t (take k ws) z refl short ∙ r
+          ∙ ap (ended (o .table) (o .tally) (o .cell)) (sym z),
+    )
+
 -- The run of the words that a run took, under 0 and 0, takes them all and ends in the same table, tally and cell. Its
 -- refusal is that of the table, which is none where the table is sound; a run that is refused with 18 or 12 took none.
 -- Excludes: a setting under which a run leads to a table, a tally or a cell that no run under 0 and 0 leads to.
@@ -212,4 +245,17 @@ pub allowed-run : (m : Settings) (t : Table) (ws : List ℕ)
     × (free .table ≡ o .table)
     × (free .tally ≡ o .tally)
     × (free .cell ≡ o .cell))
-allowed-run m t ws = {!!}
+allowed-run m t ws =
+    let o = runOf m t ws in
+    let a = go (begins m t ws) in
+    let e = a .1 in (
+      length-take-le (o .tally .words) ws (a .0) ∙ sym (ap (λ (x : Outcome). x .tally .words) e),
+      ap (λ (x : Outcome). x .refusal) e,
+      ap (λ (x : Outcome). x .table) e,
+      ap (λ (x : Outcome). x .tally) e,
+      ap (λ (x : Outcome). x .cell) e,
+    )
+  where
+    go : Begins m t ws → Allowed t ws (runOf m t ws)
+    go (Begins.not-begun v e) = subst (Allowed t ws) (sym e) (none-allowed t ws v)
+    go (Begins.begun z fit l) = subst (Allowed t ws) (sym (runOf-taken m t ws z fit l)) (all-allowed m t ws z l)

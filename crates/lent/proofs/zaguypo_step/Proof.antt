@@ -19,8 +19,9 @@ same-length c = search needs
 returns : tie.Need-returns
 returns c =
     let made = c .before .before .step .ensures in
-    let s = c .before .before .before .before in (
-      c .to-c .ensures ∙ ap toC (made .answer-is) ∙ answer-to-c (rowsOf (s .args .rows .now)) (s .args .word),
+    let a = c .before .before .before .before .args in (
+      c .to-c .ensures ∙ ap toC (made .answer-is)
+          ∙ answer-to-c (record { act = a .act; turn = a .turn }) (rowsOf (a .rows .now)) (a .word),
       made .becomes .rows-are,
     )
 
