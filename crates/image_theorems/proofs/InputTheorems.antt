@@ -8,17 +8,20 @@ use mathlib.Core.List.{List}
 use native.Mathlib.Decide.{decLe}
 use native.Mathlib.Omega.{arith}
 use lib.ListN.{length}
+use Rattle.counting.proofs.TestLaws.{split}
 use Rattle.machine.specs.Refusals.{accepted}
 use Rattle.machine.specs.Tables.{Table, tableRefusal}
 use Rattle.machine.specs.Steps.{afterWords}
+use Rattle.machine.specs.Settings.{settingsFit}
 use Rattle.machine.specs.Runs.{limit, Outcome, ranOf, runOf}
 use Rattle.machine.specs.Images.{imageRefusal, tableIn}
 use Rattle.machine.specs.Bytes.{wordsIn, bytesFit}
 use Rattle.machine.specs.Inputs.{imagePart, eventPart, Input, inputOf}
 use Rattle.machine.specs.Calls.{Called, numberOf, roomFor, ranCall, callFor, callOf}
+use Rattle.machine.specs.declared.Settings.{Settings}
 use Rattle.machine.proofs.SoundRows.{sound-accepted, accepted-sound}
-use Rattle.machine.proofs.RunLaws.{runOf-words, runOf-taken}
-use Rattle.machine.proofs.InputLaws.{words-too-many, words-ready, bytes-words, call-ran}
+use Rattle.machine.proofs.RunLaws.{runOf-settings, runOf-words, runOf-taken}
+use Rattle.machine.proofs.InputLaws.{words-too-many, words-ready, bytes-words, call-unfit, call-ran, many-unfit, many-words}
 use Rattle.machine.proofs.WordsAreSteps.{words-keep-sound}
 use Rattle.image_theorems.proofs.Reading.{accepted-facts}
 use Rattle.image_theorems.proofs.RoundTrip.{table-sound}
@@ -55,19 +58,31 @@ module _ (bs : List ℕ) (fit : bytesFit bs ≡ true)
   pub holds-too-many : limit < length words → inputOf bs ≡ Input.TooMany table
   holds-too-many h = bytes-words bs fit ∙ words-too-many (wordsIn bs) read h
 
-  -- The number that C gets says what the run answers, 12 for too many words included.
-  -- Excludes: a call that counts or refuses otherwise than the run on the same table and words.
-  pub number-is-of-run : (l : List ℕ) → roomFor table ≤ length l
-      → callOf bs l .number ≡ numberOf (ranOf (runOf table words) .taken) (ranOf (runOf table words) .refusal)
-  unfolding callOf callFor ranCall
-  number-is-of-run l room = go (decLe (length words) limit)
+  -- The number that C gets says what the run answers under the same settings, 18 and 12 included.
+  -- Excludes: a call that counts or refuses otherwise than the run on the same table, words and settings.
+  pub number-is-of-run : (m : Settings) (l : List ℕ)
+      → roomFor table ≤ length l
+      → callOf m bs l .number ≡ numberOf (ranOf (runOf m table words) .taken) (ranOf (runOf m table words) .refusal)
+  unfolding callOf ranCall
+  number-is-of-run m l room = go (decLe (length words) limit)
     where
-      go : Dec (length words ≤ limit) → callOf bs l .number ≡ said (runOf table words)
-      go (yes h) =
-          ap (λ (i : Input). callFor i l .number) (holds-ready h)
-          ∙ ap (λ (c : Called). c .number) (call-ran table words l room)
-          ∙ ap said (sym (runOf-taken table words table-fits h))
+      number : Called → ℕ
+      number c = c .number
+
+      ready : length words ≤ limit → callFor m (Input.Ready table words) l .number ≡ said (runOf m table words)
+      ready h =
+          split (λ _. callFor m (Input.Ready table words) l .number ≡ said (runOf m table words)) (settingsFit m)
+          (λ f. ap number (call-ran m table words l f room) ∙ ap said (sym (runOf-taken m table words table-fits f h)))
+          (λ f. ap number (call-unfit m table words l f) ∙ ap said (sym (runOf-settings m table words table-fits f)))
+
+      many : limit < length words → callFor m (Input.TooMany table) l .number ≡ said (runOf m table words)
+      many h =
+          split (λ _. callFor m (Input.TooMany table) l .number ≡ said (runOf m table words)) (settingsFit m)
+          (λ f. ap number (many-words m table words l f) ∙ ap said (sym (runOf-words m table words table-fits f h)))
+          (λ f. ap number (many-unfit m table words l f) ∙ ap said (sym (runOf-settings m table words table-fits f)))
+
+      go : Dec (length words ≤ limit) → callOf m bs l .number ≡ said (runOf m table words)
+      go (yes h) = ap (λ (i : Input). callFor m i l .number) (holds-ready h) ∙ ready h
       go (no h) =
-          let many : limit < length words = omega (arith, h) in
-          ap (λ (i : Input). callFor i l .number) (holds-too-many many)
-          ∙ ap said (sym (runOf-words table words table-fits many))
+          let over : limit < length words = omega (arith, h) in
+          ap (λ (i : Input). callFor m i l .number) (holds-too-many over) ∙ many over

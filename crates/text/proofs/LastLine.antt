@@ -1,4 +1,4 @@
--- The last printed line says what the run answers (MANUAL, "The printed text").
+-- The last printed line says what the run under 0 and 0 answers (MANUAL, "The printed text").
 -- Assumes nothing.
 use mathlib.Core.Path.{_≡_, refl, sym, ap, _∙_}
 use mathlib.Core.Bool.{Bool, true, false}
@@ -13,6 +13,7 @@ use Rattle.machine.specs.Refusals.{accepted, tooManyWords}
 use Rattle.machine.specs.Tables.{Table, tableRefusal}
 use Rattle.machine.specs.Shared.{noCell}
 use Rattle.machine.specs.Steps.{refusalOf, afterWord, eventOf, cellOf}
+use Rattle.machine.specs.Settings.{weakest}
 use Rattle.machine.specs.Runs.{limit, Outcome, ended, counted, zeroTally, runFrom, runOf}
 use Rattle.machine.specs.Images.{imageRefusal, tableIn}
 use Rattle.machine.specs.Bytes.{wordsIn, bytesFit}
@@ -22,6 +23,7 @@ use Rattle.machine.specs.Text.{runLines, textOf, printed}
 use Rattle.machine.specs.declared.Event.{Event}
 use Rattle.machine.specs.declared.SharedCell.{SharedCell}
 use Rattle.machine.specs.declared.Tally.{Tally}
+use Rattle.machine.proofs.SettingTheorems.{weakest-step}
 use Rattle.machine.proofs.RunLaws.{runOf-words, runOf-taken, counted-words}
 use Rattle.image_theorems.proofs.InputTheorems.{table-fits, holds-ready, holds-too-many}
 use Rattle.text.specs.Running.{takes, lineOf}
@@ -48,7 +50,7 @@ between y fields rest =
     ∙ sym (append-assoc y (10 ∷ fields) (10 ∷ rest))
 
 run-ends : (y : List ℕ) (t : Table) (h : Tally) (c : SharedCell) (ws : List ℕ)
-    → Ends (y ++ (10 ∷ runLines t (h .words) ws)) (runFrom t h c ws)
+    → Ends (y ++ (10 ∷ runLines t (h .words) ws)) (runFrom weakest t h c ws)
 unfolding runLines runFrom
 run-ends y t h c [] = (y, refl)
 run-ends y t h c (w ∷ ws) =
@@ -64,15 +66,17 @@ run-ends y t h c (w ∷ ws) =
     line-is e = e ∙ sym (append-assoc (spaced (wordFields t i w)) (32 ∷ cellText (cellOf t w)) (10 ∷ []))
 
     next : Outcome
-    next = runFrom (afterWord t w) (counted (eventOf t w) h) (cellOf t w) ws
+    next = runFrom weakest (afterWord t w) (counted (eventOf t w) h) (cellOf t w) ws
 
     outcome : (b : Bool) → takes t w ≡ b
-        → runFrom t h c (w ∷ ws) ≡ elim b [ true ↦ next | false ↦ ended t h c (refusalOf t w) ]
-    outcome b e = ap (λ (d : Bool). elim d [ true ↦ next | false ↦ ended t h c (refusalOf t w) ]) e
+        → runFrom weakest t h c (w ∷ ws) ≡ elim b [ true ↦ next | false ↦ ended t h c (refusalOf t w) ]
+    outcome b e =
+        ap (λ (n : ℕ). elim (eqb n accepted) [ true ↦ next | false ↦ ended t h c n ]) (weakest-step t w .refusal-same)
+        ∙ ap (λ (d : Bool). elim d [ true ↦ next | false ↦ ended t h c (refusalOf t w) ]) e
 
     go : Ends ((y ++ (10 ∷ fields)) ++ (10 ∷ runLines (afterWord t w) (counted (eventOf t w) h .words) ws)) next
         → (b : Bool) → takes t w ≡ b
-        → Ends (y ++ (10 ∷ runLines t (h .words) (w ∷ ws))) (runFrom t h c (w ∷ ws))
+        → Ends (y ++ (10 ∷ runLines t (h .words) (w ∷ ws))) (runFrom weakest t h c (w ∷ ws))
     go rest true e = (
       rest .0,
       ap (λ (l : List ℕ). y ++ (10 ∷ l))
@@ -106,7 +110,7 @@ after-posts t rest =
 
 module _ (bs : List ℕ) (t : Table) (ws : List ℕ) (sound : tableRefusal t ≡ accepted) where
   -- a table and its words
-  pub ready-last-line : inputOf bs ≡ Input.Ready t ws → length ws ≤ limit → Ends (printed bs) (runOf t ws)
+  pub ready-last-line : inputOf bs ≡ Input.Ready t ws → length ws ≤ limit → Ends (printed bs) (runOf weakest t ws)
   unfolding printed textOf
   ready-last-line holds few =
       let end = run-ends (posts t) t zeroTally noCell ws in (
@@ -114,21 +118,21 @@ module _ (bs : List ℕ) (t : Table) (ws : List ℕ) (sound : tableRefusal t ≡
         ap textOf holds
             ∙ after-posts t (runLines t 0 ws)
             ∙ end .1
-            ∙ ap (λ (o : Outcome). end .0 ++ (10 ∷ lastLine o)) (sym (runOf-taken t ws sound few)),
+            ∙ ap (λ (o : Outcome). end .0 ++ (10 ∷ lastLine o)) (sym (runOf-taken weakest t ws sound refl few)),
       )
 
   -- a table, and more words than a run takes
-  pub many-last-line : inputOf bs ≡ Input.TooMany t → limit < length ws → Ends (printed bs) (runOf t ws)
+  pub many-last-line : inputOf bs ≡ Input.TooMany t → limit < length ws → Ends (printed bs) (runOf weakest t ws)
   unfolding printed textOf
   many-last-line holds many = (
     posts t,
     ap textOf holds
         ∙ after-posts t (stopLine 0 tooManyWords)
-        ∙ ap (λ (o : Outcome). posts t ++ (10 ∷ lastLine o)) (sym (runOf-words t ws sound many)),
+        ∙ ap (λ (o : Outcome). posts t ++ (10 ∷ lastLine o)) (sym (runOf-words weakest t ws sound refl many)),
   )
 
 -- For every input whose bytes and whose image are accepted, the text ends in a line feed and one more line, and that
--- line says what the run of its event words from its table answers: `done` and the words taken, or `stop`, the words
+-- line says what the run of its event words from its table answers under 0 and 0: `done` and the words taken, or `stop`, the words
 -- taken and the refusal, 12 included.
 -- Excludes: `done` after a refusal; another count or refusal than the run's; text after the last line.
 pub last-line : (bs : List ℕ)
@@ -136,7 +140,7 @@ pub last-line : (bs : List ℕ)
     → imageRefusal (imagePart (wordsIn bs)) .refusal ≡ accepted
     → let t = tableIn (imagePart (wordsIn bs)) in
     let ws = eventPart (wordsIn bs) in
-    (before : List ℕ) × (printed bs ≡ before ++ (10 ∷ lastLine (runOf t ws)))
+    (before : List ℕ) × (printed bs ≡ before ++ (10 ∷ lastLine (runOf weakest t ws)))
 last-line bs fit read = go (decLe (length ws) limit) where
   t : Table
   t = tableIn (imagePart (wordsIn bs))
@@ -144,7 +148,7 @@ last-line bs fit read = go (decLe (length ws) limit) where
   ws : List ℕ
   ws = eventPart (wordsIn bs)
 
-  go : Dec (length ws ≤ limit) → Ends (printed bs) (runOf t ws)
+  go : Dec (length ws ≤ limit) → Ends (printed bs) (runOf weakest t ws)
   go (yes h) = ready-last-line bs t ws (table-fits bs fit read) (holds-ready bs fit read h) h
   go (no h) =
       let many : limit < length ws = omega (arith, h) in

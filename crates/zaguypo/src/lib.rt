@@ -2,18 +2,22 @@
 use images::encoding::write_cells;
 use images::sizes::image_words;
 use inputs::Opened;
+use machine::Settings;
+use rows::settings::settings_fit;
 use runs::run_words;
 ghost use mathlib.Core.Path.{_≡_};
+ghost use mathlib.Core.Bool.{cond};
 ghost use Rattle.counting.specs.Placing.{placed};
+ghost use Rattle.machine.specs.Refusals.{tooManyWords, badSettings};
+ghost use Rattle.machine.specs.Settings.{settingsFit};
 ghost use Rattle.machine.specs.Images.{imageOf};
 ghost use Rattle.machine.specs.Bytes.{bytesOf};
 ghost use Rattle.machine.specs.Inputs.{Input};
 ghost use Rattle.machine.specs.Calls.{numberOf, callFor, callOf};
 ghost use Rattle.cells.specs.View.{rowsOf};
-ghost use Rattle.runs.specs.Bounds.{Runnable};
 ghost use Rattle.images.specs.Answers.{Room};
 ghost use Rattle.inputs.specs.Opening.{Roomy};
-ghost use Rattle.zaguypo.specs.Calls.{CallsTo, Writable};
+ghost use Rattle.zaguypo.specs.Calls.{CallsTo, Writable, Tabled};
 
 // The most words of a short input, and of one that is not long. An image of five processes has 50 words,
 // the longest 336.
@@ -58,57 +62,77 @@ fn number_of(taken: u32, refusal: u32) -> u64
     256 * (taken as u64) + refusal as u64
 }
 
-// The run of the event words from the table in the cells: 13, or the run.
-fn run_table(cells: &mut [[u16; 24]], words: &[u32], image: &mut [u8]) -> u64
-    requires { ⌜ Runnable (now cells) (now words) ⌝ }
+// The run of the event words under settings from the table in the cells: 18, 13, or the run.
+fn run_table(cells: &mut [[u16; 24]], words: &[u32], image: &mut [u8], settings: Settings) -> u64
+    requires { ⌜ Tabled (now cells) (now words) ⌝ }
     ensures { λ r. ⌜
-        CallsTo (callFor (Input.Ready (rowsOf (now (cells .entry))) (now (words .entry))) (now (image .entry)))
+        CallsTo
+        (callFor settings (Input.Ready (rowsOf (now (cells .entry))) (now (words .entry))) (now (image .entry)))
         (now (image .exit)) r
         ⌝ }
 {
+    if !settings_fit(settings) {
+        return machine::BAD_SETTINGS as u64;
+    }
     if image.len() < 4 * image_words(cells.len()) {
         return machine::TOO_FEW_LENT as u64;
     }
-    let answer = run_words(cells, words);
+    let answer = run_words(cells, words, settings);
     let ran = answer.ran;
     write_image(cells, image);
     number_of(ran.taken, ran.refusal)
 }
 
-// The call for what the input bytes hold; their words are put into `words`.
-fn run_input(input: &[u8], words: &mut [u32], image: &mut [u8]) -> u64
+// The refusal of more words than a run takes: 18 comes before 12.
+fn too_many(settings: Settings) -> u16
+    ensures { λ v. ⌜ v ≡ cond (settingsFit settings) tooManyWords badSettings ⌝ }
+{
+    if !settings_fit(settings) {
+        return machine::BAD_SETTINGS;
+    }
+    machine::TOO_MANY_WORDS
+}
+
+// The call under settings for what the input bytes hold; their words are put into `words`.
+fn run_input(input: &[u8], words: &mut [u32], image: &mut [u8], settings: Settings) -> u64
     requires { ⌜ Roomy (now input) (now words) ⌝ }
-    ensures { λ r. ⌜ CallsTo (callOf (now (input .entry)) (now (image .entry))) (now (image .exit)) r ⌝ }
+    ensures { λ r. ⌜ CallsTo (callOf settings (now (input .entry)) (now (image .entry))) (now (image .exit)) r ⌝ }
 {
     let mut cells = [[0u16; 24]; machine::MOST_PROCESSES];
     match inputs::open_input(input, words, &mut cells) {
         Opened::BadBytes => machine::BAD_BYTES as u64,
         Opened::BadImage { place: _, number } => number as u64,
-        Opened::TooMany { size: _ } => machine::TOO_MANY_WORDS as u64,
+        Opened::TooMany { size: _ } => too_many(settings) as u64,
         Opened::Ready { size, first, last } => {
-            run_table(&mut cells[..size], &words[first..last], image)
+            run_table(&mut cells[..size], &words[first..last], image, settings)
         }
     }
 }
 
-// The run that the input bytes hold, an image and then event words, lowest byte first. Answers 256
-// times the number of words taken plus the refusal or 0, and leaves the image of the last table at
-// the start of the lent bytes, 4 × (5N + N × N). Refusals 14, 1 to 5, 12 and 13 leave the lent bytes as
-// given. A short input has its own room for words: what the longest needs takes longer to clear than
-// to run.
+// The run under settings that the input bytes hold, an image and then event words, lowest byte first.
+// Answers 256 times the number of words taken plus the refusal or 0, and leaves the image of the last
+// table at the start of the lent bytes, 4 × (5N + N × N). Refusals 14, 1 to 5, 18, 12 and 13 leave the
+// lent bytes as given. A short input has its own room for words: what the longest needs takes longer to
+// clear than to run.
 #[no_mangle]
-pub extern "C" fn zaguypo_run(input: &[u8], image: &mut [u8]) -> u64
-    ensures { λ r. ⌜ (r ≡ callOf (now (input .entry)) (now (image .entry)) .number)
-        × (now (image .exit) ≡ callOf (now (input .entry)) (now (image .entry)) .lent) ⌝ }
+pub extern "C" fn zaguypo_run(input: &[u8], image: &mut [u8], act: u32, turn: u32) -> u64
+    ensures { λ r. ⌜
+        (r ≡ callOf (record { act = act; turn = turn }) (now (input .entry)) (now (image .entry)) .number)
+        × (now (image .exit) ≡ callOf (record { act = act; turn = turn }) (now (input .entry)) (now (image .entry)) .lent)
+        ⌝ }
 {
+    let settings = Settings {
+        act: act,
+        turn: turn,
+    };
     if input.len() <= 4 * FEW {
         let mut words = [0u32; FEW];
-        return run_input(input, &mut words, image);
+        return run_input(input, &mut words, image, settings);
     }
     if input.len() <= 4 * SOME {
         let mut words = [0u32; SOME];
-        return run_input(input, &mut words, image);
+        return run_input(input, &mut words, image, settings);
     }
     let mut words = [0u32; machine::INPUT_WORDS];
-    run_input(input, &mut words, image)
+    run_input(input, &mut words, image, settings)
 }

@@ -6,6 +6,7 @@ use Prim.Native.Nat.{ℕ, _-_}
 use lib.ListN.{drop, length-take}
 use lib.Seq.{length-take-le}
 use Rattle.machine.specs.Inputs.{Input, inputOf}
+use Rattle.machine.specs.declared.Settings.{Settings}
 use Rattle.inputs.specs.Opening.{ShowsReady, Shows}
 use Rattle.inputs.specs.declared.Opened.{Opened}
 use Rattle.zaguypo.proofs.CallLaws.{calls-as, call-of, calls-bad-bytes, calls-bad-image, calls-too-many}
@@ -34,6 +35,9 @@ cast-result-2 c = search needs
 enum-told-2 : tie.Need-enum-told-2
 enum-told-2 c = search needs
 
+too-many-requires : tie.Need-too-many-requires
+too-many-requires c κs = search needs
+
 cast-result-3 : tie.Need-cast-result-3
 cast-result-3 c = search needs
 
@@ -43,6 +47,9 @@ enum-known-size c = search needs
 -- what the answer says of the input
 abbrev bytes : tie.After-open-input → List ℕ
 bytes o = o .before .before .before .before .before .before .args .input .now
+
+abbrev under : tie.After-open-input → Settings
+under o = o .before .before .before .before .before .before .args .settings
 
 abbrev lent : tie.After-open-input → List ℕ
 lent o = o .before .before .before .before .before .before .args .image .now
@@ -100,7 +107,7 @@ same-length c = search needs
 returns : tie.Need-returns
 returns c =
     let o = c .before .before .before .before .before in
-    calls-as (call-of (bytes o) (lent o) Input.BadBytes (said o _ (c .enum-told .given .1))) (calls-bad-bytes (lent o))
+    calls-as (call-of (under o) (bytes o) (lent o) Input.BadBytes (said o _ (c .enum-told .given .1))) (calls-bad-bytes (under o) (lent o))
 
 same-length-2 : tie.Need-same-length-2
 same-length-2 c = search needs
@@ -109,16 +116,16 @@ returns-2 : tie.Need-returns-2
 returns-2 c =
     let o = c .before .before .before .before .before .before in
     let g = c .before .number .given in
-    calls-as (call-of (bytes o) (lent o) _ (said o _ (g .1))) (calls-bad-image (lent o) (g .0 .0) (g .0 .1 .0))
+    calls-as (call-of (under o) (bytes o) (lent o) _ (said o _ (g .1))) (calls-bad-image (under o) (lent o) (g .0 .0) (g .0 .1 .0))
 
 same-length-3 : tie.Need-same-length-3
 same-length-3 c = search needs
 
 returns-3 : tie.Need-returns-3
 returns-3 c =
-    let o = c .before .before .before .before .before in
-    let g = c .enum-told2 .given in
-    calls-as (call-of (bytes o) (lent o) _ (said o _ (g .1) .holds)) (calls-too-many (lent o) _)
+    let o = c .before .before .before .before .before .before in
+    let g = c .before .enum-told2 .given in
+    calls-as (call-of (under o) (bytes o) (lent o) _ (said o _ (g .1) .holds)) (calls-too-many (under o) (lent o) _ _ (c .too-many .ensures))
 
 same-length-4 : tie.Need-same-length-4
 same-length-4 c = search needs
@@ -129,7 +136,7 @@ same-length-5 c = search needs
 returns-4 : tie.Need-returns-4
 returns-4 c =
     let z = c .before .before .before .before .before .before .before .before .before in
-    calls-as (call-of (bytes (opened z)) (lent (opened z)) _ (ready z .holds))
+    calls-as (call-of (under (opened z)) (bytes (opened z)) (lent (opened z)) _ (ready z .holds))
     (c .before .before .before .run-table .ensures)
 
 pub run-input-spec : {M : Type 1} → statement M
@@ -143,6 +150,7 @@ run-input-spec =
     enum-known-number
     cast-result-2
     enum-told-2
+    too-many-requires
     cast-result-3
     enum-known-size
     array-borrow-prefix-cells
