@@ -147,10 +147,7 @@ pub const TURN_PLAIN: u32 = 2;
 
 impl Settings {
     // Act safe and turn write-safe: they forbid nothing.
-    pub const WEAKEST: Settings = Settings {
-        act: 0,
-        turn: 0,
-    };
+    pub const WEAKEST: Settings = Settings { act: 0, turn: 0 };
 }
 
 // The parts of an event word.

@@ -59,7 +59,7 @@ module _ (x : List (List ℕ)) (p : ℕ) (m : Moving x p) (r : Row) (own : r ≡
   in-t = subst (λ (n : ℕ). p < n) (sym (rows-length x)) (m .process-in)
 
   can : Ready x p
-  can = ready x 0 (m .table-sound) p (m .process-in)
+  can = ready x (m .table-sound) p (m .process-in)
 
   away : (r .location ≡ 10 → ⊥) → row t p .location ≡ 10 → ⊥
   away ne e = ne (ap (λ (s : Row). s .location) own ∙ e)

@@ -2,6 +2,7 @@
 // processes, then rounds that are not done, refused, used up or broken.
 use libc::STDOUT_FILENO;
 use machine::RoundsAnswer;
+use machine::Settings;
 
 // COME of each of sixteen processes.
 const COMES: [u32; 16] = [
@@ -56,7 +57,7 @@ fn show(a: RoundsAnswer) {
 
 // Rounds from fresh rows of n processes, once each has come.
 fn longest(n: u16, comes: &[u32], cells: &mut [[u16; 24]]) {
-    let _ran = runs::run(cells, comes);
+    let _ran = runs::run(cells, comes, Settings::WEAKEST);
     figure(b"processes ", n);
     show(rounds::rounds(cells));
 }

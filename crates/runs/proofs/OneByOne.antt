@@ -181,9 +181,11 @@ from-allowed : (m : Settings) (t : Table) (h : Tally) (c : SharedCell) (ws : Lis
     → (let o = runFrom m t h c ws in
     (k : ℕ) × (o .tally .words ≡ h .words + k)
     × (runFrom weakest t h c (take k ws) ≡ ended (o .table) (o .tally) (o .cell) 0))
-from-allowed m t h c [] =
-    (0, ap (λ (o : Outcome). o .tally .words) (run-end m t h c) ∙ omega arith,
-     run-end weakest t h c ∙ sym (ap (λ (o : Outcome). ended (o .table) (o .tally) (o .cell) 0) (run-end m t h c)))
+from-allowed m t h c [] = (
+  0,
+  ap (λ (o : Outcome). o .tally .words) (run-end m t h c) ∙ omega arith,
+  run-end weakest t h c ∙ sym (ap (λ (o : Outcome). ended (o .table) (o .tally) (o .cell) 0) (run-end m t h c)),
+)
 from-allowed m t h c (w ∷ ws) =
     by-cases (ℕ-discrete (refusalUnder m t w) 0)
     (λ e.

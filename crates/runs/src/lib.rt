@@ -128,10 +128,14 @@ fn run_by(cells: &mut [[u16; 24]], words: &[u32], act: u32, turn: u32) -> RunAns
         (now (cells .exit)) r
         ⌝ }
 {
-    run(cells, words, Settings {
-        act: act,
-        turn: turn,
-    })
+    run(
+        cells,
+        words,
+        Settings {
+            act: act,
+            turn: turn,
+        },
+    )
 }
 
 // A run of the lent rows by the words under settings, for C (include/zaguypo.h): how many were taken,
@@ -139,7 +143,13 @@ fn run_by(cells: &mut [[u16; 24]], words: &[u32], act: u32, turn: u32) -> RunAns
 // make them, and the tally, whatever it held, is that of this run. Proved by hand: the borrow checker
 // covers no reference to a struct.
 #[no_mangle]
-pub extern "C" fn zaguypo_run_rows(rows: &mut [[u16; 24]], words: &[u32], tally: &mut Tally, act: u32, turn: u32) -> Ran
+pub extern "C" fn zaguypo_run_rows(
+    rows: &mut [[u16; 24]],
+    words: &[u32],
+    tally: &mut Tally,
+    act: u32,
+    turn: u32,
+) -> Ran
     ensures { λ r. ⌜
         RunsTo (record { act = act; turn = turn }) (now (words .entry)) r (now (tally .exit))
         (rowsOf (now (rows .entry))) (rowsOf (now (rows .exit)))

@@ -20,14 +20,15 @@ use Rattle.machine.specs.declared.Stepped.{Stepped}
 use Rattle.counting.proofs.TestLaws.{split}
 use Rattle.machine.proofs.SoundRows.{sound-row, sound-few}
 use Rattle.machine.proofs.Accepted.{accepted-word, accepted-moved}
-use Rattle.machine.proofs.SettingLaws.{before15-cases, forbidden, under-fit, accepted-under}
+use Rattle.machine.proofs.SettingLaws.{weakest-free, before15-cases, forbidden, under-fit, accepted-under}
 use Rattle.machine.proofs.SettingTheorems.{weakest-step, refused-under}
 use Rattle.cells.specs.View.{rowsOf}
 use Rattle.cells.proofs.ViewLaws.{rows-length}
-use Rattle.steps.specs.Moves.{kindTold, refusalBy, Ready, TakesUnder}
+use Rattle.steps.specs.Moves.{kindTold, refusalBy, Ready, Takes, TakesUnder}
 use Rattle.steps.specs.Stepping.{Steps, StepsUnder}
 use Rattle.steps.proofs.MoveLaws.{becomes-as}
 use Rattle.steps.proofs.ToldLaws.{word-told}
+use Rattle.steps.proofs.SettingLaws.{takes-free}
 
 -- ---- the refusal and the answer
 
@@ -171,10 +172,10 @@ module _ (m : Settings) (x : List (List ℕ)) (w : ℕ) where
           refl
 
       -- a word that names a process is its kind, taken
-      pub taken-steps : (y : List (List ℕ)) (s : Stepped)
+      pub taken-under : (y : List (List ℕ)) (s : Stepped)
           → TakesUnder m x (kindOf w) (processOf w) (argumentOf w) y s
           → StepsUnder m x w y s
-      taken-steps y s h =
+      taken-under y s h =
           record {
             answer-is = h .answer-is ∙ sym answer-taken;
             becomes = becomes-as (h .becomes) (sym table-taken);
@@ -187,3 +188,15 @@ pub weakest-steps : (x : List (List ℕ)) (w : ℕ) (y : List (List ℕ)) (s : S
 weakest-steps x w y s h =
     let same = weakest-step (rowsOf x) w in
     record { answer-is = h .answer-is ∙ same .answer-same; becomes = becomes-as (h .becomes) (same .table-same) }
+
+-- a word that names a process is its kind, taken without settings
+pub taken-steps : (x : List (List ℕ)) (w : ℕ)
+    → tableRefusal (rowsOf x) ≡ 0
+    → formed w ≡ true
+    → processOf w < length x
+    → (y : List (List ℕ)) (s : Stepped)
+    → Takes x (kindOf w) (processOf w) (argumentOf w) y s
+    → Steps x w y s
+taken-steps x w z f k y s h =
+    weakest-steps x w y s
+    (taken-under weakest x w z refl f k y s (takes-free weakest (weakest-free (rowsOf x) (kindOf w) (processOf w)) h))

@@ -4,6 +4,7 @@ use cells::access::row_at;
 use cells::making::make_fresh;
 use exclusion_code::step_all;
 use machine::Row;
+use machine::Settings;
 use machine::Stepped;
 use steps::stepping::step;
 
@@ -114,7 +115,7 @@ fn accepted(cells: &mut [[u16; 24]], words: &[u32]) -> usize {
     let mut taken = 0;
     let mut i = 0;
     while i < words.len() {
-        if refusal_of(step(cells, words[i])) == 0 {
+        if refusal_of(step(cells, words[i], Settings::WEAKEST)) == 0 {
             taken += 1;
         }
         i += 1;
@@ -131,7 +132,7 @@ fn pair() {
         accepted(&mut cells, &BOTH_TO_24),
     );
     show_sets(&cells);
-    step_all(&mut cells, &ONE_PASS);
+    step_all(&mut cells, &ONE_PASS, Settings::WEAKEST);
     show_levels(&cells);
 }
 
@@ -184,7 +185,7 @@ fn own_turn() {
     cells[1] = row([24, 1, 0, 1, 5, 0, 0, 0]);
     say(
         b"own turn cell, refusal ",
-        refusal_of(step(&mut cells, 0x4001_0000)),
+        refusal_of(step(&mut cells, 0x4001_0000, Settings::WEAKEST)),
     );
     show_row(row_of(&cells, 1));
 }
@@ -208,7 +209,7 @@ fn cancels() {
     let mut was = cells;
     say(
         b"cancel, refusal ",
-        refusal_of(step(&mut cells, 0x6000_0000)),
+        refusal_of(step(&mut cells, 0x6000_0000, Settings::WEAKEST)),
     );
     say(b"location ", wide(cells[0][0]));
     was[0][0] = 40;
@@ -223,9 +224,9 @@ fn passes() {
         row([20, 0, 0, 0, 0, 0, 0, 0]),
         row([30, 1, 0, 0, 0, 0, 0, 0]),
     ];
-    step_all(&mut cells, &[0x4000_0000]);
+    step_all(&mut cells, &[0x4000_0000], Settings::WEAKEST);
     say(b"passes of 0 over 1 ", wide(cells[0][9]));
-    step_all(&mut cells, &[0x4001_0000]);
+    step_all(&mut cells, &[0x4001_0000], Settings::WEAKEST);
     say(b"passes of 0 over 1 ", wide(cells[0][9]));
 }
 
@@ -240,22 +241,63 @@ fn same_row(r: [u16; 24], s: [u16; 24]) -> bool {
     same
 }
 
-// The refusal of a word at the first n rows.
-fn step_among(room: &mut [[u16; 24]], n: usize, word: u32) -> usize {
+// The refusal of a word under settings at the first n rows.
+fn step_among(room: &mut [[u16; 24]], n: usize, word: u32, settings: Settings) -> usize {
     if room.len() < n {
         return 0;
     }
-    refusal_of(step(&mut room[..n], word))
+    refusal_of(step(&mut room[..n], word, settings))
 }
 
 // The refusal of a word at two rows, of which the step is lent the first n; then whether both rows
 // are as before.
 fn refuses(first: [u16; 24], second: [u16; 24], n: usize, word: u32) {
     let mut cells = [first, second];
-    say(b"refusal ", step_among(&mut cells, n, word));
+    say(
+        b"refusal ",
+        step_among(&mut cells, n, word, Settings::WEAKEST),
+    );
     if same_row(first, cells[0]) & same_row(second, cells[1]) {
         io::write_all(1, b"rows kept\n");
     }
+}
+
+// The refusal of a word under settings at two rows; then whether both rows are as before.
+fn answers(first: [u16; 24], second: [u16; 24], word: u32, act: u32, turn: u32) {
+    let mut cells = [first, second];
+    let settings = Settings {
+        act: act,
+        turn: turn,
+    };
+    say(
+        b"under settings ",
+        step_among(&mut cells, 2, word, settings),
+    );
+    if same_row(first, cells[0]) & same_row(second, cells[1]) {
+        io::write_all(1, b"rows kept\n");
+    }
+}
+
+// FLICKERs of plain cells, a second writer, settings that do not fit; and what other settings do not
+// forbid.
+fn settings() {
+    let rests = row([10, 0, 0, 0, 0, 0, 0, 0]);
+    let enters = row([20, 0, 0, 0, 0, 0, 0, 0]);
+    let pushes = row([24, 1, 0, 1, 2, 0, 0, 0]);
+    let next = row([23, 1, 0, 1, 1, 0, 0, 0]);
+    let pushed = row([23, 1, 1, 1, 1, 0, 0, 0]);
+    answers(enters, rests, 0x3000_0001, 1, 0);
+    answers(enters, rests, 0x3000_0002, 1, 0);
+    answers(enters, rests, 0x3000_0001, 0, 2);
+    answers(pushes, next, 0x3000_0001, 0, 2);
+    answers(pushes, next, 0x3000_0001, 1, 1);
+    answers(pushes, next, 0x4001_0000, 0, 1);
+    answers(pushes, next, 0x4001_0001, 0, 1);
+    answers(pushes, next, 0x4001_0000, 0, 2);
+    answers(pushes, pushed, 0x4001_0000, 0, 1);
+    answers(rests, next, 0x4001_0000, 0, 1);
+    answers(rests, rests, 0x2000_0000, 256, 0);
+    answers(rests, rests, 0x0000_0000, 0, 3);
 }
 
 fn main() {
@@ -282,4 +324,5 @@ fn main() {
     writes[9] = 65535;
     refuses(writes, competes, 2, 0x4000_0000);
     refuses(writes, competes, 2, 0x4000_0001);
+    settings();
 }

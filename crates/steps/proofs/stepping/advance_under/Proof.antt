@@ -12,7 +12,7 @@ use Rattle.steps.specs.Stepping.{StepsUnder}
 use Rattle.machine.proofs.SettingLaws.{others-free}
 use Rattle.steps.proofs.TakeLaws.{formed-kind, last-kinds}
 use Rattle.steps.proofs.SettingLaws.{takes-free}
-use Rattle.steps.proofs.StepLaws.{kind-steps, process-steps, ready, as-parts, taken-steps}
+use Rattle.steps.proofs.StepLaws.{kind-steps, process-steps, ready, as-parts, taken-under}
 use borrow.Author.Needs.{needs}
 use Rattle.steps.proofs.stepping.advance_under.Statement.{statement}
 use Rattle.steps.proofs.stepping.advance_under.Tie as tie
@@ -71,7 +71,7 @@ taken c k y v is h =
     let w = s .args .word in
     let process = e .before .before .before .process-of .ensures in
     let m = s .args .settings in
-    taken-steps m x w (s .pre .0) (s .pre .1) (formed-so e) (omega (arith, process, e .if2 .left)) y v
+    taken-under m x w (s .pre .0) (s .pre .1) (formed-so e) (omega (arith, process, e .if2 .left)) y v
     (as-parts (λ i j l. TakesUnder m x i j l y v) _ _ _ _ _ _
     (sym (c .before .kind-of .ensures) ∙ is) (sym process) (sym (c .argument-of .ensures)) h)
 
