@@ -44,6 +44,7 @@ pub mod CensusExamples
 pub mod CarriedExamples
 pub mod CellExamples
 pub mod PassExamples
+pub mod SettingExamples
 pub mod ImageExamples
 pub mod RoundExamples
 pub mod WholeText
