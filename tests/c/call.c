@@ -1,5 +1,5 @@
-/* zaguypo_run from C: every refusal, both forms of images, the lengths of lent memory, guard bytes around it. Expected answers
-   are written out by hand from the manual ("The call on bytes"). */
+/* zaguypo_run from C under 0 and 0: every refusal that there is then, both forms of images, the lengths of lent memory, guard
+   bytes around it. Expected answers are written out by hand from the manual ("The call on bytes"). */
 #include "layout.h"
 #include "check.h"
 
@@ -59,7 +59,7 @@ static void called(const char *what, size_t length, size_t lent, uint64_t expect
     memcpy(in + GUARD, text, length);
     for (size_t i = 0; i < lent + 2 * GUARD; i++) out[i] = same[i] = (uint8_t)(i * 7 + 3);
     if (image) bytes_of(same + GUARD, image, n);
-    uint64_t got = zaguypo_run(in + GUARD, length, out + GUARD, lent);
+    uint64_t got = zaguypo_run(in + GUARD, length, out + GUARD, lent, ZAGUYPO_ACT_SAFE, ZAGUYPO_TURN_WRITE_SAFE);
     check(what, got == expected);
     if (got != expected) printf("    got %llu, expected %llu\n", (unsigned long long)got, (unsigned long long)expected);
     check(what, memcmp(out, same, lent + 2 * GUARD) == 0);
@@ -245,9 +245,9 @@ static void limits(void) {
 static void nothing_lent(void) {
     uint8_t image[56] = {0}, out[56];
     bytes_of(image, FRESH, 14);
-    check("null input", zaguypo_run(NULL, 0, out, 56) == 1);
-    check("null input and nothing lent", zaguypo_run(NULL, 0, NULL, 0) == 1);
-    check("null lent", zaguypo_run(image, 56, NULL, 0) == 13);
+    check("null input", zaguypo_run(NULL, 0, out, 56, ZAGUYPO_ACT_SAFE, ZAGUYPO_TURN_WRITE_SAFE) == 1);
+    check("null input and nothing lent", zaguypo_run(NULL, 0, NULL, 0, ZAGUYPO_ACT_SAFE, ZAGUYPO_TURN_WRITE_SAFE) == 1);
+    check("null lent", zaguypo_run(image, 56, NULL, 0, ZAGUYPO_ACT_SAFE, ZAGUYPO_TURN_WRITE_SAFE) == 13);
 }
 
 int main(void) {

@@ -9,7 +9,7 @@
 /* The lengths are those of table, words, image and input; text_len bytes are lent for the text. */
 struct given {
     size_t size, count, image_count, input_len, text_len;
-    uint32_t word, kind, process, argument;
+    uint32_t word, kind, process, argument, act, turn;
     struct zaguypo_row rows[ZAGUYPO_MOST_PROCESSES];
     uint32_t words[ZAGUYPO_RUN_LIMIT], image[ZAGUYPO_IMAGE_WORDS(16)];
     uint8_t input[ZAGUYPO_INPUT_BYTES];
@@ -36,7 +36,7 @@ struct answers {
 };
 
 static void call_run(const struct given *g, struct answers *a) {
-    a->run = zaguypo_run(g->input, g->input_len, a->image, sizeof a->image);
+    a->run = zaguypo_run(g->input, g->input_len, a->image, sizeof a->image, g->act, g->turn);
 }
 static void call_print(const struct given *g, struct answers *a) {
     a->printed = zaguypo_print(g->input, g->input_len, a->text, g->text_len);
@@ -44,11 +44,12 @@ static void call_print(const struct given *g, struct answers *a) {
 static void call_fresh(const struct given *g, struct answers *a) { a->made = zaguypo_fresh(a->fresh, g->size); }
 static void call_step(const struct given *g, struct answers *a) {
     memcpy(a->stepped, g->rows, sizeof g->rows);
-    a->step = zaguypo_step(a->stepped, g->size, g->word);
+    a->step = zaguypo_step(a->stepped, g->size, g->word, g->act, g->turn);
 }
 static void call_run_rows(const struct given *g, struct answers *a) {
     memcpy(a->run_rows, g->rows, sizeof g->rows);
-    const struct zaguypo_ran ran = zaguypo_run_rows(a->run_rows, g->size, g->words, g->count, &a->tally);
+    const struct zaguypo_ran ran =
+        zaguypo_run_rows(a->run_rows, g->size, g->words, g->count, &a->tally, g->act, g->turn);
     a->ran_taken = ran.taken, a->ran_refusal = ran.refusal, a->ran_cell = ran.cell;
 }
 static void call_census(const struct given *g, struct answers *a) { a->figures = zaguypo_census(g->rows, g->size); }
@@ -94,7 +95,7 @@ static size_t give_circuit(uint32_t *words, size_t count, uint32_t p, uint32_t n
     return taken;
 }
 
-/* n idle processes and `count` words of circuits, by process 0, 1, .. in turn; the same as image and as input */
+/* n idle processes and `count` words of circuits, by process 0, 1, .. in turn; the same as image and as input; under 0 and 0 */
 static void give(struct given *g, uint32_t n, size_t count) {
     memset(g, 0, sizeof *g);
     g->size = n, g->count = count, g->text_len = ZAGUYPO_TEXT_BYTES;

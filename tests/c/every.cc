@@ -30,11 +30,13 @@ Words put_together() {
 void step_rows(const Words &words) {
     Table rows{};
     check("fresh", zaguypo_fresh(rows.data(), rows.size()) == 0 && rows[0].location == 10 && rows[2].location == 10);
-    const zaguypo_stepped stepped = zaguypo_step(rows.data(), rows.size(), words.come);
+    const zaguypo_stepped stepped =
+        zaguypo_step(rows.data(), rows.size(), words.come, ZAGUYPO_ACT_SAFE, ZAGUYPO_TURN_WRITE_SAFE);
     check("step", stepped.refusal == 0 && rows[1].location == 20);
     check("step, no cell", stepped.cell.access == 0 && stepped.cell.variable == 0 && stepped.cell.index == 0);
     zaguypo_tally tally{};
-    const zaguypo_ran ran = zaguypo_run_rows(rows.data(), rows.size(), &words.go, 1, &tally);
+    const zaguypo_ran ran =
+        zaguypo_run_rows(rows.data(), rows.size(), &words.go, 1, &tally, ZAGUYPO_ACT_SAFE, ZAGUYPO_TURN_WRITE_SAFE);
     check("run_rows", ran.taken == 1 && ran.refusal == 0 && rows[1].location == 21 && rows[1].est == 5);
     check("run_rows, act of 1 written", ran.cell.access == 2 && ran.cell.variable == 1 && ran.cell.index == 1);
     check("tally", tally.words == 1 && tally.comes == 0 && tally.arrivals == 0);
@@ -52,12 +54,40 @@ void count_passes(const Words &words) {
     Table rows{};
     zaguypo_fresh(rows.data(), rows.size());
     for (uint32_t word : {words.come, words.go, words.come + 0x10000, words.go + 0x10000})
-        check("accepted", zaguypo_step(rows.data(), rows.size(), word).refusal == 0);
+        check("accepted",
+              zaguypo_step(rows.data(), rows.size(), word, ZAGUYPO_ACT_SAFE, ZAGUYPO_TURN_WRITE_SAFE).refusal == 0);
     check("passes", rows[2].passes[1] == 1 && rows[2].passes[0] == 0 && rows[1].passes[2] == 0);
     rows[0].location = 20, rows[0].passes[2] = 65535;
-    const zaguypo_stepped stepped = zaguypo_step(rows.data(), rows.size(), words.go - 0x10000);
+    const zaguypo_stepped stepped =
+        zaguypo_step(rows.data(), rows.size(), words.go - 0x10000, ZAGUYPO_ACT_SAFE, ZAGUYPO_TURN_WRITE_SAFE);
     check("15", stepped.refusal == 15 && stepped.cell.access == 0);
     check("15, rows", rows[0].location == 20 && rows[0].passes[1] == 0 && rows[0].passes[2] == 65535);
+}
+
+// step and run_rows under settings: FLICKER at 20 and 16; GO from 23 beside another process at 24 and 17; 18
+void choose_settings(const Words &words) {
+    Table rows{};
+    zaguypo_fresh(rows.data(), rows.size());
+    rows[1].location = 20;
+    const uint32_t flicker = zaguypo_together(3, 1, 1).word;
+    check("16", zaguypo_step(rows.data(), rows.size(), flicker, ZAGUYPO_ACT_PLAIN, ZAGUYPO_TURN_WRITE_SAFE).refusal == 16);
+    check("16, rows", rows[1].location == 20 && rows[1].act == 0);
+    check("FLICKER", zaguypo_step(rows.data(), rows.size(), flicker, ZAGUYPO_ACT_SAFE, ZAGUYPO_TURN_PLAIN).refusal == 0);
+    check("FLICKER, rows", rows[1].location == 20 && rows[1].act == 1);
+
+    rows[0].location = 24, rows[0].level = 2;
+    rows[1].location = 23, rows[1].level = 2, rows[1].est = 5;
+    const auto run = [&](uint32_t act, uint32_t turn, uint32_t refusal, unsigned location) {
+        zaguypo_tally tally{9, 9, 9};
+        const zaguypo_ran ran = zaguypo_run_rows(rows.data(), rows.size(), &words.go, 1, &tally, act, turn);
+        const uint32_t taken = refusal == 0;
+        check("run_rows under settings", ran.refusal == refusal && ran.taken == taken && rows[1].location == location);
+        check("its tally", tally.words == taken && tally.comes == 0 && tally.arrivals == 0);
+    };
+    run(2, ZAGUYPO_TURN_ONE_WRITER, 18, 23);
+    run(ZAGUYPO_ACT_PLAIN, 3, 18, 23);
+    run(ZAGUYPO_ACT_PLAIN, ZAGUYPO_TURN_ONE_WRITER, 17, 23);
+    run(ZAGUYPO_ACT_PLAIN, ZAGUYPO_TURN_PLAIN, 0, 24);
 }
 
 // write, read
@@ -76,10 +106,15 @@ Image images() {
 void run_bytes(const Image &image, const Words &words) {
     std::vector<uint32_t> all(image.begin(), image.end());
     all.insert(all.end(), {words.come, words.go});
-    std::vector<uint8_t> input, after(ZAGUYPO_IMAGE_BYTES(3));
+    std::vector<uint8_t> input, after(ZAGUYPO_IMAGE_BYTES(3), 0xA5);
     for (uint32_t word : all)
         for (int shift = 0; shift < 32; shift += 8) input.push_back(static_cast<uint8_t>(word >> shift));
-    check("run", zaguypo_run(input.data(), input.size(), after.data(), after.size()) == 2 * 256);
+    const auto run = [&](uint32_t act, uint32_t turn) {
+        return zaguypo_run(input.data(), input.size(), after.data(), after.size(), act, turn);
+    };
+    check("run, 18", run(ZAGUYPO_ACT_SAFE, 3) == 18 && run(2, ZAGUYPO_TURN_PLAIN) == 18);
+    check("run, 18, image", std::count(after.begin(), after.end(), 0xA5) == ZAGUYPO_IMAGE_BYTES(3));
+    check("run", run(ZAGUYPO_ACT_SAFE, ZAGUYPO_TURN_WRITE_SAFE) == 2 * 256);
     const std::vector<uint8_t> moved{0x02, 0x22, 0x01, 0x90};
     check("run, process 1 at 21, act 1, level 2", std::equal(moved.begin(), moved.end(), after.begin() + 20));
     std::string text(zaguypo_print(input.data(), input.size(), nullptr, 0), ' ');
@@ -93,6 +128,7 @@ int main() {
     const Words words = put_together();
     step_rows(words);
     count_passes(words);
+    choose_settings(words);
     run_bytes(images(), words);
     return done("every.cc");
 }

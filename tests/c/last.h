@@ -1,4 +1,4 @@
-/* The table after the run of standard input, an image and then event words. */
+/* The table after the run of standard input, an image and then event words, under 0 and 0. */
 #include "zaguypo.h"
 
 #include <stdio.h>
@@ -13,6 +13,8 @@ static size_t last_table(struct zaguypo_row *rows) {
 
     size_t number = input[0], first = input[3] == 0x80 ? 5 * number : ZAGUYPO_IMAGE_WORDS(number);
     size_t size = first <= length / 4 ? zaguypo_read(words, first, rows, 16).size : 0;
-    if (size == 0 || zaguypo_run_rows(rows, size, words + first, length / 4 - first, &tally).refusal) return 0;
-    return size;
+    if (size == 0) return 0;
+    struct zaguypo_ran ran = zaguypo_run_rows(rows, size, words + first, length / 4 - first, &tally, ZAGUYPO_ACT_SAFE,
+                                              ZAGUYPO_TURN_WRITE_SAFE);
+    return ran.refusal ? 0 : size;
 }

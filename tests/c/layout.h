@@ -71,6 +71,8 @@ HAS_AT(zaguypo_word, refusal, 0, 4);
 HAS_AT(zaguypo_word, word, 4, 4);
 
 static_assert(ZAGUYPO_MOST_PROCESSES == 16 && ZAGUYPO_RUN_LIMIT == 8192, "limits");
+static_assert(ZAGUYPO_ACT_SAFE == 0 && ZAGUYPO_ACT_PLAIN == 1, "settings of act");
+static_assert(ZAGUYPO_TURN_WRITE_SAFE == 0 && ZAGUYPO_TURN_ONE_WRITER == 1 && ZAGUYPO_TURN_PLAIN == 2, "settings of turn");
 static_assert(ZAGUYPO_ROUND_LIMIT(2) == 80 && ZAGUYPO_ROUND_LIMIT(16) == 19456, "limit of rounds");
 static_assert(ZAGUYPO_SILENCE_BOUND(2) == 11 && ZAGUYPO_SILENCE_BOUND(16) == 557, "bound on the silence");
 static_assert(ZAGUYPO_INPUT_BYTES == 34112, "bytes of an input");

@@ -1,53 +1,21 @@
 /* zaguypo_step and zaguypo_run_rows from C: the declarations fit the compiled functions, only the lent rows and the tally are
    written, and every length has its answer. Expected rows and answers are written out by hand from the manual; what each word
-   does to any row is for the comparison in tests/reference. And zaguypo_rounds does what single steps do. */
+   does to any row is for the comparison in tests/reference. And zaguypo_rounds does what single steps do. All under 0 and 0. */
 #include "calls.h"
-#include "check.h"
-#include "lend.h"
+#include "stepped.h"
 #include "every/tables.h"
 
 /* one more than a run may have: STAYs of process 0, and words of kind 0 */
 static uint32_t stays[8193], zeros[8193];
-static const struct zaguypo_tally NONE = {0, 0, 0};
 
-/* the cells that a word may have used: none; act or turn of a number, read or written */
-static const struct zaguypo_cell NO_CELL = {0, 0, 0};
-static struct zaguypo_cell act_read(uint16_t q) { return (struct zaguypo_cell){1, 1, q}; }
-static struct zaguypo_cell act_written(uint16_t q) { return (struct zaguypo_cell){2, 1, q}; }
-static struct zaguypo_cell turn_read(uint16_t k) { return (struct zaguypo_cell){1, 2, k}; }
-static struct zaguypo_cell turn_written(uint16_t k) { return (struct zaguypo_cell){2, 2, k}; }
-
-static int same_cell(struct zaguypo_cell a, struct zaguypo_cell b) {
-    return a.access == b.access && a.variable == b.variable && a.index == b.index;
-}
-
-/* A step on n lent rows. Here and below the pointer is NULL where the length is 0. */
+/* a step and a run under 0 and 0; settings.c has the other settings */
 static void stepped(const struct zaguypo_row *table, size_t n, uint32_t word, unsigned refusal,
                     struct zaguypo_cell cell, const struct zaguypo_row *after) {
-    unsigned long before = failures;
-    struct lent rows = lend(table, n * sizeof *table);
-    must_hold(&rows, after, n * sizeof *after);
-    struct zaguypo_stepped s = zaguypo_step(lent_memory(&rows), n, word);
-    check("step, answer", s.refusal == refusal);
-    check("step, cell", same_cell(s.cell, cell));
-    check("step, rows", given_back(&rows));
-    if (failures > before && before < 20) printf("    %zu rows, word %08x, refusal %u\n", n, (unsigned)word, refusal);
+    stepped_under(ZERO, table, n, word, refusal, cell, after);
 }
-
-/* A run of lent words with a lent tally, which holds other numbers before. As many words are taken as the tally must
-   have; the cell is that of the last of them. */
 static void ran(const struct zaguypo_row *table, size_t n, const uint32_t *words, size_t count, unsigned refusal,
                 struct zaguypo_tally tally, struct zaguypo_cell cell, const struct zaguypo_row *after) {
-    unsigned long before = failures;
-    struct lent rows = lend(table, n * sizeof *table), list = lend(words, 4 * count), held = lend(NULL, sizeof tally);
-    must_hold(&rows, after, n * sizeof *after), must_hold(&held, &tally, sizeof tally);
-    struct zaguypo_ran r = zaguypo_run_rows(lent_memory(&rows), n, lent_memory(&list), count, lent_memory(&held));
-    check("run, answer", r.taken == tally.words && r.refusal == refusal);
-    check("run, cell", same_cell(r.cell, cell));
-    check("run, rows", given_back(&rows));
-    check("run, words", given_back(&list));
-    check("run, tally", given_back(&held));
-    if (failures > before && before < 20) printf("    %zu rows, %zu words, refusal %u\n", n, count, refusal);
+    ran_under(ZERO, table, n, words, count, refusal, tally, cell, after);
 }
 
 /* A table that is refused, also before 8 and before 12. */
@@ -66,7 +34,7 @@ static void wrong_sizes(void) {
     idle_rows(idle, 18);
     for (int i = 0; i < 4; i++) refused_table(idle, sizes[i], 6), refused_table(unsound, sizes[i], 6);
     struct lent rows = lend(idle, sizeof idle);
-    check("none of 18 rows, answer", zaguypo_step(lent_memory(&rows), 0, 0x20000000).refusal == 6);
+    check("none of 18 rows, answer", zaguypo_step(lent_memory(&rows), 0, 0x20000000, ZERO.act, ZERO.turn).refusal == 6);
     check("none of 18 rows, rows", given_back(&rows));
 }
 
@@ -314,7 +282,7 @@ static unsigned rounds_and_steps(const struct zaguypo_row *table, uint32_t n) {
     memcpy(after, table, n * sizeof *table);
     while (silent(after, n) && by_steps.rounds < ZAGUYPO_ROUND_LIMIT(n) && !by_steps.refusal) {
         for (uint32_t p = 0; p < n && !by_steps.refusal; p++)
-            by_steps.refusal = zaguypo_step(after, n, word_of_round(after, p)).refusal;
+            by_steps.refusal = zaguypo_step(after, n, word_of_round(after, p), ZERO.act, ZERO.turn).refusal;
         by_steps.rounds += !by_steps.refusal;
     }
     by_steps.occupied = (uint16_t)somebody(after, n, 30, 30);
@@ -342,7 +310,7 @@ static void rounds(uint32_t n) {
         const uint32_t least = 2 * n + draw(20 * n), most = 1000 * n;
         idle_rows(table, n);
         for (uint32_t words = 0; words < least || (words < most && !silent(table, n)); words++)
-            zaguypo_step(table, n, drawn_word(table, n));
+            zaguypo_step(table, n, drawn_word(table, n), ZERO.act, ZERO.turn);
         check("rounds, few passes", rounds_and_steps(table, n) == 0);
         const struct zaguypo_rounded r = zaguypo_rounds(table, n);
         check("rounds, in time", r.occupied == 1 && r.rounds > 0 && r.rounds <= ZAGUYPO_SILENCE_BOUND(n));

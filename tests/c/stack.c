@@ -7,7 +7,7 @@
 #include <pthread.h>
 #include <stdlib.h>
 
-enum { STACK = 1 << 20, SMALL = 128 << 10, BELOW_START = 16 << 10 };
+enum { STACK = 1 << 20, SMALL = 128 << 10, BELOW_START = 16 << 10, SETS = 20 };
 
 struct job {
     calling *call;
@@ -103,6 +103,20 @@ static void give_full(struct given *g) {
     for (int r = 0; r < 15; r++) g->rows[15].passes[r] = 65535;
 }
 
+/* 16 processes, where turn has one writer: the last is about to go from 23 to 24, the others are at 24 on a level; GO of it */
+static void give_writers(struct given *g, uint16_t level) {
+    give_location(g, 24);
+    for (int q = 0; q < 15; q++) g->rows[q].level = level;
+    g->rows[15].location = 23, g->rows[15].est = 0xFFFF;
+    g->turn = ZAGUYPO_TURN_ONE_WRITER;
+}
+
+/* 16 processes at 20, where act is plain, and FLICKER of the last */
+static void give_plain(struct given *g) {
+    give_location(g, 20);
+    g->word = 0x300F0001, g->act = ZAGUYPO_ACT_PLAIN;
+}
+
 /* 16 processes that use up the limit of rounds: all but the first rest with act 1, and the first waits for them */
 static void give_rounds(struct given *g) {
     give(g, 16, 0);
@@ -110,14 +124,14 @@ static void give_rounds(struct given *g) {
     g->rows[0].location = 20;
 }
 
-/* the longest run, with room for its text and without, and short ones, a step at each location, the most rounds, and
-   bytes, tables and a step that are refused */
+/* the longest run, with room for its text and without, which is then under other settings, and short ones, a step at each
+   location, the most rounds, a step beside 15 writers on another level, and bytes, tables, steps and settings that are refused */
 int main(void) {
     static const uint16_t locations[] = {10, 20, 21, 22, 23, 24, 30, 40};
-    static struct given given[16];
+    static struct given given[SETS];
     give(&given[0], 16, ZAGUYPO_RUN_LIMIT);
     give(&given[13], 16, ZAGUYPO_RUN_LIMIT);
-    given[13].text_len = 100;
+    given[13].text_len = 100, given[13].act = ZAGUYPO_ACT_PLAIN, given[13].turn = ZAGUYPO_TURN_ONE_WRITER;
     give(&given[1], 16, 100);
     give(&given[2], 2, 10);
     give(&given[3], 2, 0);
@@ -125,6 +139,11 @@ int main(void) {
     for (int i = 0; i < 8; i++) give_location(&given[5 + i], locations[i]);
     give_rounds(&given[14]);
     give_full(&given[15]);
-    for (int c = 0; c < CALLS; c++) measure(calls[c].name, calls[c].call, given, 16);
+    give_writers(&given[16], 15);
+    give_writers(&given[17], 14);
+    give_plain(&given[18]);
+    give(&given[19], 16, ZAGUYPO_RUN_LIMIT);
+    given[19].act = 2;
+    for (int c = 0; c < CALLS; c++) measure(calls[c].name, calls[c].call, given, SETS);
     return done("stack");
 }

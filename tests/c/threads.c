@@ -28,7 +28,7 @@ static uint32_t draw(uint32_t *seed, uint32_t below) {
 }
 
 /* Up to 300 words of circuits from an idle table, or the longest run; then changes to the input, to the image and to
-   the rows, which some of the functions refuse. */
+   the rows, which some of the functions refuse. Any settings, one in eight of which there are not. */
 static void give_any(struct given *g, uint32_t seed, int longest) {
     uint32_t n = 2 + draw(&seed, 15), q = draw(&seed, n);
     give(g, n, longest ? ZAGUYPO_RUN_LIMIT : draw(&seed, 300));
@@ -43,6 +43,7 @@ static void give_any(struct given *g, uint32_t seed, int longest) {
     g->rows[q].ahead = (uint16_t)draw(&seed, 1u << n);
     for (uint32_t r = 0; r < n; r++)
         if (r != q || draw(&seed, 4) == 0) g->rows[q].passes[r] = draw(&seed, 4) ? (uint16_t)draw(&seed, 65536) : 65535;
+    g->act = draw(&seed, 8) ? draw(&seed, 2) : 2, g->turn = draw(&seed, 3);
 }
 
 /* the bytes of the answers that a function can touch: of them all, the text only where it prints */
