@@ -12,8 +12,8 @@
 
 /* The first number rises with a change that a host compiled before would not survive, the second with any other change of
    an answer or of the interface. CHANGELOG.md says what each version changed. */
-#define ZAGUYPO_VERSION "3.0.0"
-#define ZAGUYPO_VERSION_MAJOR 3
+#define ZAGUYPO_VERSION "4.0.0"
+#define ZAGUYPO_VERSION_MAJOR 4
 #define ZAGUYPO_VERSION_MINOR 0
 #define ZAGUYPO_VERSION_PATCH 0
 
@@ -40,26 +40,39 @@ extern "C" {
      5   the same word: level against location
      6   a table: not 2 to 16 rows
      7   a table: a row is unsound
+     18  act or turn, since version 4.0.0: not one of the settings
      12  a run: more than 8,192 words
      13  too little memory is lent for the answer
      8   an event word: kind not 1 to 6, or a spare bit set
      9   the same word: no such process
      10  the same word: kind not allowed where the process is
      11  the same word: argument not as listed
+     16  the same word, since version 4.0.0: FLICKER of a cell that the settings say is plain
+     17  the same word, since version 4.0.0: GO from 23 to 24, where the settings leave turn[level] one writer and it has one
      15  the same word, since version 3.0.0: it would carry a count of passes past 65,535, which only GO at 20 can */
+
+/* ---- settings, since version 4.0.0: two parameters of a step and of a run, act and turn, that say what the shared cells do while
+   they are written ("Settings"). Under 0 and 0 every word is answered as up to version 3.0.0. Other settings refuse some of the
+   words that 0 and 0 accepts, and change no other answer. All 32 bits are compared: any other value meets 18. */
+
+#define ZAGUYPO_ACT_SAFE 0         /* act may be read as anything while it is written: FLICKER is allowed at 20 and at 40 */
+#define ZAGUYPO_ACT_PLAIN 1        /* it may not: FLICKER at 20 and at 40 meets 16 */
+#define ZAGUYPO_TURN_WRITE_SAFE 0  /* so may turn[k], by several writers at once: FLICKER is allowed at 24 */
+#define ZAGUYPO_TURN_ONE_WRITER 1  /* by one at a time: GO from 23 to 24 meets 17 while another process at 24 has the same level */
+#define ZAGUYPO_TURN_PLAIN 2       /* it may not: FLICKER at 24 meets 16 */
 
 /* ---- inputs: bytes that are words of 4 bytes, lowest byte first, an image and then event words ("Bytes and inputs", "The call
    on bytes", "The printed text") */
 
-/* The run that an input holds. Answers 256 times the number of words taken, plus the refusal or 0. After 14, 1 to 5, 12 and
-   13 (image_len is below ZAGUYPO_IMAGE_BYTES(N)) the count is 0 and the lent bytes are as given. Otherwise, also where a word
-   stopped the run with 8 to 11 or 15, the image of the table after the words taken fills the first ZAGUYPO_IMAGE_BYTES(N) lent
-   bytes, and no others change. That image is headed 81000000 plus N, whichever header the input has. */
-uint64_t zaguypo_run(const uint8_t *input, size_t input_len, uint8_t *image, size_t image_len);
+/* The run that an input holds, under the settings. Answers 256 times the number of words taken, plus the refusal or 0. After 14,
+   1 to 5, 18, 12 and 13 (image_len is below ZAGUYPO_IMAGE_BYTES(N)) the count is 0 and the lent bytes are as given. Otherwise,
+   also where a word stopped the run with 8 to 11, 16, 17 or 15, the image of the table after the words taken fills the first
+   ZAGUYPO_IMAGE_BYTES(N) lent bytes, and no others change. That image is headed 81000000 plus N, whichever header the input has. */
+uint64_t zaguypo_run(const uint8_t *input, size_t input_len, uint8_t *image, size_t image_len, uint32_t act, uint32_t turn);
 
-/* The text that the printing program, zaguypo-replay, prints for an input. Answers the length of the text, which is at most
-   ZAGUYPO_TEXT_BYTES. Where text_len is at least this length, the text fills the first lent bytes, with no zero after it, and no
-   others change; where text_len is less, every lent byte is as given. */
+/* The text that the printing program, zaguypo-replay, prints for an input; its run is under 0 and 0. Answers the length of the
+   text, which is at most ZAGUYPO_TEXT_BYTES. Where text_len is at least this length, the text fills the first lent bytes, with no
+   zero after it, and no others change; where text_len is less, every lent byte is as given. */
 size_t zaguypo_print(const uint8_t *input, size_t input_len, char *text, size_t text_len);
 
 /* ---- tables of rows ("Tables", "Steps", "Ahead sets", "Passes", "Runs", "Census", "Rounds") */
@@ -93,9 +106,9 @@ struct zaguypo_stepped {
     struct zaguypo_cell cell;
 };
 
-/* One step by one word. The refusal is 0 and the rows are moved; or it is 6, 7, 8 to 11 or 15, no row changes, and the cell is
-   none. */
-struct zaguypo_stepped zaguypo_step(struct zaguypo_row *rows, size_t size, uint32_t word);
+/* One step by one word under the settings. The refusal is 0 and the rows are moved; or it is 6, 7, 18, 8 to 11, 16, 17 or 15, no
+   row changes, and the cell is none. */
+struct zaguypo_stepped zaguypo_step(struct zaguypo_row *rows, size_t size, uint32_t word, uint32_t act, uint32_t turn);
 
 /* What went along with a run. */
 struct zaguypo_tally {
@@ -109,10 +122,10 @@ struct zaguypo_ran {
     struct zaguypo_cell cell;
 };
 
-/* A run: the words in order, up to the first that is refused. Refusals 6, 7 and then 12 take no word and change no row. The
-   tally, whatever it held, is that of this run: zero after 6, 7 and 12. */
+/* A run under the settings: the words in order, up to the first that is refused. Refusals 6, 7, then 18, then 12 take no word and
+   change no row. The tally, whatever it held, is that of this run: zero after 6, 7, 18 and 12. */
 struct zaguypo_ran zaguypo_run_rows(struct zaguypo_row *rows, size_t size, const uint32_t *words, size_t count,
-                                    struct zaguypo_tally *tally);
+                                    struct zaguypo_tally *tally, uint32_t act, uint32_t turn);
 
 /* The census: the figures of a table, for each k from 0 to its number of processes, 0 past that. Where the table is refused
    there are no figures: all are 0. */
@@ -138,15 +151,16 @@ struct zaguypo_rounded {
     uint16_t occupied; /* 1 where some process is at 30, else 0 */
 };
 
-/* Rounds, since version 2.1.0. A round gives each process in number order one word, and each word goes to the table that the
-   word before left: STAY at 10; at 22 with lis not empty LOOK at the lowest member of lis; GO otherwise. Rounds are done in
-   the lent rows until some process is at 30, which is asked before the first and after each whole one, or
-   ZAGUYPO_ROUND_LIMIT(size), the limit, are done: for sixteen processes 311,296 words. With nobody at 20 to 24 none is
-   begun. Where none is begun, and after 6 and 7, no row changes. Before a word that the step refuses with 15 the rounds end
-   with 15: the round that it breaks is not counted, and the words before it in that round are kept; only the first can be
-   broken, so rounds is 0 then. From a table that words made from a fresh one, with nobody at 30 and somebody at 20 to 24,
-   and where 15 is not met, at most ZAGUYPO_SILENCE_BOUND(size) are done, and occupied is 1; for sixteen processes that is
-   557. Sound tables that no words lead to may use up the limit, with occupied 0 ("Rounds"). */
+/* Rounds, since version 2.1.0; their words are stepped under 0 and 0. A round gives each process in number order one
+   word, and each word goes to the table that the word before left: STAY at 10; at 22 with lis not empty LOOK at the
+   lowest member of lis; GO otherwise. Rounds are done in the lent rows until some process is at 30, which is asked before
+   the first and after each whole one, or ZAGUYPO_ROUND_LIMIT(size), the limit, are done: for sixteen processes 311,296
+   words. With nobody at 20 to 24 none is begun. Where none is begun, and after 6 and 7, no row changes. Before a word
+   that the step refuses with 15 the rounds end with 15: the round that it breaks is not counted, and the words before it
+   in that round are kept; only the first can be broken, so rounds is 0 then. From a table that words made from a fresh
+   one, with nobody at 30 and somebody at 20 to 24, and where 15 is not met, at most ZAGUYPO_SILENCE_BOUND(size) are done,
+   and occupied is 1; for sixteen processes that is 557. Sound tables that no words lead to may use up the limit, with
+   occupied 0 ("Rounds"). */
 struct zaguypo_rounded zaguypo_rounds(struct zaguypo_row *rows, size_t size);
 
 /* ---- images: a table as 5N + N x N words, headed 81000000 plus N, which they are since version 3.0.0; or bare as 5N words,

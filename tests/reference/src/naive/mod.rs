@@ -8,6 +8,7 @@ mod cells;
 mod image;
 mod passes;
 mod rounds;
+mod settings;
 mod step;
 mod system;
 mod words;
@@ -20,8 +21,8 @@ pub use words::{put_together, take_apart};
 
 /// One error put into the model; the first group is of errors that are near, the third of CANCEL and the kinds, the
 /// fourth of the printed number at 30, which may be carried wrongly, the fifth of the shared cell that a step, a run
-/// and a line tell, the sixth of rounds, the seventh of passes, the last that of memory lent by C and of answers in
-/// records.
+/// and a line tell, the sixth of rounds, the seventh of passes, the eighth of settings, the last that of memory lent by C
+/// and of answers in records.
 #[derive(Clone, Copy, Debug, PartialEq, Eq)]
 pub enum Fault {
     None,
@@ -178,6 +179,61 @@ pub enum Fault {
     ByteLimitWithoutPasses,
     FreshKeepsPasses,
 
+    ActPlainForbidsTurn,
+    ActPlainOnlyAt20,
+    ActPlainOnlyAt40,
+    ActPlainForbidsNothing,
+    TurnPlainForbidsAct,
+    TurnPlainForbidsNothing,
+    OneWriterForbidsFlicker,
+    OneWriterWhereEstIsFew,
+    OneWriterWhereBb,
+    OneWriterAtAnyGo23,
+    OneWriterSeesItself,
+    OneWriterSeesLowerOnes,
+    OneWriterOfAnyLevel,
+    OneWriterLooksAt23,
+    OneWriterAlsoAt23,
+    OneWriterUnasked,
+    PlainAsksForOneWriter,
+    ForbiddenFlickerBeforeArgument,
+    ForbiddenGoBeforeArgument,
+    ForbiddenFlickerBeforeAllowed,
+    SixteenAndSeventeenSwapped,
+    ForbiddenGoIs16,
+    ForbiddenWordMoves,
+    ForbiddenWordUsesCell,
+    ForbiddenWordTaken,
+    ForbiddenWordTallied,
+    ForbiddenWordSkipped,
+    StepUnderSafe,
+    RunUnderSafe,
+    CallUnderSafe,
+    TextUnderPlain,
+    TextUnderOneWriter,
+    RoundsUnderOneWriter,
+    SettingsSwapped,
+    ActOfLowBit,
+    ActOfOneByte,
+    TurnOfTwoBits,
+    TurnOfTwoBytes,
+    ActOf2Taken,
+    TurnOf3Taken,
+    OneWrongSettingTaken,
+    SettingsBeforeRowCount,
+    SettingsBeforeRows,
+    SettingsAfterForm,
+    SettingsUnaskedWithoutWords,
+    RunSettingsAfterWordCount,
+    SettingsBeforeBytes,
+    SettingsBeforeImage,
+    CallSettingsAfterWordCount,
+    SettingsAfterLent,
+    WrongSettingsKeepTally,
+    WrongSettingsMoveRows,
+    WrongSettingsWriteImage,
+    WrongSettingsClearLent,
+
     FreshOf17Rows,
     FreshKeepsWhatMayBeAnything,
     ReadLentBeforeWords,
@@ -197,7 +253,7 @@ pub enum Fault {
 }
 
 impl Fault {
-    pub const ALL: [Fault; 162] = [
+    pub const ALL: [Fault; 216] = [
         Fault::Counts40With30,
         Fault::EstKeptAtGo24,
         Fault::TurnBeforeSizeOfEst,
@@ -344,6 +400,60 @@ impl Fault {
         Fault::LentWithoutPasses,
         Fault::ByteLimitWithoutPasses,
         Fault::FreshKeepsPasses,
+        Fault::ActPlainForbidsTurn,
+        Fault::ActPlainOnlyAt20,
+        Fault::ActPlainOnlyAt40,
+        Fault::ActPlainForbidsNothing,
+        Fault::TurnPlainForbidsAct,
+        Fault::TurnPlainForbidsNothing,
+        Fault::OneWriterForbidsFlicker,
+        Fault::OneWriterWhereEstIsFew,
+        Fault::OneWriterWhereBb,
+        Fault::OneWriterAtAnyGo23,
+        Fault::OneWriterSeesItself,
+        Fault::OneWriterSeesLowerOnes,
+        Fault::OneWriterOfAnyLevel,
+        Fault::OneWriterLooksAt23,
+        Fault::OneWriterAlsoAt23,
+        Fault::OneWriterUnasked,
+        Fault::PlainAsksForOneWriter,
+        Fault::ForbiddenFlickerBeforeArgument,
+        Fault::ForbiddenGoBeforeArgument,
+        Fault::ForbiddenFlickerBeforeAllowed,
+        Fault::SixteenAndSeventeenSwapped,
+        Fault::ForbiddenGoIs16,
+        Fault::ForbiddenWordMoves,
+        Fault::ForbiddenWordUsesCell,
+        Fault::ForbiddenWordTaken,
+        Fault::ForbiddenWordTallied,
+        Fault::ForbiddenWordSkipped,
+        Fault::StepUnderSafe,
+        Fault::RunUnderSafe,
+        Fault::CallUnderSafe,
+        Fault::TextUnderPlain,
+        Fault::TextUnderOneWriter,
+        Fault::RoundsUnderOneWriter,
+        Fault::SettingsSwapped,
+        Fault::ActOfLowBit,
+        Fault::ActOfOneByte,
+        Fault::TurnOfTwoBits,
+        Fault::TurnOfTwoBytes,
+        Fault::ActOf2Taken,
+        Fault::TurnOf3Taken,
+        Fault::OneWrongSettingTaken,
+        Fault::SettingsBeforeRowCount,
+        Fault::SettingsBeforeRows,
+        Fault::SettingsAfterForm,
+        Fault::SettingsUnaskedWithoutWords,
+        Fault::RunSettingsAfterWordCount,
+        Fault::SettingsBeforeBytes,
+        Fault::SettingsBeforeImage,
+        Fault::CallSettingsAfterWordCount,
+        Fault::SettingsAfterLent,
+        Fault::WrongSettingsKeepTally,
+        Fault::WrongSettingsMoveRows,
+        Fault::WrongSettingsWriteImage,
+        Fault::WrongSettingsClearLent,
         Fault::FreshOf17Rows,
         Fault::FreshKeepsWhatMayBeAnything,
         Fault::ReadLentBeforeWords,
@@ -377,6 +487,12 @@ impl Fault {
     /// Those of passes, which stand together in ALL.
     pub fn of_passes() -> impl Iterator<Item = Fault> {
         let from_the_first = Fault::ALL.into_iter().skip_while(|&fault| fault != Fault::PassesOfTheOther);
+        from_the_first.take_while(|&fault| fault != Fault::ActPlainForbidsTurn)
+    }
+
+    /// Those of settings, which stand together in ALL.
+    pub fn of_settings() -> impl Iterator<Item = Fault> {
+        let from_the_first = Fault::ALL.into_iter().skip_while(|&fault| fault != Fault::ActPlainForbidsTurn);
         from_the_first.take_while(|&fault| fault != Fault::FreshOf17Rows)
     }
 }

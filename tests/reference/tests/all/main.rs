@@ -1,5 +1,8 @@
 //! All tests of the reference, in one program.
 
+mod allowed;
+mod blind;
+mod blind_settings;
 mod cancel;
 mod cells;
 mod census;
@@ -12,4 +15,5 @@ mod models;
 mod passes;
 mod printed;
 mod rounds;
+mod settings;
 mod walk;

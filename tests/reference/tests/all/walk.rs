@@ -2,12 +2,12 @@
 
 use reference::compare::{Answer, Case, Naive, Reference};
 use reference::naive::{self, Fault};
-use reference::walk::{control, most_needed, walk, Beside, Exchange, Figures, Finding, Found, Full, Visited, Walk};
-use reference::walk::{EVERY_OF_2, SHORTEST, TOO_LONG, UNTOLD, ZEROS_OF_2, ZEROS_OF_3};
-use reference::{Ran, Rounded, Row, Tally};
+use reference::walk::{control, most_needed, walk, Beside, Exchange, Figures, Finding, Found, Full};
+use reference::walk::{Under, Visited, Walk, EVERY_OF_2, SHORTEST, TOO_LONG, UNTOLD, ZEROS_OF_2, ZEROS_OF_3};
+use reference::{Ran, Rounded, Row, Settings, Tally};
 
 /// Seen by a walk of two processes from every fresh table, and so are those of a step's cell.
-const SEEN: [Fault; 45] = [
+const SEEN: [Fault; 46] = [
     Fault::Counts40With30,
     Fault::AheadClearedAtGo40,
     Fault::OwnRowStoreLostAtGo24,
@@ -54,6 +54,7 @@ const SEEN: [Fault; 45] = [
     Fault::OccupiedBeforeTheLastRound,
     Fault::OccupiedBeforehandUntold,
     Fault::RoundsOnACopy,
+    Fault::RoundsUnderOneWriter,
 ];
 
 /// Seen by a walk of two processes from zeros, where tables have passes that are few.
@@ -78,6 +79,70 @@ const SEEN_WITH_FULL: [Fault; 6] = [
     Fault::CountsWrap,
     Fault::CountsStayFull,
     Fault::FullOverAnyone,
+];
+
+/// Seen by a walk of two processes from zeros, where words are given under every setting.
+const SEEN_UNDER_SETTINGS: [Fault; 25] = [
+    Fault::ActPlainForbidsTurn,
+    Fault::ActPlainOnlyAt20,
+    Fault::ActPlainOnlyAt40,
+    Fault::ActPlainForbidsNothing,
+    Fault::TurnPlainForbidsAct,
+    Fault::TurnPlainForbidsNothing,
+    Fault::OneWriterForbidsFlicker,
+    Fault::OneWriterWhereEstIsFew,
+    Fault::OneWriterWhereBb,
+    Fault::OneWriterAtAnyGo23,
+    Fault::OneWriterSeesItself,
+    Fault::OneWriterSeesLowerOnes,
+    Fault::OneWriterLooksAt23,
+    Fault::OneWriterAlsoAt23,
+    Fault::OneWriterUnasked,
+    Fault::PlainAsksForOneWriter,
+    Fault::ForbiddenFlickerBeforeArgument,
+    Fault::ForbiddenGoBeforeArgument,
+    Fault::ForbiddenFlickerBeforeAllowed,
+    Fault::SixteenAndSeventeenSwapped,
+    Fault::ForbiddenGoIs16,
+    Fault::ForbiddenWordMoves,
+    Fault::ForbiddenWordUsesCell,
+    Fault::StepUnderSafe,
+    Fault::SettingsSwapped,
+];
+
+/// Faults of settings that a walk of two does not see, as is tried from zeros.
+const UNSEEN_OF_SETTINGS: [Fault; 28] = [
+    // of two, every process at 23 or 24 has level 1
+    Fault::OneWriterOfAnyLevel,
+    // words go to the step one by one
+    Fault::ForbiddenWordTaken,
+    Fault::ForbiddenWordTallied,
+    Fault::ForbiddenWordSkipped,
+    Fault::RunUnderSafe,
+    Fault::CallUnderSafe,
+    Fault::TextUnderPlain,
+    Fault::TextUnderOneWriter,
+    // they are given under the six settings, and every table is sound
+    Fault::ActOfLowBit,
+    Fault::ActOfOneByte,
+    Fault::TurnOfTwoBits,
+    Fault::TurnOfTwoBytes,
+    Fault::ActOf2Taken,
+    Fault::TurnOf3Taken,
+    Fault::OneWrongSettingTaken,
+    Fault::SettingsBeforeRowCount,
+    Fault::SettingsBeforeRows,
+    Fault::SettingsAfterForm,
+    Fault::SettingsUnaskedWithoutWords,
+    Fault::RunSettingsAfterWordCount,
+    Fault::SettingsBeforeBytes,
+    Fault::SettingsBeforeImage,
+    Fault::CallSettingsAfterWordCount,
+    Fault::SettingsAfterLent,
+    Fault::WrongSettingsKeepTally,
+    Fault::WrongSettingsMoveRows,
+    Fault::WrongSettingsWriteImage,
+    Fault::WrongSettingsClearLent,
 ];
 
 /// Seen by a walk of three processes only. Of two, the level is at most 1 and est has at most the other one in it.
@@ -190,7 +255,7 @@ const UNSEEN: [Fault; 82] = [
 
 #[test]
 fn two_processes_from_zeros_and_from_every_fresh_table() {
-    let beside = Beside { engine: &Reference, fault: Fault::None, passes: true };
+    let beside = Beside { engine: &Reference, fault: Fault::None, again: true };
     for walk in [ZEROS_OF_2, EVERY_OF_2] {
         assert_eq!((walk.over)(&beside).expect("no difference"), walk.expected, "{}", walk.name);
     }
@@ -200,8 +265,10 @@ fn two_processes_from_zeros_and_from_every_fresh_table() {
 fn every_fault_is_in_one_list() {
     let cells: Vec<Fault> = Fault::of_step_cells().collect();
     for fault in Fault::ALL {
-        let lists = [&SEEN[..], &cells, &SEEN_WITH_PASSES, &SEEN_WITH_FULL, &SEEN_OF_3, &UNSEEN];
-        let lists = lists.iter().filter(|list| list.contains(&fault)).count();
+        let with_passes = [&SEEN_WITH_PASSES[..], &SEEN_WITH_FULL];
+        let of_settings = [&SEEN_UNDER_SETTINGS[..], &UNSEEN_OF_SETTINGS];
+        let lists = [&SEEN[..], &cells, &SEEN_OF_3, &UNSEEN].into_iter().chain(with_passes).chain(of_settings);
+        let lists = lists.filter(|list| list.contains(&fault)).count();
         assert_eq!(lists, 1, "{fault:?}");
     }
 }
@@ -210,11 +277,11 @@ fn every_fault_is_in_one_list() {
 fn differs(found: Found<Finding>, fault: Fault) {
     let Finding::Difference(case) = found.finding else { panic!("{fault:?}: {found:?}") };
     assert_ne!(case.answer(&Reference), case.answer(&Naive(fault)), "{fault:?}");
-    let (Case::Step { rows, .. } | Case::Census { rows } | Case::Rounds { rows }) = case else {
+    let (Case::Step { rows, .. } | Case::Census { rows } | Case::Rounds { rows }) = *case else {
         panic!("{fault:?}: {case}")
     };
     let mut led_to = found.start;
-    let ran = reference::run(&mut led_to, &found.words, &mut Tally::default());
+    let ran = reference::run(&mut led_to, &found.words, &mut Tally::default(), Settings::SAFE);
     let apart = |rows: Vec<Row>| rows.into_iter().map(Row::without_passes).collect::<Vec<_>>();
     assert_eq!((ran.refusal, apart(led_to)), (0, apart(rows)), "{fault:?}");
 }
@@ -222,34 +289,35 @@ fn differs(found: Found<Finding>, fault: Fault) {
 #[test]
 fn faults_that_two_processes_show() {
     for fault in SEEN.into_iter().chain(Fault::of_step_cells()) {
-        let found = (EVERY_OF_2.over)(&Beside { engine: &Reference, fault, passes: false });
+        let found = (EVERY_OF_2.over)(&Beside { engine: &Reference, fault, again: false });
         differs(found.expect_err(&format!("{fault:?} is seen")), fault);
     }
 }
 
-/// Those of full counts are not seen where no table is given such.
+/// Those of full counts and of settings are not seen where no word is given again with such, or under such.
 #[test]
-fn faults_that_passes_show() {
-    for fault in SEEN_WITH_PASSES.into_iter().chain(SEEN_WITH_FULL) {
-        let found = (ZEROS_OF_2.over)(&Beside { engine: &Reference, fault, passes: true });
+fn faults_that_words_given_again_show() {
+    for fault in SEEN_WITH_PASSES.into_iter().chain(SEEN_WITH_FULL).chain(SEEN_UNDER_SETTINGS) {
+        let found = (ZEROS_OF_2.over)(&Beside { engine: &Reference, fault, again: true });
         differs(found.expect_err(&format!("{fault:?} is seen")), fault);
     }
-    for fault in SEEN_WITH_FULL {
-        let figures = (ZEROS_OF_2.over)(&Beside { engine: &Reference, fault, passes: false });
-        assert_eq!(figures.expect("no difference"), without_full(&ZEROS_OF_2), "{fault:?}");
+    for fault in SEEN_WITH_FULL.into_iter().chain(SEEN_UNDER_SETTINGS) {
+        let figures = (ZEROS_OF_2.over)(&Beside { engine: &Reference, fault, again: false });
+        assert_eq!(figures.expect("no difference"), not_again(&ZEROS_OF_2), "{fault:?}");
     }
 }
 
-/// What a walk counts that gives no words with passes.
-fn without_full(walk: &Walk) -> Figures {
+/// What a walk counts that gives no words again.
+fn not_again(walk: &Walk) -> Figures {
     let Figures { visited, .. } = walk.expected;
-    Figures { visited: Visited { full: Full::default(), ..visited }, ..walk.expected }
+    let visited = Visited { full: Full::default(), under: Under::default(), ..visited };
+    Figures { visited, ..walk.expected }
 }
 
 #[test]
 fn faults_that_only_three_processes_show() {
     for fault in SEEN_OF_3 {
-        let found = (ZEROS_OF_3.over)(&Beside { engine: &Reference, fault, passes: true });
+        let found = (ZEROS_OF_3.over)(&Beside { engine: &Reference, fault, again: true });
         differs(found.expect_err(&format!("{fault:?} is seen")), fault);
     }
 }
@@ -257,9 +325,11 @@ fn faults_that_only_three_processes_show() {
 #[test]
 fn faults_that_two_processes_do_not_show() {
     for fault in SEEN_OF_3.into_iter().chain(UNSEEN) {
-        let figures = (EVERY_OF_2.over)(&Beside { engine: &Reference, fault, passes: false });
-        assert_eq!(figures.expect("no difference"), without_full(&EVERY_OF_2), "{fault:?}");
-        let figures = (ZEROS_OF_2.over)(&Beside { engine: &Reference, fault, passes: true });
+        let figures = (EVERY_OF_2.over)(&Beside { engine: &Reference, fault, again: false });
+        assert_eq!(figures.expect("no difference"), not_again(&EVERY_OF_2), "{fault:?}");
+    }
+    for fault in SEEN_OF_3.into_iter().chain(UNSEEN).chain(UNSEEN_OF_SETTINGS) {
+        let figures = (ZEROS_OF_2.over)(&Beside { engine: &Reference, fault, again: true });
         assert_eq!(figures.expect("no difference"), ZEROS_OF_2.expected, "{fault:?}");
     }
 }
@@ -277,7 +347,7 @@ fn a_fault_on_both_sides_breaks_demand_3() {
         Fault::CancelAlsoAt21,
     ];
     for fault in faults {
-        let found = (ZEROS_OF_2.over)(&Beside { engine: &Naive(fault), fault, passes: true });
+        let found = (ZEROS_OF_2.over)(&Beside { engine: &Naive(fault), fault, again: true });
         let broken = matches!(&found, Err(Found { finding: Finding::Demand3(_), .. }));
         assert!(broken, "{fault:?}: {found:?}");
     }
@@ -287,7 +357,7 @@ fn a_fault_on_both_sides_breaks_demand_3() {
 #[test]
 fn an_unsound_table_breaks_demand_3() {
     let unsound = [Row { turn: 1, ..Row::IDLE }, Row::IDLE];
-    let found = walk(&[unsound], &Beside { engine: &Reference, fault: Fault::None, passes: true });
+    let found = walk(&[unsound], &Beside { engine: &Reference, fault: Fault::None, again: true });
     assert!(matches!(&found, Err(Found { finding: Finding::Demand3(_), .. })), "{found:?}");
 }
 
@@ -310,7 +380,7 @@ fn a_fault_on_both_sides_breaks_the_exchange() {
         Fault::FlickerUpToN,
     ];
     for fault in faults.into_iter().chain(UNTOLD) {
-        let found = (ZEROS_OF_2.over)(&Beside { engine: &Naive(fault), fault, passes: true })
+        let found = (ZEROS_OF_2.over)(&Beside { engine: &Naive(fault), fault, again: true })
             .expect_err("an order that matters");
         let Finding::Exchange(cases) = &found.finding else { panic!("{fault:?}: {found:?}") };
         let [one, other] = cases.each_ref().map(|case| led_to(case, fault));
@@ -328,7 +398,7 @@ fn led_to(case: &Case, fault: Fault) -> (u16, Vec<Row>) {
 #[test]
 fn cells_too_many_leave_fewer_pairs() {
     for fault in [Fault::Go23FirstCaseReads, Fault::Go23To24Reads, Fault::CancelWritesAct] {
-        let figures = (ZEROS_OF_2.over)(&Beside { engine: &Naive(fault), fault, passes: true }).expect("no difference");
+        let figures = (ZEROS_OF_2.over)(&Beside { engine: &Naive(fault), fault, again: true }).expect("no difference");
         assert!(figures.visited.exchange.apart < ZEROS_OF_2.expected.visited.exchange.apart, "{fault:?}: {figures:?}");
     }
 }
@@ -365,7 +435,7 @@ fn a_fault_on_both_sides_breaks_the_bound() {
     ];
     assert!(TOO_LONG.iter().all(|control| faults.iter().any(|(fault, ..)| fault == control)));
     for (fault, rounds, occupied) in faults {
-        let found = (ZEROS_OF_2.over)(&Beside { engine: &Naive(fault), fault, passes: true })
+        let found = (ZEROS_OF_2.over)(&Beside { engine: &Naive(fault), fault, again: true })
             .expect_err("rounds that are wrong");
         let Finding::Silence(case) = &found.finding else { panic!("{fault:?}: {found:?}") };
         let Answer::Rounds { rounded, .. } = case.answer(&Naive(fault)) else { panic!("{case}") };
@@ -387,6 +457,19 @@ fn passes_few_and_full_are_met() {
     assert_eq!(ZEROS_OF_3.expected.visited.full, Full::default());
 }
 
+/// Words under the other five settings: every candidate, at every table; of those that 0 and 0 accepts the others are
+/// forbidden.
+#[test]
+fn words_under_every_setting_are_met() {
+    for walk in [ZEROS_OF_2, EVERY_OF_2] {
+        let Under { words, accepted, flickers, goes } = walk.expected.visited.under;
+        assert_eq!(words, 5 * (walk.expected.accepted + walk.expected.refused), "{}", walk.name);
+        assert_eq!(accepted + flickers + goes, 5 * walk.expected.accepted, "{}", walk.name);
+        assert!(flickers > 0 && goes > 0, "{}", walk.name);
+    }
+    assert_eq!(ZEROS_OF_3.expected.visited.under, Under::default());
+}
+
 /// The most rounds that a walk must meet are as many as its processes can need; that it meets them is its own check.
 #[test]
 fn the_bound_is_met() {
@@ -403,7 +486,7 @@ fn est_kept_at_go_24_lets_two_of_three_be_at_30() {
     let Found { start, words, .. } = control::<3>().expect_err("two at 30");
     assert_eq!((&start, words.len()), (&vec![Row::IDLE; 3], SHORTEST));
     let mut rows = start;
-    let ran = naive::run(&mut rows, &words, &mut Tally::default(), Fault::EstKeptAtGo24);
+    let ran = naive::run(&mut rows, &words, &mut Tally::default(), 0, 0, Fault::EstKeptAtGo24);
     assert_eq!(ran, Ran { taken: SHORTEST as u32, ..Ran::default() });
     assert_eq!(rows.iter().filter(|row| row.loc == 30).count(), 2);
 }
