@@ -18,6 +18,7 @@ pub mod naive;
 
 pub mod compare;
 pub mod generate;
+pub mod overtaking;
 pub mod walk;
 
 pub use bytes::c_call;

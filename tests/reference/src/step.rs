@@ -229,7 +229,7 @@ impl<'a> Machine<'a> {
         let moves = size < level;
         let pushes = !moves & (bb == 0);
         if self.settings.turn == TURN_ONE_WRITER && pushes {
-            allow(!self.has_writer(level), refusal::FORBIDDEN_GO)?;
+            allow(!has_writer(self.rows, level), refusal::FORBIDDEN_GO)?;
         }
         let row = &mut self.rows[p];
         let reads = !moves & !pushes;
@@ -240,11 +240,13 @@ impl<'a> Machine<'a> {
         let cell = Cell { access: used * READ, variable: used * TURN, index: used * level };
         Ok((if pushes { 24 } else { 21 }, cell))
     }
+}
 
-    /// Whether a process at 24 has the level.
-    fn has_writer(&self, level: u16) -> bool {
-        self.rows.iter().any(|row| row.loc == 24 && row.level == level)
-    }
+/// Whether a process at 24 has the level. It is kept out of the words' loop, which is slower with it.
+#[cold]
+#[inline(never)]
+fn has_writer(rows: &[Row], level: u16) -> bool {
+    rows.iter().any(|row| row.loc == 24 && row.level == level)
 }
 
 /// Counts with one more for each member of a set, or none where one is full; without a branch for each.

@@ -22,7 +22,7 @@ pub use silence::{most_needed, Silence};
 pub use under::Under;
 
 use crate::naive::Fault;
-use starts::{every_fresh, zeros};
+pub(crate) use starts::{every_fresh, zeros};
 
 /// A walk of an engine beside the naive model, and what it must count.
 pub struct Walk {
