@@ -6,6 +6,7 @@
 # make uninstall takes them out again
 # make bench     ns a word, a step, an image, .. beside a plain Rust engine, with ratios
 # make fuzz      compare with the Rust engine until SECONDS=600 have passed
+# make overtaking the largest count of passes in any table that two processes reach, and three, under each turn setting
 # make spin      search a model of the paper and CANCEL with Spin, which must be installed, and compare with a walk through the compiled step
 # make fmt       lay out every .rt and .antt file
 
@@ -15,7 +16,7 @@ NAMES ?=
 PREFIX ?= /usr/local
 DESTDIR ?=
 
-.PHONY: run test edits lib install uninstall bench fuzz spin fmt
+.PHONY: run test edits lib install uninstall bench fuzz overtaking spin fmt
 
 run:
 	@tools/run-example $(if $(INPUT),"$(INPUT)")
@@ -41,6 +42,9 @@ bench:
 
 fuzz:
 	@tests/compare fuzz $(SECONDS)
+
+overtaking:
+	@tests/compare overtaking
 
 spin:
 	@tests/spin/check

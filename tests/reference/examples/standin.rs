@@ -1,6 +1,6 @@
 //! The reference under the exported names, as a static library: tries the linked build before the other library exists.
 
-use reference::{Census, PartsAnswer, Ran, Reading, Rounded, Row, StepAnswer, Tally, WordAnswer};
+use reference::{Census, PartsAnswer, Ran, Reading, Rounded, Row, Settings, StepAnswer, Tally, WordAnswer};
 use std::ffi::c_char;
 use std::slice::{from_raw_parts, from_raw_parts_mut};
 
@@ -23,8 +23,15 @@ unsafe fn array_mut<'a, T>(pointer: *mut T, count: usize) -> &'a mut [T] {
 /// # Safety
 /// The pointers go with their lengths.
 #[no_mangle]
-pub unsafe extern "C" fn zaguypo_run(input: *const u8, input_len: usize, image: *mut u8, image_len: usize) -> u64 {
-    reference::c_call(array(input, input_len), array_mut(image, image_len))
+pub unsafe extern "C" fn zaguypo_run(
+    input: *const u8,
+    input_len: usize,
+    image: *mut u8,
+    image_len: usize,
+    act: u32,
+    turn: u32,
+) -> u64 {
+    reference::c_call(array(input, input_len), array_mut(image, image_len), Settings { act, turn })
 }
 
 /// # Safety
@@ -49,8 +56,8 @@ pub unsafe extern "C" fn zaguypo_fresh(rows: *mut Row, size: usize) -> u16 {
 /// # Safety
 /// The pointer goes with its length.
 #[no_mangle]
-pub unsafe extern "C" fn zaguypo_step(rows: *mut Row, size: usize, word: u32) -> StepAnswer {
-    reference::step_in(array_mut(rows, size), word)
+pub unsafe extern "C" fn zaguypo_step(rows: *mut Row, size: usize, word: u32, act: u32, turn: u32) -> StepAnswer {
+    reference::step_in(array_mut(rows, size), word, Settings { act, turn })
 }
 
 /// # Safety
@@ -62,8 +69,10 @@ pub unsafe extern "C" fn zaguypo_run_rows(
     words: *const u32,
     count: usize,
     tally: *mut Tally,
+    act: u32,
+    turn: u32,
 ) -> Ran {
-    reference::run(array_mut(rows, size), array(words, count), &mut *tally)
+    reference::run(array_mut(rows, size), array(words, count), &mut *tally, Settings { act, turn })
 }
 
 /// # Safety

@@ -4,6 +4,7 @@ use crate::image::{image_length, read, write, Header};
 use crate::refusal;
 use crate::row::Table;
 use crate::run::{take_all, MOST_WORDS};
+use crate::settings::Settings;
 
 /// The image of 16 processes and 8,192 words.
 pub const MOST_BYTES: usize = 34_112;
@@ -40,20 +41,23 @@ pub(crate) fn read_input(bytes: &[u8]) -> Result<Input<'_>, Bad> {
 }
 
 /// The run from C: 256 times the words taken plus the refusal. The image after the taken words fills the first lent bytes;
-/// with a refusal of 14, 1 to 5, 12 or 13 the lent bytes stay as given.
-pub fn c_call(input: &[u8], lent: &mut [u8]) -> u64 {
+/// with a refusal of 14, 1 to 5, 18, 12 or 13 the lent bytes stay as given.
+pub fn c_call(input: &[u8], lent: &mut [u8], settings: Settings) -> u64 {
     let Input { mut table, events } = match read_input(input) {
         Ok(input) => input,
         Err(Bad::Bytes) => return refusal::INPUT_BYTES.into(),
         Err(Bad::Image { refusal, .. }) => return refusal.into(),
     };
+    if settings.check() != refusal::NONE {
+        return refusal::SETTINGS.into();
+    }
     if events.len() > 4 * MOST_WORDS {
         return refusal::TOO_MANY_WORDS.into();
     }
     let Some(lent) = lent.get_mut(..4 * image_length(table.len())) else {
         return refusal::LENT_TOO_FEW.into();
     };
-    let ran = take_all(&mut table, words(events), |_| ());
+    let ran = take_all(&mut table, words(events), settings, |_| ());
     let mut cells = lent.as_chunks_mut().0.iter_mut();
     write(&table, |word| *cells.next().expect("as many bytes as an image has") = word.to_le_bytes());
     256 * u64::from(ran.taken) + u64::from(ran.refusal)

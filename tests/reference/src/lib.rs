@@ -9,6 +9,7 @@ pub mod image;
 pub mod rounds;
 pub mod row;
 pub mod run;
+pub mod settings;
 pub mod step;
 pub mod text;
 pub mod word;
@@ -17,6 +18,7 @@ pub mod naive;
 
 pub mod compare;
 pub mod generate;
+pub mod overtaking;
 pub mod walk;
 
 pub use bytes::c_call;
@@ -26,6 +28,7 @@ pub use image::{read_into, write_image, Reading};
 pub use rounds::{rounds, Rounded};
 pub use row::{check, fresh_in, Row, Table};
 pub use run::{run, Ran, Tally};
+pub use settings::Settings;
 pub use step::{step, step_in, Event, StepAnswer};
 pub use text::{print_into, text};
 pub use word::{put_together, take_apart, PartsAnswer, WordAnswer};
@@ -48,4 +51,7 @@ pub mod refusal {
     pub const LENT_TOO_FEW: u16 = 13;
     pub const INPUT_BYTES: u16 = 14;
     pub const FULL_COUNT: u16 = 15;
+    pub const FORBIDDEN_FLICKER: u16 = 16;
+    pub const FORBIDDEN_GO: u16 = 17;
+    pub const SETTINGS: u16 = 18;
 }

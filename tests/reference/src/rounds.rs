@@ -2,6 +2,7 @@
 
 use crate::refusal;
 use crate::row::{check, Row};
+use crate::settings::Settings;
 use crate::step::Machine;
 
 /// The refusal or 0, the rounds done, and 1 where some process is at 30 in the rows as left.
@@ -33,7 +34,7 @@ pub fn rounds(rows: &mut [Row]) -> Rounded {
     let met = rows.iter().fold(0u64, |met, row| met | 1 << row.loc);
     let mut occupied = met & AT_30 != 0;
     let most = if met & PENDING != 0 { most_rounds(rows.len()) } else { 0 };
-    let mut machine = Machine::new(rows);
+    let mut machine = Machine::new(rows, Settings::SAFE);
     let mut rounds = 0;
     while !occupied && rounds < most {
         match round(&mut machine, &mut occupied) {

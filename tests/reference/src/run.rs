@@ -2,7 +2,8 @@
 
 use crate::cell::Cell;
 use crate::refusal;
-use crate::row::{check, Row};
+use crate::row::Row;
+use crate::settings::Settings;
 use crate::step::{Event, Machine};
 use crate::word::COME;
 
@@ -41,22 +42,28 @@ impl Ran {
     }
 }
 
-/// Runs the words over the rows. A run refused with 6, 7 or 12 changes no row and leaves the tally zero.
-pub fn run(rows: &mut [Row], words: &[u32], tally: &mut Tally) -> Ran {
+/// Runs the words over the rows. A run refused with 6, 7, 18 or 12 changes no row and leaves the tally zero.
+pub fn run(rows: &mut [Row], words: &[u32], tally: &mut Tally, settings: Settings) -> Ran {
     let mut counted = Tally::default();
-    let ran = match check(rows) {
+    let ran = match settings.check_with(rows) {
         refusal::NONE if words.len() > MOST_WORDS => Ran::refused(refusal::TOO_MANY_WORDS),
-        refusal::NONE => take_all(rows, words.iter().copied(), |event| counted.count(&event)),
+        refusal::NONE => take_all(rows, words.iter().copied(), settings, |event| counted.count(&event)),
         refused => Ran::refused(refused),
     };
     *tally = counted;
     ran
 }
 
-/// Takes words up to the first refused one and shows each event to `see`. The rows must be sound.
+/// Takes words up to the first refused one and shows each event to `see`. The rows must be sound, and the settings among
+/// the six.
 #[inline]
-pub(crate) fn take_all(rows: &mut [Row], words: impl Iterator<Item = u32>, mut see: impl FnMut(Event)) -> Ran {
-    let mut machine = Machine::new(rows);
+pub(crate) fn take_all(
+    rows: &mut [Row],
+    words: impl Iterator<Item = u32>,
+    settings: Settings,
+    mut see: impl FnMut(Event),
+) -> Ran {
+    let mut machine = Machine::new(rows, settings);
     let (mut taken, mut cell) = (0, Cell::NONE);
     for word in words {
         match machine.take(word) {

@@ -1,9 +1,10 @@
-//! One step on rows in place (manual, "Steps", "Ahead sets", "Passes" and "Shared cells"; but for CANCEL, the paper,
-//! sections 3.2 and 3.4; the passes are those of section 4.1).
+//! One step on rows in place (manual, "Steps", "Ahead sets", "Passes", "Shared cells" and "Settings"; but for CANCEL, the
+//! paper, sections 3.2 and 3.4; the passes are those of section 4.1).
 
 use crate::cell::{Cell, READ, TURN};
 use crate::refusal;
-use crate::row::{check, code, competing, everyone, only, Row, LOCATIONS, MOST};
+use crate::row::{code, competing, everyone, only, Row, LOCATIONS, MOST};
+use crate::settings::{Settings, ACT_PLAIN, TURN_ONE_WRITER, TURN_PLAIN};
 use crate::word::{split, Parts, CANCEL, COME, FLICKER, GO, LOOK, STAY};
 
 /// What an accepted word did: process p went from `before` to `after`, which may be the same location, and used a cell
@@ -27,18 +28,18 @@ pub struct StepAnswer {
 
 /// The step as the exported function answers it.
 #[inline]
-pub fn step_in(rows: &mut [Row], word: u32) -> StepAnswer {
-    match step(rows, word) {
+pub fn step_in(rows: &mut [Row], word: u32, settings: Settings) -> StepAnswer {
+    match step(rows, word, settings) {
         Ok(Event { cell, .. }) => StepAnswer { refusal: refusal::NONE, cell },
         Err(refusal) => StepAnswer { refusal, cell: Cell::NONE },
     }
 }
 
-/// Moves the rows by one word. A refused word, or a refused table, changes no row.
+/// Moves the rows by one word. A refused word, a refused table or refused settings change no row.
 #[inline(always)]
-pub fn step(rows: &mut [Row], word: u32) -> Result<Event, u16> {
-    match check(rows) {
-        refusal::NONE => Machine::new(rows).take(word),
+pub fn step(rows: &mut [Row], word: u32, settings: Settings) -> Result<Event, u16> {
+    match settings.check_with(rows) {
+        refusal::NONE => Machine::new(rows, settings).take(word),
         refused => Err(refused),
     }
 }
@@ -46,18 +47,19 @@ pub fn step(rows: &mut [Row], word: u32) -> Result<Event, u16> {
 /// The location that a word leads to, and the cell that it uses.
 type Led = (u16, Cell);
 
-/// Sound rows, and beside them the set of competing processes, kept up from step to step.
+/// Sound rows, and beside them the set of competing processes, kept up from step to step; and the settings.
 pub(crate) struct Machine<'a> {
     rows: &'a mut [Row],
     competing: u16,
+    settings: Settings,
 }
 
 impl<'a> Machine<'a> {
-    /// The rows must be sound.
-    pub fn new(rows: &'a mut [Row]) -> Self {
-        debug_assert_eq!(check(rows), refusal::NONE);
+    /// The rows must be sound, and the settings among the six.
+    pub fn new(rows: &'a mut [Row], settings: Settings) -> Self {
+        debug_assert_eq!(settings.check_with(rows), refusal::NONE);
         let competing = competing(rows);
-        Machine { rows, competing }
+        Machine { rows, competing, settings }
     }
 
     pub fn rows(&self) -> &[Row] {
@@ -79,6 +81,7 @@ impl<'a> Machine<'a> {
             COME_10 => none(argument, 20)?,
             FLICKER_20 | FLICKER_40 => {
                 demand(argument <= 1)?;
+                allow(self.settings.act != ACT_PLAIN, refusal::FORBIDDEN_FLICKER)?;
                 row.act = argument as u16;
                 (before, Cell::act_written(p))
             }
@@ -137,6 +140,7 @@ impl<'a> Machine<'a> {
     #[inline(always)]
     fn flicker_turn(&mut self, p: usize, argument: u32) -> Result<Led, u16> {
         demand((argument as usize) < self.rows.len())?;
+        allow(self.settings.turn != TURN_PLAIN, refusal::FORBIDDEN_FLICKER)?;
         let level = usize::from(self.rows[p].level);
         self.rows[level].turn = argument as u16;
         Ok((24, Cell::turn_written(level)))
@@ -215,16 +219,19 @@ impl<'a> Machine<'a> {
     }
 
     /// GO at 23: the size of est decides first, then bb, then the turn cell of the level, which only then counts as
-    /// read.
+    /// read. Where the settings say so, nobody goes to 24 while the cell has a writer.
     #[inline(always)]
     fn reconsider(&mut self, p: usize, argument: u32) -> Result<Led, u16> {
         demand(argument == 0)?;
-        let level = self.rows[p].level;
+        let Row { level, bb, est, .. } = self.rows[p];
         let turn = self.rows[usize::from(level)].turn;
-        let row = &mut self.rows[p];
-        let size = row.est.count_ones() as u16;
+        let size = est.count_ones() as u16;
         let moves = size < level;
-        let pushes = !moves & (row.bb == 0);
+        let pushes = !moves & (bb == 0);
+        if self.settings.turn == TURN_ONE_WRITER && pushes {
+            allow(!has_writer(self.rows, level), refusal::FORBIDDEN_GO)?;
+        }
+        let row = &mut self.rows[p];
         let reads = !moves & !pushes;
         let falls = reads & (turn != p as u16);
         row.level = if moves { size } else { level - u16::from(falls) };
@@ -233,6 +240,13 @@ impl<'a> Machine<'a> {
         let cell = Cell { access: used * READ, variable: used * TURN, index: used * level };
         Ok((if pushes { 24 } else { 21 }, cell))
     }
+}
+
+/// Whether a process at 24 has the level. It is kept out of the words' loop, which is slower with it.
+#[cold]
+#[inline(never)]
+fn has_writer(rows: &[Row], level: u16) -> bool {
+    rows.iter().any(|row| row.loc == 24 && row.level == level)
 }
 
 /// Counts with one more for each member of a set, or none where one is full; without a branch for each.
@@ -279,9 +293,14 @@ fn none(argument: u32, after: u16) -> Result<Led, u16> {
 
 #[inline]
 fn demand(argument_fits: bool) -> Result<(), u16> {
-    if argument_fits {
+    allow(argument_fits, refusal::ARGUMENT)
+}
+
+#[inline]
+fn allow(allowed: bool, refusal: u16) -> Result<(), u16> {
+    if allowed {
         Ok(())
     } else {
-        Err(refusal::ARGUMENT)
+        Err(refusal)
     }
 }

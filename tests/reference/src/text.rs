@@ -5,6 +5,7 @@ use crate::cell::{Cell, ACT, READ};
 use crate::refusal;
 use crate::row::at_30;
 use crate::run::{take_all, Ran, MOST_WORDS};
+use crate::settings::Settings;
 
 /// Room for every text.
 pub const MOST_TEXT: usize = 180_260;
@@ -37,7 +38,7 @@ fn print_run(out: &mut Vec<u8>, input: Input) {
         Ran::refused(refusal::TOO_MANY_WORDS)
     } else {
         let (mut place, mut inside) = (0, u32::from(at_30(&table)));
-        take_all(&mut table, words(events), |event| {
+        take_all(&mut table, words(events), Settings::SAFE, |event| {
             inside += u32::from(event.after == 30);
             inside -= u32::from(event.before == 30);
             taken_line(out, &[place, event.p as u32, event.before.into(), event.after.into(), inside], event.cell);

@@ -8,7 +8,7 @@ use reference::generate::inputs::{image_of, to_bytes};
 use reference::generate::schedule::deep_run;
 use reference::image::image_length;
 use reference::text::MOST_TEXT;
-use reference::{Row, Tally};
+use reference::{Row, Settings, Tally};
 use std::hint::black_box;
 use std::path::Path;
 use std::process::Command;
@@ -22,6 +22,11 @@ fn linked() -> impl Engine {
 #[cfg(not(feature = "linked"))]
 fn linked() -> impl Engine {
     Reference
+}
+
+/// The settings that are measured, as numbers that the compiler does not know.
+fn settings() -> Settings {
+    black_box(Settings::SAFE)
 }
 
 const WORDS: usize = 8192;
@@ -78,7 +83,7 @@ fn image_bytes(n: usize) -> usize {
 }
 
 fn one_call(engine: &impl Engine, input: &[u8], image: &mut [u8]) {
-    black_box(engine.call(black_box(input), black_box(image)));
+    black_box(engine.call_under(black_box(input), black_box(image), settings()));
 }
 
 /// The call from C on a deep run, a word.
@@ -105,7 +110,7 @@ fn steps(linked: &impl Engine, n: usize, repetitions: usize) {
     fn all(engine: &impl Engine, start: &[Row], words: &[u32]) {
         let mut rows = start.to_vec();
         for &word in words {
-            black_box(engine.step(black_box(&mut rows), black_box(word)));
+            black_box(engine.step_under(black_box(&mut rows), black_box(word), settings()));
         }
     }
     let (rows, words) = deep_run(1, n, WORDS);
@@ -117,7 +122,7 @@ fn steps(linked: &impl Engine, n: usize, repetitions: usize) {
 fn runs(linked: &impl Engine, n: usize, repetitions: usize) {
     fn whole(engine: &impl Engine, start: &[Row], words: &[u32]) {
         let (mut rows, mut tally) = (start.to_vec(), Tally::default());
-        black_box(engine.run(black_box(&mut rows), black_box(words), black_box(&mut tally)));
+        black_box(engine.run_under(black_box(&mut rows), black_box(words), black_box(&mut tally), settings()));
     }
     let (rows, words) = deep_run(1, n, WORDS);
     let (mut ours, mut theirs) = (|| whole(linked, &rows, &words), || whole(&Reference, &rows, &words));
@@ -132,7 +137,7 @@ fn census(linked: &impl Engine, n: usize, repetitions: usize) {
         }
     }
     let (mut rows, words) = deep_run(1, n, WORDS - 1);
-    reference::run(&mut rows, &words, &mut Tally::default());
+    reference::run(&mut rows, &words, &mut Tally::default(), Settings::SAFE);
     let (mut ours, mut theirs) = (|| many(linked, &rows), || many(&Reference, &rows));
     measure(&format!("census, N = {n}, a call"), repetitions, 1000, &mut ours, &mut theirs);
 }

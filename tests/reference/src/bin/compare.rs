@@ -5,7 +5,7 @@
 //! C runs on bytes (210,000 by default) with the other kinds in proportion, or T seconds; `--case I` shows one case of a seed.
 //! The seed is 1 where none is given, so that two comparisons without one are the same. On a difference it prints the case, made
 //! small, and both answers, and exits with 1; if some refusal, location, CANCEL, shared cell, end of rounds, form of an
-//! image or unsound count of passes was never met it exits with 2.
+//! image, unsound count of passes, or effect of settings was never met it exits with 2.
 
 use reference::compare::{make_case, shrink, Case, Counts, Engine, Kind, Reference};
 use reference::generate::Random;

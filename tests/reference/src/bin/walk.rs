@@ -1,7 +1,7 @@
 //! Walks through every table that two processes reach from a fresh one, and three from zeros: the linked library, or the
 //! reference where none is linked, beside the naive model.
 //!
-//!     walk            three lines for each walk, the first with the most memory that the program has had, and a fourth
+//!     walk            three lines for each walk, the first with the most memory that the program has had, and two more
 //!                     for two processes; then `walked: ..`
 //!     walk --control  the naive model alone, which lets two of three processes be at 30 if est is kept at GO 24; with
 //!                     cells that are not told, so that the order of two words matters though none is seen to clash;
@@ -12,9 +12,9 @@
 
 use reference::compare::{Case, Engine, Hex, Naive};
 use reference::naive::Fault;
-use reference::walk::{control, Beside, Exchange, Figures, Finding, Found, Full, Silence, Visited, Walk};
+use reference::walk::{control, Beside, Exchange, Figures, Finding, Found, Full, Silence, Under, Visited, Walk};
 use reference::walk::{EVERY_OF_2, SHORTEST, TOO_LONG, UNTOLD, ZEROS_OF_2, ZEROS_OF_3};
-use reference::Tally;
+use reference::{Settings, Tally};
 use std::time::Instant;
 
 #[cfg(feature = "linked")]
@@ -50,7 +50,7 @@ fn walks(engine: &dyn Engine) -> bool {
 
 fn passes(walk: &Walk, engine: &dyn Engine) -> bool {
     let start = Instant::now();
-    match (walk.over)(&Beside { engine, fault: Fault::None, passes: true }) {
+    match (walk.over)(&Beside { engine, fault: Fault::None, again: true }) {
         Ok(figures) => {
             let seconds = start.elapsed().as_secs_f64();
             println!("walk {}: {}, {seconds:.1} s, {} MB", walk.name, shown(&figures), most_memory());
@@ -74,11 +74,14 @@ fn shown(Figures { tables, accepted, refused, .. }: &Figures) -> String {
     format!("{tables} tables, {accepted} accepted words, {refused} refused")
 }
 
-/// What was counted beside tables and words, a line each; of passes where there were any.
-fn lines(Visited { exchange, silence, full }: &Visited) -> Vec<(&'static str, String)> {
+/// What was counted beside tables and words, a line each; of passes and of settings where there were any.
+fn lines(Visited { exchange, silence, full, under }: &Visited) -> Vec<(&'static str, String)> {
     let mut lines = vec![("exchange", exchanged(exchange)), ("rounds", rounded(silence))];
     if full.words > 0 {
         lines.push(("passes", with_passes(full)));
+    }
+    if under.words > 0 {
+        lines.push(("settings", under_settings(under)));
     }
     lines
 }
@@ -95,6 +98,10 @@ fn with_passes(Full { words, entries, exits, full }: &Full) -> String {
     format!("{words} words with passes few or full, {entries} entries, {exits} exits, {full} refused with 15")
 }
 
+fn under_settings(Under { words, accepted, flickers, goes }: &Under) -> String {
+    format!("{words} words under the other five, {accepted} accepted, {flickers} refused with 16, {goes} with 17")
+}
+
 fn rounded(Silence { tables, rounds, most }: &Silence) -> String {
     format!("from {tables} tables with somebody at 20 to 24 and nobody at 30, {rounds} in all, at most {most} from one")
 }
@@ -108,10 +115,10 @@ fn most_memory() -> u64 {
 
 fn show(found: Found<Finding>, engine: &dyn Engine) {
     let (what, cases) = match found.finding {
-        Finding::Difference(case) => ("DIFFERENCE", vec![case]),
-        Finding::Demand3(case) => ("DEMAND 3 BROKEN", vec![case]),
+        Finding::Difference(case) => ("DIFFERENCE", vec![*case]),
+        Finding::Demand3(case) => ("DEMAND 3 BROKEN", vec![*case]),
         Finding::Exchange(cases) => ("THE ORDER OF TWO WORDS MATTERS", cases.to_vec()),
-        Finding::Silence(case) => ("ROUNDS LEAD NOBODY TO 30 IN TIME", vec![case]),
+        Finding::Silence(case) => ("ROUNDS LEAD NOBODY TO 30 IN TIME", vec![*case]),
     };
     for case in cases {
         println!("{what}: {case}");
@@ -119,7 +126,8 @@ fn show(found: Found<Finding>, engine: &dyn Engine) {
             println!("  {}: {}", engine.name(), case.answer(engine));
         }
     }
-    println!("  met by: {}", Case::Run { rows: found.start, words: found.words, tally: Tally::default() });
+    let (tally, settings) = (Tally::default(), Settings::SAFE);
+    println!("  met by: {}", Case::Run { rows: found.start, words: found.words, tally, settings });
 }
 
 fn controls() -> bool {
@@ -134,7 +142,7 @@ fn controls() -> bool {
 
 /// The naive model with a fault on both sides, so that they agree: two words whose order matters are found.
 fn exchange_fails(fault: Fault) -> bool {
-    match (ZEROS_OF_2.over)(&Beside { engine: &Naive(fault), fault, passes: true }) {
+    match (ZEROS_OF_2.over)(&Beside { engine: &Naive(fault), fault, again: true }) {
         Err(Found { finding: Finding::Exchange(cases), words, .. }) => {
             println!("control exchange, {fault:?}: after {} words the order of two matters", words.len());
             cases.iter().for_each(|case| println!("  {case}\n  leads to {}", case.answer(&Naive(fault))));
@@ -146,7 +154,7 @@ fn exchange_fails(fault: Fault) -> bool {
 
 /// The same: rounds that lead nobody to 30 in time are found.
 fn rounds_fail(fault: Fault) -> bool {
-    match (ZEROS_OF_2.over)(&Beside { engine: &Naive(fault), fault, passes: true }) {
+    match (ZEROS_OF_2.over)(&Beside { engine: &Naive(fault), fault, again: true }) {
         Err(Found { finding: Finding::Silence(case), words, .. }) => {
             println!("control rounds, {fault:?}: after {} words there are too many", words.len());
             println!("  {case}\n  lead to {}", case.answer(&Naive(fault)));

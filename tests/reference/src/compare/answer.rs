@@ -3,7 +3,7 @@
 use super::lent::{lend, lend_to_read, Lent, FILL, FILL_WORD};
 use super::{Case, Engine};
 use crate::generate::inputs::Input;
-use crate::{refusal, Census, PartsAnswer, Ran, Reading, Rounded, Row, StepAnswer, Tally, WordAnswer};
+use crate::{refusal, Census, PartsAnswer, Ran, Reading, Rounded, Row, Settings, StepAnswer, Tally, WordAnswer};
 
 #[derive(Clone, Debug, PartialEq, Eq)]
 pub enum Answer {
@@ -24,8 +24,9 @@ pub enum Answer {
 impl Case {
     pub fn answer(&self, engine: &dyn Engine) -> Answer {
         match self {
-            Case::Call { input, shift } => {
-                let (number, image) = on_bytes(input, *shift, |bytes, image| engine.call(bytes, image));
+            Case::Call { input, shift, settings } => {
+                let call = |bytes: &[u8], image: &mut [u8]| engine.call_under(bytes, image, *settings);
+                let (number, image) = on_bytes(input, *shift, call);
                 Answer::Call { number, image }
             }
             Case::Text { bytes } => Answer::Text(engine.text(bytes)),
@@ -33,11 +34,11 @@ impl Case {
                 let (length, text) = on_bytes(input, *shift, |bytes, text| engine.print(bytes, text));
                 Answer::Print { length, text }
             }
-            Case::Step { rows, word } => {
-                let (stepped, rows) = lend(rows, 0, |rows| (engine.step(rows, *word), true));
+            Case::Step { rows, word, settings } => {
+                let (stepped, rows) = lend(rows, 0, |rows| (engine.step_under(rows, *word, *settings), true));
                 Answer::Step { stepped, rows }
             }
-            Case::Run { rows, words, tally } => answer_run(engine, rows, words, *tally),
+            Case::Run { rows, words, tally, settings } => answer_run(engine, rows, words, *tally, *settings),
             Case::Census { rows } => {
                 let (census, input_whole) = lend_to_read(rows, 0, |rows| engine.census(rows));
                 Answer::Census { census, input_whole }
@@ -65,9 +66,11 @@ fn on_bytes<R>(input: &Input, shift: usize, call: impl FnOnce(&[u8], &mut [u8]) 
     lend(&vec![FILL; input.lent], shift, |lent| lend_to_read(&input.bytes, shift, |bytes| call(bytes, lent)))
 }
 
-fn answer_run(engine: &dyn Engine, rows: &[Row], words: &[u32], tally: Tally) -> Answer {
+fn answer_run(engine: &dyn Engine, rows: &[Row], words: &[u32], tally: Tally, settings: Settings) -> Answer {
     let ((ran, tally), rows) = lend(rows, 0, |rows| {
-        lend_to_read(words, 0, |words| lend(&[tally], 0, |tally| (engine.run(rows, words, &mut tally[0]), true)))
+        lend_to_read(words, 0, |words| {
+            lend(&[tally], 0, |tally| (engine.run_under(rows, words, &mut tally[0], settings), true))
+        })
     });
     Answer::Run { ran, tally, rows }
 }

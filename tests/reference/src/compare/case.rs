@@ -1,7 +1,7 @@
 //! One case: a function, what it is given, and what it is lent.
 
 use crate::generate::inputs::Input;
-use crate::{Row, Tally};
+use crate::{Row, Settings, Tally};
 
 /// The functions that are compared: those that are exported, and `Text`, which is the printing program.
 #[derive(Clone, Copy, Debug, PartialEq, Eq)]
@@ -41,11 +41,11 @@ impl Kind {
 /// content, which is written over.
 #[derive(Clone, Debug, PartialEq, Eq)]
 pub enum Case {
-    Call { input: Input, shift: usize },
+    Call { input: Input, shift: usize, settings: Settings },
     Text { bytes: Vec<u8> },
     Print { input: Input, shift: usize },
-    Step { rows: Vec<Row>, word: u32 },
-    Run { rows: Vec<Row>, words: Vec<u32>, tally: Tally },
+    Step { rows: Vec<Row>, word: u32, settings: Settings },
+    Run { rows: Vec<Row>, words: Vec<u32>, tally: Tally, settings: Settings },
     Census { rows: Vec<Row> },
     Rounds { rows: Vec<Row> },
     Fresh { rows: Vec<Row> },

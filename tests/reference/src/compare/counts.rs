@@ -1,13 +1,15 @@
 //! What a comparison has met, so that it cannot go blind.
 
 use super::passes::Passes;
+use super::pieces::settings_of;
 use super::rounds::Rounds;
+use super::settings::Forbidden;
 use super::{Answer, Case, Kind};
 use crate::bytes::{read_input, words};
 use crate::row::{at_30, Row, LOCATIONS, MOST};
 use crate::run::{take_all, Ran, MOST_WORDS};
 use crate::word::CANCEL;
-use crate::Cell;
+use crate::{Cell, Settings};
 
 /// The cells that are told, by their letters.
 pub const CELLS: [&str; 5] = ["-", "ra", "wa", "rt", "wt"];
@@ -28,7 +30,7 @@ pub struct Cells {
 
 /// Calls by kind, refusals by kind and number, words taken; for each number of processes the CANCELs among these, the
 /// lines of printed runs with two or more at 30, and visits of each location; lines with ten or more at 30; cells told;
-/// what rounds answered; passes and the forms of images.
+/// what rounds answered; passes and the forms of images; what settings forbid and leave.
 #[derive(Clone, Debug, Default)]
 pub struct Counts {
     pub calls: [u64; Kind::ALL.len()],
@@ -41,10 +43,11 @@ pub struct Counts {
     pub cells: Cells,
     pub rounds: Rounds,
     pub passes: Passes,
+    pub forbidden: Forbidden,
 }
 
 /// The refusals by number, and 0.
-const REFUSALS: usize = 16;
+const REFUSALS: usize = 19;
 
 impl Counts {
     pub fn note(&mut self, case: &Case, answer: &Answer) {
@@ -54,27 +57,29 @@ impl Counts {
         self.cells.note(answer);
         self.rounds.note(answer);
         self.passes.note(case, answer);
+        self.forbidden.note(case, answer);
+        let settings = settings_of(case);
         match (case, answer.refusal()) {
-            (_, 1..=7 | 12..=14) => {}
-            (Case::Call { input, .. }, _) => self.walk_input(&input.bytes, false),
-            (Case::Print { input, .. }, _) => self.walk_input(&input.bytes, true),
-            (Case::Text { bytes }, _) => self.walk_input(bytes, true),
-            (Case::Run { rows, words, .. }, _) => self.walk(&mut rows.clone(), words.iter().copied(), false),
-            (Case::Step { rows, word }, _) => self.walk(&mut rows.clone(), [*word].into_iter(), false),
+            (_, 1..=7 | 12..=14 | 18) => {}
+            (Case::Call { input, .. }, _) => self.walk_input(&input.bytes, settings, false),
+            (Case::Print { input, .. }, _) => self.walk_input(&input.bytes, settings, true),
+            (Case::Text { bytes }, _) => self.walk_input(bytes, settings, true),
+            (Case::Run { rows, words, .. }, _) => self.walk(&mut rows.clone(), words.iter().copied(), settings, false),
+            (Case::Step { rows, word, .. }, _) => self.walk(&mut rows.clone(), [*word].into_iter(), settings, false),
             _ => {}
         }
     }
 
-    fn walk_input(&mut self, bytes: &[u8], printed: bool) {
+    fn walk_input(&mut self, bytes: &[u8], settings: Settings, printed: bool) {
         if let Ok(mut input) = read_input(bytes) {
-            self.walk(&mut input.table, words(input.events), printed);
+            self.walk(&mut input.table, words(input.events), settings, printed);
         }
     }
 
-    fn walk(&mut self, rows: &mut [Row], words: impl Iterator<Item = u32>, printed: bool) {
+    fn walk(&mut self, rows: &mut [Row], words: impl Iterator<Item = u32>, settings: Settings, printed: bool) {
         let n = rows.len();
         let mut inside = at_30(rows);
-        let ran = take_all(rows, words.take(MOST_WORDS), |event| {
+        let ran = take_all(rows, words.take(MOST_WORDS), settings, |event| {
             let code = LOCATIONS.iter().position(|&loc| loc == event.after).expect("a location");
             self.visits[n][code] += 1;
             self.cancels[n] += u64::from(event.kind == CANCEL);
@@ -92,10 +97,11 @@ impl Counts {
     /// The refusals that calls of a kind can meet.
     fn possible(kind: Kind) -> &'static [usize] {
         match kind {
-            Kind::Call | Kind::Print => &[0, 1, 2, 3, 4, 5, 8, 9, 10, 11, 12, 13, 14, 15],
+            Kind::Call => &[0, 1, 2, 3, 4, 5, 8, 9, 10, 11, 12, 13, 14, 15, 16, 17, 18],
+            Kind::Print => &[0, 1, 2, 3, 4, 5, 8, 9, 10, 11, 12, 13, 14, 15],
             Kind::Text => &[0, 1, 2, 3, 4, 5, 8, 9, 10, 11, 12, 14, 15],
-            Kind::Step => &[0, 6, 7, 8, 9, 10, 11, 15],
-            Kind::Run => &[0, 6, 7, 8, 9, 10, 11, 12, 15],
+            Kind::Step => &[0, 6, 7, 8, 9, 10, 11, 15, 16, 17, 18],
+            Kind::Run => &[0, 6, 7, 8, 9, 10, 11, 12, 15, 16, 17, 18],
             Kind::Census => &[0, 6, 7],
             Kind::Rounds => &[0, 6, 7, 15],
             Kind::Fresh => &[0, 6],
@@ -138,6 +144,7 @@ impl Counts {
             unseen.extend(self.rounds.unseen());
         }
         unseen.extend(self.passes.unseen(|kind| self.calls[kind as usize] > 0));
+        unseen.extend(self.forbidden.unseen(|kind| self.calls[kind as usize] > 0));
         unseen
     }
 
@@ -184,7 +191,7 @@ impl Counts {
         let refusals = self.met().into_iter().enumerate().map(|(number, met)| (number.to_string(), met));
         let visits = LOCATIONS.iter().map(|loc| loc.to_string()).zip(total);
         out + &format!(
-            "\nsummary: seed {seed}: calls [{}] words {} cancels {} lines with two at 30 {}, with ten {} {} {} {} \
+            "\nsummary: seed {seed}: calls [{}] words {} cancels {} lines with two at 30 {}, with ten {} {} {} {} {} \
              refusals [{}] visits [{}]",
             listed(calls),
             self.words,
@@ -194,6 +201,7 @@ impl Counts {
             self.cells.report(),
             self.rounds.report(),
             self.passes.report(),
+            self.forbidden.report(),
             listed(refusals),
             listed(visits)
         )

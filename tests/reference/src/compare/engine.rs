@@ -2,18 +2,18 @@
 
 use super::Kind;
 use crate::naive::{self, Fault};
-use crate::{Census, PartsAnswer, Ran, Reading, Rounded, Row, StepAnswer, Tally, WordAnswer};
+use crate::{Census, PartsAnswer, Ran, Reading, Rounded, Row, Settings, StepAnswer, Tally, WordAnswer};
 
 /// Every function of include/zaguypo.h, and the printing program as `text`. An engine that lacks a kind of call says so in
-/// `offers` and is not asked for it.
+/// `offers` and is not asked for it. What takes settings can be asked without, which is under 0 and 0.
 pub trait Engine {
     fn name(&self) -> &str;
     fn offers(&self, kind: Kind) -> bool;
-    fn call(&self, input: &[u8], image: &mut [u8]) -> u64;
+    fn call_under(&self, input: &[u8], image: &mut [u8], settings: Settings) -> u64;
     fn text(&self, input: &[u8]) -> Vec<u8>;
     fn print(&self, input: &[u8], text: &mut [u8]) -> usize;
-    fn step(&self, rows: &mut [Row], word: u32) -> StepAnswer;
-    fn run(&self, rows: &mut [Row], words: &[u32], tally: &mut Tally) -> Ran;
+    fn step_under(&self, rows: &mut [Row], word: u32, settings: Settings) -> StepAnswer;
+    fn run_under(&self, rows: &mut [Row], words: &[u32], tally: &mut Tally, settings: Settings) -> Ran;
     fn census(&self, rows: &[Row]) -> Census;
     fn rounds(&self, rows: &mut [Row]) -> Rounded;
     fn fresh(&self, rows: &mut [Row]) -> u16;
@@ -21,6 +21,16 @@ pub trait Engine {
     fn put_together(&self, kind: u32, process: u32, argument: u32) -> WordAnswer;
     fn read_image(&self, words: &[u32], rows: &mut [Row]) -> Reading;
     fn write_image(&self, rows: &[Row], words: &mut [u32]) -> u16;
+
+    fn call(&self, input: &[u8], image: &mut [u8]) -> u64 {
+        self.call_under(input, image, Settings::SAFE)
+    }
+    fn step(&self, rows: &mut [Row], word: u32) -> StepAnswer {
+        self.step_under(rows, word, Settings::SAFE)
+    }
+    fn run(&self, rows: &mut [Row], words: &[u32], tally: &mut Tally) -> Ran {
+        self.run_under(rows, words, tally, Settings::SAFE)
+    }
 }
 
 /// The fast engine of this package.
@@ -33,8 +43,8 @@ impl Engine for Reference {
     fn offers(&self, _: Kind) -> bool {
         true
     }
-    fn call(&self, input: &[u8], image: &mut [u8]) -> u64 {
-        crate::c_call(input, image)
+    fn call_under(&self, input: &[u8], image: &mut [u8], settings: Settings) -> u64 {
+        crate::c_call(input, image, settings)
     }
     fn text(&self, input: &[u8]) -> Vec<u8> {
         crate::text(input)
@@ -42,11 +52,11 @@ impl Engine for Reference {
     fn print(&self, input: &[u8], text: &mut [u8]) -> usize {
         crate::print_into(input, text)
     }
-    fn step(&self, rows: &mut [Row], word: u32) -> StepAnswer {
-        crate::step_in(rows, word)
+    fn step_under(&self, rows: &mut [Row], word: u32, settings: Settings) -> StepAnswer {
+        crate::step_in(rows, word, settings)
     }
-    fn run(&self, rows: &mut [Row], words: &[u32], tally: &mut Tally) -> Ran {
-        crate::run(rows, words, tally)
+    fn run_under(&self, rows: &mut [Row], words: &[u32], tally: &mut Tally, settings: Settings) -> Ran {
+        crate::run(rows, words, tally, settings)
     }
     fn census(&self, rows: &[Row]) -> Census {
         crate::census(rows)
@@ -81,8 +91,8 @@ impl Engine for Naive {
     fn offers(&self, _: Kind) -> bool {
         true
     }
-    fn call(&self, input: &[u8], image: &mut [u8]) -> u64 {
-        naive::c_call(input, image, self.0)
+    fn call_under(&self, input: &[u8], image: &mut [u8], Settings { act, turn }: Settings) -> u64 {
+        naive::c_call(input, image, act, turn, self.0)
     }
     fn text(&self, input: &[u8]) -> Vec<u8> {
         naive::text(input, self.0).into_bytes()
@@ -90,11 +100,11 @@ impl Engine for Naive {
     fn print(&self, input: &[u8], text: &mut [u8]) -> usize {
         naive::print(input, text, self.0)
     }
-    fn step(&self, rows: &mut [Row], word: u32) -> StepAnswer {
-        naive::step(rows, word, self.0)
+    fn step_under(&self, rows: &mut [Row], word: u32, Settings { act, turn }: Settings) -> StepAnswer {
+        naive::step(rows, word, act, turn, self.0)
     }
-    fn run(&self, rows: &mut [Row], words: &[u32], tally: &mut Tally) -> Ran {
-        naive::run(rows, words, tally, self.0)
+    fn run_under(&self, rows: &mut [Row], words: &[u32], tally: &mut Tally, settings: Settings) -> Ran {
+        naive::run(rows, words, tally, settings.act, settings.turn, self.0)
     }
     fn census(&self, rows: &[Row]) -> Census {
         naive::census(rows, self.0)

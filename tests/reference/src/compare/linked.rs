@@ -1,7 +1,7 @@
 //! The linked library behind the common face. Everything that depends on its names and types is in the one block below.
 
 use super::{Engine, Kind};
-use crate::{Census, PartsAnswer, Ran, Reading, Rounded, Row, StepAnswer, Tally, WordAnswer};
+use crate::{Census, PartsAnswer, Ran, Reading, Rounded, Row, Settings, StepAnswer, Tally, WordAnswer};
 use std::io::{Read, Write};
 use std::path::PathBuf;
 use std::process::{Command, Stdio};
@@ -13,13 +13,27 @@ mod exported {
     use std::ffi::c_char;
 
     extern "C" {
-        pub fn zaguypo_run(input: *const u8, input_len: usize, image: *mut u8, image_len: usize) -> u64;
+        pub fn zaguypo_run(
+            input: *const u8,
+            input_len: usize,
+            image: *mut u8,
+            image_len: usize,
+            act: u32,
+            turn: u32,
+        ) -> u64;
         pub fn zaguypo_print(input: *const u8, input_len: usize, text: *mut c_char, text_len: usize) -> usize;
 
         pub fn zaguypo_fresh(rows: *mut Row, size: usize) -> u16;
-        pub fn zaguypo_step(rows: *mut Row, size: usize, word: u32) -> StepAnswer;
-        pub fn zaguypo_run_rows(rows: *mut Row, size: usize, words: *const u32, count: usize, tally: *mut Tally)
-            -> Ran;
+        pub fn zaguypo_step(rows: *mut Row, size: usize, word: u32, act: u32, turn: u32) -> StepAnswer;
+        pub fn zaguypo_run_rows(
+            rows: *mut Row,
+            size: usize,
+            words: *const u32,
+            count: usize,
+            tally: *mut Tally,
+            act: u32,
+            turn: u32,
+        ) -> Ran;
         pub fn zaguypo_census(rows: *const Row, size: usize) -> Census;
         pub fn zaguypo_rounds(rows: *mut Row, size: usize) -> Rounded;
 
@@ -51,8 +65,8 @@ impl Engine for Linked {
         kind != Kind::Text || self.replay.is_some()
     }
 
-    fn call(&self, input: &[u8], image: &mut [u8]) -> u64 {
-        unsafe { exported::zaguypo_run(input.as_ptr(), input.len(), image.as_mut_ptr(), image.len()) }
+    fn call_under(&self, input: &[u8], image: &mut [u8], Settings { act, turn }: Settings) -> u64 {
+        unsafe { exported::zaguypo_run(input.as_ptr(), input.len(), image.as_mut_ptr(), image.len(), act, turn) }
     }
 
     fn text(&self, input: &[u8]) -> Vec<u8> {
@@ -64,12 +78,13 @@ impl Engine for Linked {
         unsafe { exported::zaguypo_print(input.as_ptr(), input.len(), text.as_mut_ptr().cast(), text.len()) }
     }
 
-    fn step(&self, rows: &mut [Row], word: u32) -> StepAnswer {
-        unsafe { exported::zaguypo_step(rows.as_mut_ptr(), rows.len(), word) }
+    fn step_under(&self, rows: &mut [Row], word: u32, Settings { act, turn }: Settings) -> StepAnswer {
+        unsafe { exported::zaguypo_step(rows.as_mut_ptr(), rows.len(), word, act, turn) }
     }
 
-    fn run(&self, rows: &mut [Row], words: &[u32], tally: &mut Tally) -> Ran {
-        unsafe { exported::zaguypo_run_rows(rows.as_mut_ptr(), rows.len(), words.as_ptr(), words.len(), tally) }
+    fn run_under(&self, rows: &mut [Row], words: &[u32], tally: &mut Tally, settings: Settings) -> Ran {
+        let (rows, size, Settings { act, turn }) = (rows.as_mut_ptr(), rows.len(), settings);
+        unsafe { exported::zaguypo_run_rows(rows, size, words.as_ptr(), words.len(), tally, act, turn) }
     }
 
     fn census(&self, rows: &[Row]) -> Census {

@@ -1,27 +1,31 @@
 //! Makes the case of a number under a seed.
 
 use super::{Case, Kind};
-use crate::generate::inputs::{input, lone_image, some_count, some_size, some_table, Input};
+use crate::generate::inputs::{input, limit_chance, lone_image, some_count, some_size, some_table, Input};
 use crate::generate::rounds::table_for_rounds;
 use crate::generate::schedule::{faulty_word, full_entry, schedule};
+use crate::generate::settings::{contend, some_settings, touchy_word};
 use crate::generate::tables::{damage_rows, old_rows};
 use crate::generate::Random;
 use crate::image::{image_length, short_length, Header};
 use crate::row::{Row, MOST};
 use crate::run::MOST_WORDS;
 use crate::text::MOST_TEXT;
-use crate::Tally;
+use crate::{Settings, Tally};
 
 /// A random case of a kind.
 pub fn make_case(rng: &mut Random, kind: Kind) -> Case {
     match kind {
-        Kind::Call => Case::Call { input: input(rng), shift: rng.below(8) },
-        Kind::Text => Case::Text { bytes: input(rng).bytes },
+        Kind::Call => {
+            let settings = some_settings(rng);
+            Case::Call { input: input(rng, settings), shift: rng.below(8), settings }
+        }
+        Kind::Text => Case::Text { bytes: input(rng, Settings::SAFE).bytes },
         Kind::Print => make_print(rng),
         Kind::Step => {
-            let rows = lent_rows(rng);
-            let word = next_word(rng, &rows);
-            Case::Step { rows, word }
+            let (settings, rows) = (some_settings(rng), lent_rows(rng));
+            let word = next_word(rng, &rows, settings);
+            Case::Step { rows, word, settings }
         }
         Kind::Run => make_run(rng),
         Kind::Census => Case::Census { rows: lent_rows(rng) },
@@ -43,10 +47,14 @@ pub fn make_case(rng: &mut Random, kind: Kind) -> Case {
     }
 }
 
-/// Rows that are sound three times in four, else damaged or of a wrong number.
+/// Rows that are sound three times in four, else damaged or of a wrong number; in one table in four two processes are about
+/// one turn cell.
 fn lent_rows(rng: &mut Random) -> Vec<Row> {
     let n = some_size(rng);
     let mut rows = walked(rng, n);
+    if rng.chance(1, 4) {
+        contend(rng, &mut rows);
+    }
     spoil(rng, &mut rows);
     rows
 }
@@ -68,36 +76,38 @@ fn walked(rng: &mut Random, n: usize) -> Vec<Row> {
     let mut rows = some_table(rng, n);
     if rng.chance(1, 2) {
         let count = rng.below(300);
-        let words = schedule(rng, &rows, count, 0);
-        crate::run(&mut rows, &words, &mut Tally::default());
+        let words = schedule(rng, &rows, count, 0, Settings::SAFE);
+        crate::run(&mut rows, &words, &mut Tally::default(), Settings::SAFE);
     }
     rows
 }
 
-/// A word that suits the rows more often than not.
-fn next_word(rng: &mut Random, rows: &[Row]) -> u32 {
+/// A word that suits the rows and the settings more often than not.
+fn next_word(rng: &mut Random, rows: &[Row], settings: Settings) -> u32 {
     let good = match crate::check(rows) {
-        0 => schedule(rng, rows, 1, 0)[0],
+        0 => schedule(rng, rows, 1, 0, settings)[0],
         _ => 0x4000_0000,
     };
-    match rng.below(9) {
+    match rng.below(12) {
         0..=2 if !rows.is_empty() => faulty_word(rng, rows, good),
         3 if !rows.is_empty() => full_entry(rng, rows),
+        4..=6 if !rows.is_empty() => touchy_word(rng, rows),
         _ => good,
     }
 }
 
 fn make_run(rng: &mut Random) -> Case {
-    let rows = lent_rows(rng);
-    let count = if rng.chance(1, 200) { MOST_WORDS + rng.below(3) } else { some_count(rng) };
+    let (settings, rows) = (some_settings(rng), lent_rows(rng));
+    let over = rng.chance(1, limit_chance(settings));
+    let count = if over { MOST_WORDS + rng.below(3) } else { some_count(rng) };
     let faulty = rng.pick(&[0, 0, 1, 2]);
     let words = match crate::check(&rows) {
-        0 => schedule(rng, &rows, count, faulty),
+        0 => schedule(rng, &rows, count, faulty, settings),
         _ => vec![0x1000_0000; count],
     };
     let mut old = || rng.below(1000) as u32;
     let tally = Tally { words: old(), comes: old(), arrivals: old() };
-    Case::Run { rows, words, tally }
+    Case::Run { rows, words, tally, settings }
 }
 
 /// Three tables in four are sound, most of them such that rounds are done.
@@ -110,7 +120,7 @@ fn make_rounds(rng: &mut Random) -> Case {
 
 /// A printed run with about as many bytes lent as its text has, or as every text may have.
 fn make_print(rng: &mut Random) -> Case {
-    let bytes = input(rng).bytes;
+    let bytes = input(rng, Settings::SAFE).bytes;
     let exact = crate::text(&bytes).len();
     let lent = match rng.below(32) {
         0..=3 => exact - 1,

@@ -11,6 +11,7 @@ mod making;
 mod passes;
 mod pieces;
 mod rounds;
+mod settings;
 mod show;
 mod shrink;
 
@@ -23,5 +24,6 @@ pub use linked::Linked;
 pub use making::make_case;
 pub use passes::{Images, Passes};
 pub use rounds::Rounds;
+pub use settings::{Forbidden, Wrong};
 pub use show::Hex;
 pub use shrink::shrink;

@@ -40,7 +40,7 @@ impl Passes {
             Case::ReadImage { words, .. } => self.images.note_read(words),
             Case::Call { input, .. } | Case::Print { input, .. } => self.inputs.note_input(&input.bytes),
             Case::Text { bytes } => self.inputs.note_input(bytes),
-            Case::Step { rows, word } => {
+            Case::Step { rows, word, .. } => {
                 self.note_table(rows, answer);
                 self.note_word(rows, *word, answer);
             }

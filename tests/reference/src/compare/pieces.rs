@@ -1,10 +1,11 @@
-//! The pieces of a case that shrinking changes: its words, its rows, and how much is lent.
+//! The pieces of a case that shrinking changes: its words, its rows, its settings, and how much is lent.
 
 use super::Case;
 use crate::bytes::{read_input, words};
 use crate::generate::inputs::{image_of, short_image_of, to_bytes};
 use crate::image::{image_length, read, Header};
 use crate::row::Row;
+use crate::Settings;
 
 fn bytes_of(case: &Case) -> Option<&[u8]> {
     match case {
@@ -125,6 +126,24 @@ pub fn in_short_form(case: &Case) -> Case {
     let mut case = case.clone();
     if let Case::ReadImage { words, .. } = &mut case {
         *words = image;
+    }
+    case
+}
+
+/// The settings of a case; 0 and 0 where it has none.
+pub fn settings_of(case: &Case) -> Settings {
+    match case {
+        Case::Step { settings, .. } | Case::Run { settings, .. } | Case::Call { settings, .. } => *settings,
+        _ => Settings::SAFE,
+    }
+}
+
+/// The case with other settings, if it has any.
+pub fn with_settings(case: &Case, new: Settings) -> Case {
+    let mut case = case.clone();
+    match &mut case {
+        Case::Step { settings, .. } | Case::Run { settings, .. } | Case::Call { settings, .. } => *settings = new,
+        _ => {}
     }
     case
 }

@@ -60,15 +60,17 @@ fn show_input(f: &mut fmt::Formatter, what: &str, input: &Input, shift: usize) -
 impl fmt::Display for Case {
     fn fmt(&self, f: &mut fmt::Formatter) -> fmt::Result {
         match self {
-            Case::Call { input, shift } => show_input(f, "call", input, *shift),
+            Case::Call { input, shift, settings } => show_input(f, &format!("call, {settings}"), input, *shift),
             Case::Print { input, shift } => show_input(f, "printed run", input, *shift),
             Case::Text { bytes } => {
                 write!(f, "printing program, words in:")?;
                 show_bytes(f, bytes)
             }
-            Case::Step { rows, word } => show_with_rows(f, format!("step, word {word:08X}"), rows),
-            Case::Run { rows, words, tally } => {
-                show_with_rows(f, format!("run, {tally:?} before"), rows)?;
+            Case::Step { rows, word, settings } => {
+                show_with_rows(f, format!("step, {settings}, word {word:08X}"), rows)
+            }
+            Case::Run { rows, words, tally, settings } => {
+                show_with_rows(f, format!("run, {settings}, {tally:?} before"), rows)?;
                 write!(f, "\n  {} words:{}", words.len(), Hex(words))
             }
             Case::Census { rows } => show_with_rows(f, "census".into(), rows),

@@ -1,10 +1,11 @@
-//! Greedy shrinking: words out, bits to 0, rows to idle, images to the short form, less lent, as long as the difference
-//! stays.
+//! Greedy shrinking: words out, bits to 0, rows to idle, images to the short form, settings to 0, less lent, as long as the
+//! difference stays.
 
-use super::pieces::{in_short_form, lent_of, rows_of, with_lent, with_rows, with_words, word_list};
+use super::pieces::{in_short_form, lent_of, rows_of, settings_of, word_list};
+use super::pieces::{with_lent, with_rows, with_settings, with_words};
 use super::{Case, Kind};
 use crate::row::{Row, MOST};
-use crate::Tally;
+use crate::{Settings, Tally};
 
 /// The most cases tried; a printing program is a process for each.
 const TRIES: usize = 20_000;
@@ -44,7 +45,20 @@ impl Shrinker<'_> {
         let short = has_image(&self.best) && self.keep(in_short_form(&self.best));
         let bits = self.clear_bits();
         let lent = self.less_lent();
-        later | fewer | rows | short | bits | lent
+        let settings = self.simpler_settings();
+        later | fewer | rows | short | bits | lent | settings
+    }
+
+    /// Clears the settings, then each, then their bits.
+    fn simpler_settings(&mut self) -> bool {
+        let mut changed = self.keep(with_settings(&self.best, Settings::SAFE));
+        for mask in [0].into_iter().chain((0..32).rev().map(|bit| !(1 << bit))) {
+            let Settings { act, turn } = settings_of(&self.best);
+            changed |= self.keep(with_settings(&self.best, Settings::of(act & mask, turn)));
+            let Settings { act, .. } = settings_of(&self.best);
+            changed |= self.keep(with_settings(&self.best, Settings::of(act, turn & mask)));
+        }
+        changed
     }
 
     /// Starts from the rows after the first words, as many of them as can be.
@@ -171,7 +185,7 @@ fn started_later(case: &Case, count: usize) -> Option<Case> {
         return None;
     }
     let rest = words.split_off(count);
-    let ran = crate::run(&mut rows, &words, &mut Tally::default());
+    let ran = crate::run(&mut rows, &words, &mut Tally::default(), settings_of(case));
     (ran.refusal == 0).then(|| with_words(&with_rows(case, rows), rest))
 }
 

@@ -1,11 +1,14 @@
 //! Inputs in bytes for the run and the printed run, with the number of lent bytes, and images by themselves.
 
 use super::schedule::schedule;
+use super::settings::contend;
 use super::tables::{fresh_table, sound_table};
 use super::Random;
 use crate::image::{image_length, short_length, write};
+use crate::refusal;
 use crate::row::{Row, FEWEST, MOST};
 use crate::run::MOST_WORDS;
+use crate::settings::Settings;
 
 /// Bytes in, and how many bytes are lent for the image or the text.
 #[derive(Clone, Debug, PartialEq, Eq)]
@@ -23,13 +26,16 @@ pub fn some_size(rng: &mut Random) -> usize {
     }
 }
 
-/// Half of the tables are fresh.
+/// Half of the tables are fresh; in one of the others in three, two processes are about one turn cell.
 pub fn some_table(rng: &mut Random, n: usize) -> Vec<Row> {
     if rng.chance(1, 2) {
-        fresh_table(rng, n)
-    } else {
-        sound_table(rng, n)
+        return fresh_table(rng, n);
     }
+    let mut rows = sound_table(rng, n);
+    if rng.chance(1, 3) {
+        contend(rng, &mut rows);
+    }
+    rows
 }
 
 /// Mostly short, at times long, and at the limit once in a while.
@@ -79,8 +85,8 @@ fn some_lent(rng: &mut Random, n: usize) -> usize {
     }
 }
 
-/// Any input: most can be run, the others are damaged in one of many ways.
-pub fn input(rng: &mut Random) -> Input {
+/// Any input: most can be run under the settings, the others are damaged in one of many ways.
+pub fn input(rng: &mut Random, settings: Settings) -> Input {
     let n = some_size(rng);
     let lent = some_lent(rng, n);
     if rng.chance(1, 24) {
@@ -91,10 +97,10 @@ pub fn input(rng: &mut Random) -> Input {
     if rng.chance(1, 5) {
         damage_image(rng, &mut image, n);
     }
-    let count = if rng.chance(1, 200) { over_limit(rng, length) } else { some_count(rng) };
+    let count = if rng.chance(1, limit_chance(settings)) { over_limit(rng, length) } else { some_count(rng) };
     let faulty = rng.pick(&[0, 0, 1, 2, 4]);
     let mut words = image;
-    words.extend(schedule(rng, &rows, count, faulty));
+    words.extend(schedule(rng, &rows, count, faulty, settings));
     let mut bytes = to_bytes(&words);
     if rng.chance(1, 12) {
         damage_bytes(rng, &mut bytes, length);
@@ -147,6 +153,15 @@ fn wrong_length(rng: &mut Random, words: &mut Vec<u32>, n: usize) {
         image_length(n),
     ]));
     *words = longest;
+}
+
+/// One input in so many has words about the limits: more of those whose settings are refused before that.
+pub fn limit_chance(settings: Settings) -> usize {
+    if settings.check() == refusal::NONE {
+        200
+    } else {
+        32
+    }
 }
 
 /// A number of event words about the two limits, after an image of a length.

@@ -4,6 +4,7 @@ pub mod inputs;
 pub mod random;
 pub mod rounds;
 pub mod schedule;
+pub mod settings;
 pub mod tables;
 
 pub use random::Random;

@@ -4,7 +4,7 @@ use super::schedule::schedule;
 use super::tables::{fresh_table, sound_table};
 use super::Random;
 use crate::row::Row;
-use crate::Tally;
+use crate::{Settings, Tally};
 
 /// A sound table of n processes.
 pub fn table_for_rounds(rng: &mut Random, n: usize) -> Vec<Row> {
@@ -30,8 +30,8 @@ fn made_by_a_list(rng: &mut Random, n: usize) -> Vec<Row> {
     let mut rows = fresh_table(rng, n);
     let count = rng.pick(&[20, 100, 600]);
     let count = rng.below(count);
-    let words = schedule(rng, &rows, count, 0);
-    crate::run(&mut rows, &words, &mut Tally::default());
+    let words = schedule(rng, &rows, count, 0, Settings::SAFE);
+    crate::run(&mut rows, &words, &mut Tally::default(), Settings::SAFE);
     rows
 }
 

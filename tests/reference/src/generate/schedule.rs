@@ -1,7 +1,11 @@
-//! Schedules: words chosen with the rows at hand, so that runs go deep, and words that are refused for a known reason.
+//! Schedules: words chosen with the rows and the settings at hand, so that runs go deep, and words that are refused for a
+//! known reason.
 
+use super::settings::{forbids, touchy_word, writer};
 use super::Random;
+use crate::refusal;
 use crate::row::{competing, everyone, Row, MOST};
+use crate::settings::Settings;
 use crate::step::Machine;
 use crate::word::{join, CANCEL, COME, FLICKER, GO, LOOK, STAY};
 
@@ -85,16 +89,19 @@ fn word_for(rng: &mut Random, rows: &[Row], p: usize, mood: &Mood) -> u32 {
     join(kind, p as u32, argument as u32)
 }
 
-/// `count` words, each accepted in its turn from the given rows, but for entries that meet a full count; `faulty` of them
-/// are replaced by words that may be refused. The schedule goes on as if those that are refused had been left out.
-pub fn schedule(rng: &mut Random, start: &[Row], count: usize, faulty: usize) -> Vec<u32> {
+/// `count` words, each accepted in its turn from the given rows under the settings, but for entries that meet a full count
+/// and some words that are forbidden; `faulty` of them are replaced by words that may be refused. The schedule goes on as
+/// if those that are refused had been left out. Settings that are none of the six count as 0 and 0.
+pub fn schedule(rng: &mut Random, start: &[Row], count: usize, faulty: usize, settings: Settings) -> Vec<u32> {
     let mut rows = start.to_vec();
     let mut words = Vec::with_capacity(count);
     let mut wrong_at: Vec<usize> = (0..faulty.min(count)).map(|_| rng.below(count)).collect();
     wrong_at.sort_unstable();
     let n = rows.len();
     let mut away = (0..n).fold(0, |set, p| set | u16::from(rows[p].loc != 10) << p);
-    let mut machine = Machine::new(&mut rows);
+    let settings = if settings.check() == refusal::NONE { settings } else { Settings::SAFE };
+    let kept = if settings == Settings::SAFE { 0 } else { rng.pick(&[0, 0, 1, 8]) };
+    let mut machine = Machine::new(&mut rows, settings);
     let mut mood = Mood::new(rng, n);
     let mut last = 0;
     for place in 0..count {
@@ -103,7 +110,10 @@ pub fn schedule(rng: &mut Random, start: &[Row], count: usize, faulty: usize) ->
         }
         mood.left -= 1;
         last = mood.choose(rng, machine.rows(), away, last);
-        let good = word_for(rng, machine.rows(), last, &mood);
+        let mut good = word_for(rng, machine.rows(), last, &mood);
+        if forbids(settings, machine.rows(), good) && !rng.chance(kept, 16) {
+            (last, good) = instead(machine.rows(), last);
+        }
         let wrong = wrong_at.binary_search(&place).is_ok();
         let word = if wrong { faulty_word(rng, machine.rows(), good) } else { good };
         words.push(word);
@@ -114,12 +124,19 @@ pub fn schedule(rng: &mut Random, start: &[Row], count: usize, faulty: usize) ->
     words
 }
 
+/// What is done instead of a forbidden word of process p: GO, or, where that is forbidden, GO of the process at 24 that has
+/// the level.
+fn instead(rows: &[Row], p: usize) -> (usize, u32) {
+    let q = if rows[p].loc == 23 { writer(rows, rows[p].level).expect("a writer") } else { p };
+    (q, join(GO, q as u32, 0))
+}
+
 /// A word that is refused for one reason or another, or now and then taken.
 pub fn faulty_word(rng: &mut Random, rows: &[Row], good: u32) -> u32 {
     let n = rows.len();
     let any = rng.below(n.max(1));
     let kind = rng.within(1, 6) as u32;
-    match rng.below(12) {
+    match rng.below(14) {
         0 => good & 0x0FFF_FFFF | (rng.pick(&[0, 7, 8, 9, 14, 15])) << 28,
         1 => good | 1 << rng.pick(&[8, 9, 12, 15, 24, 25, 27]),
         2 => good & 0xFF00_FFFF | (rng.pick(&[n, n + 1, 15, 16, 17, 128, 255]) as u32) << 16,
@@ -130,6 +147,7 @@ pub fn faulty_word(rng: &mut Random, rows: &[Row], good: u32) -> u32 {
         7 => good ^ 1 << rng.below(32),
         8 => join(rng.pick(&[GO, LOOK, CANCEL]), any as u32, rng.pick(&[0, 0, 1, 16])),
         9 | 10 => full_entry(rng, rows),
+        11 | 12 => touchy_word(rng, rows),
         _ => rng.next() as u32,
     }
 }
@@ -149,7 +167,7 @@ pub fn full_entry(rng: &mut Random, rows: &[Row]) -> u32 {
 /// A long run of accepted words from a fresh table.
 pub fn deep_run(seed: u64, n: usize, count: usize) -> (Vec<Row>, Vec<u32>) {
     let rows = vec![Row::IDLE; n];
-    let words = schedule(&mut Random::new(seed), &rows, count, 0);
+    let words = schedule(&mut Random::new(seed), &rows, count, 0, Settings::SAFE);
     (rows, words)
 }
 

@@ -3,6 +3,8 @@
 use super::calls::{take_words, too_many};
 use super::cells::printed;
 use super::image::{header, read, words_asked_for, write, Header};
+use super::settings::{memory, Act, Memory, Turn, SAFE};
+use super::system::System;
 use super::Fault;
 use crate::Ran;
 
@@ -31,11 +33,18 @@ fn divide(words: &[u32], fault: Fault) -> (&[u32], &[u32]) {
     words.split_at(length.min(words.len()))
 }
 
-pub fn c_call(input: &[u8], lent: &mut [u8], fault: Fault) -> u64 {
+pub fn c_call(input: &[u8], lent: &mut [u8], act: u32, turn: u32, fault: Fault) -> u64 {
+    let memory = memory(act, turn, fault);
+    if memory.is_err() && fault == Fault::SettingsBeforeBytes {
+        return 18;
+    }
     let words = match words_in(input, fault) {
         Ok(words) => words,
         Err(refusal) => return refusal.into(),
     };
+    if memory.is_err() && fault == Fault::SettingsBeforeImage {
+        return 18;
+    }
     let (image, events) = divide(&words, fault);
     let mut system = match read(image, fault) {
         Ok(system) => system,
@@ -43,26 +52,50 @@ pub fn c_call(input: &[u8], lent: &mut [u8], fault: Fault) -> u64 {
     };
     let asked_for = 4 * words_asked_for(system.n(), fault);
     let lent_too_few = lent.len() < asked_for || (fault == Fault::LentMustBeWords && lent.len() % 4 != 0);
-    if lent_too_few && fault == Fault::LentBeforeWordCount {
-        return 13;
+    let applies = |refusal: &u64| match refusal {
+        18 => memory.is_err(),
+        12 => too_many(events.len(), fault),
+        _ => lent_too_few,
+    };
+    if let Some(refusal) = before_the_run(fault).into_iter().find(applies) {
+        spoil_lent(&system, lent, refusal, fault);
+        return refusal;
     }
-    if too_many(events.len(), fault) {
-        return 12;
-    }
-    if lent_too_few {
-        return 13;
-    }
-    let ran = take_words(&mut system, events, fault, |_, _| ());
+    let memory = memory.ok().filter(|_| fault != Fault::CallUnderSafe).unwrap_or(SAFE);
+    let ran = take_words(&mut system, events, memory, fault, |_, _| ());
     if !(fault == Fault::NoImageOnStop && ran.refusal != 0) {
-        let bytes = write(&system, fault).into_iter().flat_map(|word| (0..4).map(move |i| word / 256u32.pow(i) % 256));
-        for (cell, byte) in lent.iter_mut().zip(bytes) {
-            *cell = byte as u8;
-        }
+        write_bytes(&system, lent, fault);
         if fault == Fault::ImageFillsAllLent {
             lent[asked_for..].fill(0);
         }
     }
     256 * u64::from(ran.taken) + u64::from(ran.refusal)
+}
+
+/// What is checked between the image and the words, in order: 18, 12, 13.
+fn before_the_run(fault: Fault) -> [u64; 3] {
+    match fault {
+        Fault::LentBeforeWordCount => [18, 13, 12],
+        Fault::CallSettingsAfterWordCount => [12, 18, 13],
+        Fault::SettingsAfterLent => [12, 13, 18],
+        _ => [18, 12, 13],
+    }
+}
+
+/// A refusal leaves the lent bytes as given, but for faults of 18.
+fn spoil_lent(system: &System, lent: &mut [u8], refusal: u64, fault: Fault) {
+    match (refusal, fault) {
+        (18, Fault::WrongSettingsWriteImage) => write_bytes(system, lent, fault),
+        (18, Fault::WrongSettingsClearLent) => lent.fill(0),
+        _ => {}
+    }
+}
+
+fn write_bytes(system: &System, lent: &mut [u8], fault: Fault) {
+    let bytes = write(system, fault).into_iter().flat_map(|word| (0..4).map(move |i| word / 256u32.pow(i) % 256));
+    for (cell, byte) in lent.iter_mut().zip(bytes) {
+        *cell = byte as u8;
+    }
 }
 
 pub fn text(input: &[u8], fault: Fault) -> String {
@@ -83,7 +116,7 @@ pub fn text(input: &[u8], fault: Fault) -> String {
     // the number is counted again after each word; `error` is what a fault has made it wrong by
     let mut error = if fault == Fault::FigureFrom0 { -(system.at_30(fault) as i64) } else { 0 };
     let mut used_before = None;
-    let ran = take_words(&mut system, events, fault, |system, moved| {
+    let ran = take_words(&mut system, events, memory_of_text(fault), fault, |system, moved| {
         let (arrives, departs) = (moved.before != 30 && moved.after == 30, moved.before == 30 && moved.after != 30);
         error += match (fault, moved.before, moved.after) {
             (Fault::FigureKeptFrom30To40, 30, 40) => 1,
@@ -100,6 +133,15 @@ pub fn text(input: &[u8], fault: Fault) -> String {
         used_before = moved.used;
     });
     out + &last_line(&ran)
+}
+
+/// The printed run is under 0 and 0.
+fn memory_of_text(fault: Fault) -> Memory {
+    match fault {
+        Fault::TextUnderPlain => Memory { act: Act::Plain, turn: Turn::Plain },
+        Fault::TextUnderOneWriter => Memory { turn: Turn::OneWriter, ..SAFE },
+        _ => SAFE,
+    }
 }
 
 fn last_line(ran: &Ran) -> String {

@@ -75,7 +75,7 @@ pub fn clear_passes(system: &mut System, p: usize, fault: Fault) {
 }
 
 /// A refused word changes nothing, but for a fault: one that meets 15 counts where there is room.
-pub fn spoil_refused(system: &mut System, word: u32, refusal: u16, fault: Fault) {
+pub fn spoil_full(system: &mut System, word: u32, refusal: u16, fault: Fault) {
     if fault != Fault::FullCountsTheOthers || refusal != 15 {
         return;
     }

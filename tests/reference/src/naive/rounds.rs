@@ -1,6 +1,7 @@
 //! Rounds, in the order of the manual, "Rounds": which word each process gets, when a round follows, which word breaks
 //! one, and what is told.
 
+use super::settings::{Memory, Turn, SAFE};
 use super::step::{take, GO, LOOK};
 use super::system::{size, Process, System};
 use super::Fault;
@@ -95,10 +96,11 @@ fn do_round(system: &mut System, fault: Fault) -> Result<bool, u16> {
         *system = all_at_once(system);
         return Ok(true);
     }
+    let memory = if fault == Fault::RoundsUnderOneWriter { Memory { turn: Turn::OneWriter, ..SAFE } } else { SAFE };
     for i in 0..n {
         let p = if fault == Fault::RoundFromTheLast { n - 1 - i } else { i };
         let word = word_of(system, p, fault);
-        match take(system, word, fault) {
+        match take(system, word, memory, fault) {
             Err(15) if fault != Fault::RoundsGoOnPast15 => return Err(15),
             Err(refusal) => assert!(fault != Fault::None, "a word of a round meets {refusal}"),
             Ok(_) => {}
@@ -133,7 +135,7 @@ fn all_at_once(start: &System) -> System {
     let mut end = start.clone();
     for p in 0..start.n() {
         let mut alone = start.clone();
-        take(&mut alone, word_of(start, p, Fault::None), Fault::None).ok();
+        take(&mut alone, word_of(start, p, Fault::None), SAFE, Fault::None).ok();
         end.processes[p] = alone.processes[p].clone();
         for k in 0..start.n() {
             if alone.turn[k] != start.turn[k] {

@@ -1,7 +1,8 @@
-//! One step, in the order of the manual, "Steps" and "Ahead sets"; "Passes" has a file of its own.
+//! One step, in the order of the manual, "Steps" and "Ahead sets"; "Passes" and "Settings" have files of their own.
 
 use super::cells::{told, Use, Variable};
-use super::passes::{add_passes, clear_passes, counts_passes, is_full, spoil_refused};
+use super::passes::{add_passes, clear_passes, counts_passes, is_full, spoil_full};
+use super::settings::{forbidden, spoil_forbidden, Memory, SAFE};
 use super::system::{size, Process, System};
 use super::words::is_kind;
 use super::Fault;
@@ -23,14 +24,20 @@ pub struct Moved {
 }
 
 /// Takes one word, or refuses it and changes nothing.
-pub fn take(system: &mut System, word: u32, fault: Fault) -> Result<Moved, u16> {
-    match judge(system, word, fault) {
+pub fn take(system: &mut System, word: u32, memory: Memory, fault: Fault) -> Result<Moved, u16> {
+    match judge(system, word, memory, fault) {
         Ok(event) => Ok(carry_out(system, event, fault)),
         Err(refusal) => {
             spoil_refused(system, word, refusal, fault);
             Err(refusal)
         }
     }
+}
+
+/// A refused word changes nothing, but for two faults.
+pub fn spoil_refused(system: &mut System, word: u32, refusal: u16, fault: Fault) {
+    spoil_full(system, word, refusal, fault);
+    spoil_forbidden(system, word, refusal, fault);
 }
 
 /// A word that was not refused, in its parts.
@@ -40,15 +47,18 @@ pub struct Event {
     pub a: usize,
 }
 
-/// The parts of a word that may be taken, or its refusal.
-pub fn judge(system: &System, word: u32, fault: Fault) -> Result<Event, u16> {
-    let n = system.n();
-    let kind = word / 0x1000_0000;
-    let p = (word / 0x1_0000 % 0x100) as usize;
-    let a = (word % 0x100) as usize;
+/// Whether the kind is wrong or a spare bit set.
+pub fn is_malformed(word: u32, fault: Fault) -> bool {
+    let (kind, p, a) = (word / 0x1000_0000, word / 0x1_0000 % 0x100, word % 0x100);
     let known = is_kind(kind, fault, Fault::StepRefusesKind6, Fault::StepTakesKind7);
-    let form_wrong = !known || word != kind * 0x1000_0000 + p as u32 * 0x1_0000 + a as u32;
-    let no_process = p > 15 || p >= n;
+    !known || word != kind * 0x1000_0000 + p * 0x1_0000 + a
+}
+
+/// The parts of a word that may be taken, or its refusal.
+pub fn judge(system: &System, word: u32, memory: Memory, fault: Fault) -> Result<Event, u16> {
+    let p = (word / 0x1_0000 % 0x100) as usize;
+    let form_wrong = is_malformed(word, fault);
+    let no_process = p > 15 || p >= system.n();
     if fault == Fault::ProcessBeforeForm && no_process {
         return Err(9);
     }
@@ -59,15 +69,26 @@ pub fn judge(system: &System, word: u32, fault: Fault) -> Result<Event, u16> {
         return Err(9);
     }
     // where a fault lets kind 7 through, it is taken for CANCEL
-    let kind = kind.min(CANCEL);
+    let event = Event { kind: (word / 0x1000_0000).min(CANCEL), p, a: (word % 0x100) as usize };
+    judge_there(system, &event, memory, fault)?;
+    Ok(event)
+}
+
+/// The refusal of a word whose process is there, if it has one.
+fn judge_there(system: &System, event: &Event, memory: Memory, fault: Fault) -> Result<(), u16> {
+    let &Event { kind, p, a } = event;
     let process = &system.processes[p];
     let allowed = is_allowed(kind, process, fault);
-    let listed = is_listed(kind, process, a, n, fault);
+    let listed = is_listed(kind, process, a, system.n(), fault);
+    let forbidden = forbidden(system, event, memory, fault);
     if fault == Fault::ArgumentBeforeAllowed && !listed {
         return Err(11);
     }
     if fault == Fault::FullBeforeAllowed && !allowed && is_full(system, p, fault) {
         return Err(15);
+    }
+    if fault == Fault::ForbiddenFlickerBeforeAllowed && forbidden == Some(16) {
+        return Err(16);
     }
     if !allowed {
         return Err(10);
@@ -76,13 +97,21 @@ pub fn judge(system: &System, word: u32, fault: Fault) -> Result<Event, u16> {
     if fault == Fault::FullBeforeArgument && full {
         return Err(15);
     }
+    match forbidden {
+        Some(16) if fault == Fault::ForbiddenFlickerBeforeArgument => return Err(16),
+        Some(17) if fault == Fault::ForbiddenGoBeforeArgument => return Err(17),
+        _ => {}
+    }
     if !listed {
         return Err(11);
+    }
+    if let Some(refusal) = forbidden {
+        return Err(refusal);
     }
     if full {
         return Err(15);
     }
-    Ok(Event { kind, p, a })
+    Ok(())
 }
 
 /// Moves the system by a word that `judge` let through.
@@ -112,13 +141,13 @@ pub fn carry_out(system: &mut System, event: Event, fault: Fault) -> Moved {
     Moved { process: p, before: before.location, after: after.location, come, used }
 }
 
-/// What a word would have used that is refused for its argument, had that been 0, or for a full count, had that not been.
-/// Only faults ask.
+/// What a word would have used that is refused for its argument, had that been 0, or for a full count, had that not been,
+/// or that is forbidden, had it not been. Only faults ask.
 pub fn would_use(system: &System, word: u32, refusal: u16) -> Option<Use> {
     let mut without_passes = system.clone();
     without_passes.processes.iter_mut().for_each(|process| process.passes = [0; 16]);
-    let without_argument = judge(&without_passes, word / 0x100 * 0x100, Fault::None);
-    let event = without_argument.ok().filter(|_| refusal == 11 || refusal == 15)?;
+    let without_argument = judge(&without_passes, word / 0x100 * 0x100, SAFE, Fault::None);
+    let event = without_argument.ok().filter(|_| [11, 15, 16, 17].contains(&refusal))?;
     carry_out(&mut without_passes, event, Fault::None).used
 }
 

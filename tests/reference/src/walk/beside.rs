@@ -4,32 +4,34 @@ use super::exchange::{exchange, Taken};
 use super::full::{with_passes, Full};
 use super::search::{Guide, Visited};
 use super::silence::Silence;
+use super::under::{other_settings, Under};
 use crate::compare::{Case, Engine};
 use crate::naive::{self, Fault, Standing};
-use crate::{refusal, Census, Row, StepAnswer};
+use crate::{refusal, Census, Row, Settings, StepAnswer};
 
 /// The engine, and the naive model with a fault or none: they must agree, on tables that must meet demand 3, at which
 /// words without a clash can be exchanged, and from which rounds lead to 30 in time.
 pub struct Beside<'a> {
     pub engine: &'a dyn Engine,
     pub fault: Fault,
-    /// Whether a table of two processes is given every word again with passes that are few or full.
-    pub passes: bool,
+    /// Whether a table of two processes is given every word again: with passes that are few or full, and under the other
+    /// settings.
+    pub again: bool,
 }
 
 /// What must not be found, as cases that both can be asked again.
 #[derive(Clone, Debug)]
 pub enum Finding {
     /// The answers differ.
-    Difference(Case),
+    Difference(Box<Case>),
     /// Both say that more processes are held at some k, or are at 30, than demand 3 allows; or that the table is not sound.
-    Demand3(Case),
+    Demand3(Box<Case>),
     /// The order of two words makes a difference to the engine, though the cells that they used do not clash: the
     /// second after the first, and the first after the second.
     Exchange(Box<[Case; 2]>),
     /// Nobody is at 30 and somebody is at 20 to 24, and rounds lead nobody to 30, or not in time; or rounds are done
     /// though it is otherwise.
-    Silence(Case),
+    Silence(Box<Case>),
 }
 
 impl<const N: usize> Guide<N> for Beside<'_> {
@@ -43,7 +45,7 @@ impl<const N: usize> Guide<N> for Beside<'_> {
     ) -> Result<Visited, Finding> {
         self.look(rows)?;
         let mut taken = Vec::with_capacity(4 * N);
-        self.give(rows, words, |word, answer, after| {
+        self.give(rows, words, Settings::SAFE, |word, answer, after| {
             let accepted = answer.refusal == refusal::NONE;
             if accepted {
                 taken.push(Taken { word, cell: answer.cell, rows: *after });
@@ -56,32 +58,36 @@ impl<const N: usize> Guide<N> for Beside<'_> {
             exchange: pairs.map_err(|pair| in_both_orders(&pair))?,
             silence: self.do_rounds(rows)?,
             full: self.give_with_passes(rows, words)?,
+            under: self.give_under(rows, words)?,
         })
     }
 }
 
 fn in_both_orders<const N: usize>([first, second]: &[Taken<N>; 2]) -> Finding {
-    let then = |led: &Taken<N>, word| Case::Step { rows: led.rows.to_vec(), word };
+    let then = |led: &Taken<N>, word| Case::Step { rows: led.rows.to_vec(), word, settings: Settings::SAFE };
     Finding::Exchange(Box::new([then(first, second.word), then(second, first.word)]))
 }
 
 impl Beside<'_> {
-    /// Gives every word to the rows, each as if it were the first, and tells `each` the answer and what it led to.
+    /// Gives every word to the rows under settings, each as if it were the first, and tells `each` the answer and what it
+    /// led to.
     #[inline]
     fn give<const N: usize>(
         &self,
         rows: &[Row; N],
         words: &[u32],
+        settings: Settings,
         mut each: impl FnMut(u32, StepAnswer, &[Row; N]),
     ) -> Result<(), Finding> {
         let model = Standing::new(rows, self.fault);
         let (mut after, mut model_after) = (*rows, *rows);
         for &word in words {
-            let answer = self.engine.step(&mut after, word);
+            let answer = self.engine.step_under(&mut after, word, settings);
             // leaves the rows as given where it refuses the word, so that they serve for the next
-            let model_answer = model.step(word, &mut model_after);
+            let model_answer = model.step(word, settings.act, settings.turn, &mut model_after);
             if (answer, &after) != (model_answer, &model_after) {
-                return Err(Finding::Difference(Case::Step { rows: rows.to_vec(), word }));
+                let case = Case::Step { rows: rows.to_vec(), word, settings };
+                return Err(Finding::Difference(Box::new(case)));
             }
             each(word, answer, &after);
             if answer.refusal == refusal::NONE {
@@ -94,16 +100,25 @@ impl Beside<'_> {
     /// Gives every word to the table with each setting of passes.
     fn give_with_passes<const N: usize>(&self, rows: &[Row; N], words: &[u32]) -> Result<Full, Finding> {
         let mut full = Full::default();
-        for rows in with_passes(rows).filter(|_| self.passes) {
-            self.give(&rows, words, |word, answer, _| full.note(&rows, word, answer))?;
+        for rows in with_passes(rows).filter(|_| self.again) {
+            self.give(&rows, words, Settings::SAFE, |word, answer, _| full.note(&rows, word, answer))?;
         }
         Ok(full)
+    }
+
+    /// Gives every word to the table under each of the other settings.
+    fn give_under<const N: usize>(&self, rows: &[Row; N], words: &[u32]) -> Result<Under, Finding> {
+        let mut under = Under::default();
+        for settings in other_settings::<N>().filter(|_| self.again) {
+            self.give(rows, words, settings, |_, answer, _| under.note(answer))?;
+        }
+        Ok(under)
     }
 
     /// The census of the table.
     fn look(&self, rows: &[Row]) -> Result<(), Finding> {
         let census = self.engine.census(rows);
-        let case = || Case::Census { rows: rows.to_vec() };
+        let case = || Box::new(Case::Census { rows: rows.to_vec() });
         if census != naive::census(rows, self.fault) {
             Err(Finding::Difference(case()))
         } else if !meets_demand_3(&census, rows.len()) {
@@ -122,7 +137,7 @@ impl Beside<'_> {
             2 => naive::rounds(&mut model_after, self.fault),
             _ => crate::rounds(&mut model_after),
         };
-        let case = || Case::Rounds { rows: rows.to_vec() };
+        let case = || Box::new(Case::Rounds { rows: rows.to_vec() });
         if (rounded, after) != (model_rounded, model_after) {
             return Err(Finding::Difference(case()));
         }

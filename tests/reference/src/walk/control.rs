@@ -32,7 +32,7 @@ impl<const N: usize> Guide<N> for Alone {
         let model = Standing::new(rows, self.0);
         for &word in words {
             let mut after = *rows;
-            let answer = model.step(word, &mut after);
+            let answer = model.step(word, 0, 0, &mut after);
             each(word, (answer.refusal == refusal::NONE).then_some(after));
         }
         // no pairs of words, rounds or passes are tried

@@ -1,6 +1,7 @@
 //! Every table that accepted words lead to from fresh tables of two or three processes, passes apart, with every word given
 //! to each, every two accepted words of different processes in both orders, rounds, and, for two processes, every word
-//! again with passes that are few or full: an engine beside the naive model, or that model alone as a control.
+//! again with passes that are few or full, and under every setting: an engine beside the naive model, or that model alone
+//! as a control.
 
 mod beside;
 mod control;
@@ -10,6 +11,7 @@ mod packed;
 mod search;
 mod silence;
 mod starts;
+mod under;
 
 pub use beside::{Beside, Finding};
 pub use control::control;
@@ -17,9 +19,10 @@ pub use exchange::{exchange, Exchange, Taken};
 pub use full::Full;
 pub use search::{candidates, walk, Figures, Found, Visited};
 pub use silence::{most_needed, Silence};
+pub use under::Under;
 
 use crate::naive::Fault;
-use starts::{every_fresh, zeros};
+pub(crate) use starts::{every_fresh, zeros};
 
 /// A walk of an engine beside the naive model, and what it must count.
 pub struct Walk {
@@ -45,6 +48,7 @@ pub const ZEROS_OF_2: Walk = Walk {
             },
             silence: Silence { tables: 984, rounds: 5_012, most: 11 },
             full: Full { words: 642_816, entries: 3_680, exits: 1_536, full: 800 },
+            under: Under { words: 200_880, accepted: 16_660, flickers: 4_144, goes: 16 },
         },
     },
     over: |beside| walk(&[zeros::<2>()], beside),
@@ -67,6 +71,7 @@ pub const EVERY_OF_2: Walk = Walk {
             },
             silence: Silence { tables: 42_554, rounds: 293_170, most: 11 },
             full: Full { words: 35_541_504, entries: 701_920, exits: 11_488, full: 15_520 },
+            under: Under { words: 11_106_720, accepted: 1_316_964, flickers: 541_360, goes: 16 },
         },
     },
     over: |beside| walk(&every_fresh::<2>(), beside),
@@ -89,6 +94,7 @@ pub const ZEROS_OF_3: Walk = Walk {
             },
             silence: Silence { tables: 3_293_451, rounds: 33_802_163, most: 24 },
             full: Full { words: 0, entries: 0, exits: 0, full: 0 },
+            under: Under { words: 0, accepted: 0, flickers: 0, goes: 0 },
         },
     },
     over: |beside| walk(&[zeros::<3>()], beside),

@@ -5,6 +5,7 @@ use super::exchange::Exchange;
 use super::full::Full;
 use super::packed::{pack, unpack, Tables};
 use super::silence::Silence;
+use super::under::Under;
 use crate::word::{join, CANCEL, STAY};
 use crate::Row;
 
@@ -14,7 +15,7 @@ pub trait Guide<const N: usize> {
     type Finding;
 
     /// Looks at a table and gives it every word; tells `each` the word and what it led to, None where it was refused.
-    /// Answers what it counted of pairs of words, of rounds and of words to tables with passes.
+    /// Answers what it counted of pairs of words, of rounds, of words to tables with passes and of words under settings.
     fn visit(
         &self,
         rows: &[Row; N],
@@ -29,6 +30,7 @@ pub struct Visited {
     pub exchange: Exchange,
     pub silence: Silence,
     pub full: Full,
+    pub under: Under,
 }
 
 impl std::ops::AddAssign for Visited {
@@ -36,6 +38,7 @@ impl std::ops::AddAssign for Visited {
         self.exchange += more.exchange;
         self.silence += more.silence;
         self.full += more.full;
+        self.under += more.under;
     }
 }
 

@@ -6,7 +6,7 @@ use reference::generate::tables::sound_table;
 use reference::generate::Random;
 use reference::naive::Fault;
 use reference::walk::{candidates, exchange, Exchange, Taken};
-use reference::{Cell, Row, StepAnswer};
+use reference::{Cell, Row, Settings, StepAnswer};
 
 /// The words that a table accepts, by a step.
 fn taken<const N: usize>(rows: &[Row; N], step: impl Fn(&mut [Row; N], u32) -> StepAnswer) -> Vec<Taken<N>> {
@@ -51,7 +51,7 @@ fn fails(rows: [Row; 2], step: impl Fn(&mut [Row; 2], u32) -> StepAnswer) -> boo
 }
 
 fn right(rows: &mut [Row; 2], word: u32) -> StepAnswer {
-    reference::step_in(rows, word)
+    reference::step_in(rows, word, Settings::SAFE)
 }
 
 #[test]

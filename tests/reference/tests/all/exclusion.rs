@@ -6,7 +6,7 @@ use reference::generate::tables::fresh_table;
 use reference::generate::Random;
 use reference::naive::{self, Fault};
 use reference::word::CANCEL;
-use reference::{census, step, Cell, StepAnswer};
+use reference::{census, step, Cell, Settings, StepAnswer};
 
 #[test]
 fn held_is_at_most_k_along_random_lists() {
@@ -16,11 +16,11 @@ fn held_is_at_most_k_along_random_lists() {
         let n = 2 + round % 15;
         let mut rows = fresh_table(&mut rng, n);
         let mut slow = rows.clone();
-        for word in schedule(&mut rng, &rows, 400, 10) {
-            let answer = step(&mut rows, word);
+        for word in schedule(&mut rng, &rows, 400, 10, Settings::SAFE) {
+            let answer = step(&mut rows, word, Settings::SAFE);
             let cell = answer.map_or(Cell::NONE, |event| event.cell);
             let told = StepAnswer { refusal: answer.err().unwrap_or(0), cell };
-            assert_eq!(told, naive::step(&mut slow, word, Fault::None));
+            assert_eq!(told, naive::step(&mut slow, word, 0, 0, Fault::None));
             assert_eq!(rows, slow);
             arrivals += usize::from(answer.is_ok_and(|event| event.after == 30));
             cancels += usize::from(answer.is_ok_and(|event| event.kind == CANCEL));

@@ -1,5 +1,8 @@
 //! All tests of the reference, in one program.
 
+mod allowed;
+mod blind;
+mod blind_settings;
 mod cancel;
 mod cells;
 mod census;
@@ -9,7 +12,10 @@ mod exclusion;
 mod lent;
 mod manual;
 mod models;
+mod overtaking;
 mod passes;
 mod printed;
 mod rounds;
+mod settings;
 mod walk;
+mod walk_faults;

@@ -6,7 +6,7 @@ use reference::generate::inputs::{image_of, to_bytes};
 use reference::generate::schedule::schedule;
 use reference::generate::tables::sound_table;
 use reference::generate::Random;
-use reference::{Row, StepAnswer};
+use reference::{Row, Settings, StepAnswer};
 
 fn text(engine: &dyn Engine, rows: &[Row], words: &[u32]) -> String {
     let input = [to_bytes(&image_of(rows)), to_bytes(words)].concat();
@@ -43,7 +43,7 @@ fn the_number_is_the_census_and_the_cell_is_the_step() {
         let (mut raised, mut lowered, mut most) = (0, 0, 0);
         for round in 0..600 {
             let start = sound_table(&mut rng, 2 + round % 15);
-            let words = schedule(&mut rng, &start, 60, round % 2);
+            let words = schedule(&mut rng, &start, 60, round % 2, Settings::SAFE);
             let printed = text(engine, &start, &words);
             let mut rows = start.clone();
             let mut before = engine.census(&rows).at_30;

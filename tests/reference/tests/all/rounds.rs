@@ -9,7 +9,7 @@ use reference::generate::tables::{fresh_table, sound_table};
 use reference::generate::Random;
 use reference::naive::Fault;
 use reference::walk::most_needed;
-use reference::{Rounded, Row};
+use reference::{Rounded, Row, Settings};
 
 /// The rows and the answer after rounds.
 fn rounded(engine: &dyn Engine, rows: &[Row]) -> (Vec<Row>, Rounded) {
@@ -177,8 +177,8 @@ fn rounds_after_random_lists() {
     for round in 0..600 {
         let n = 2 + round % 15;
         let mut rows = fresh_table(&mut rng, n);
-        for (i, word) in schedule(&mut rng, &rows, 300, 10).into_iter().enumerate() {
-            reference::step(&mut rows, word).ok();
+        for (i, word) in schedule(&mut rng, &rows, 300, 10, Settings::SAFE).into_iter().enumerate() {
+            reference::step(&mut rows, word, Settings::SAFE).ok();
             if i % 7 != 0 || rows.iter().any(|row| row.loc == 30) {
                 continue;
             }

@@ -1,266 +1,16 @@
-//! The walks through every table: their figures, the faults that they see, and the control.
+//! The walks through every table: their figures, what a fault on both sides breaks, and the control.
 
 use reference::compare::{Answer, Case, Naive, Reference};
 use reference::naive::{self, Fault};
-use reference::walk::{control, most_needed, walk, Beside, Exchange, Figures, Finding, Found, Full, Visited, Walk};
-use reference::walk::{EVERY_OF_2, SHORTEST, TOO_LONG, UNTOLD, ZEROS_OF_2, ZEROS_OF_3};
+use reference::walk::{control, most_needed, walk, Beside, Exchange, Figures, Finding, Found, Full};
+use reference::walk::{Under, Visited, EVERY_OF_2, SHORTEST, TOO_LONG, UNTOLD, ZEROS_OF_2, ZEROS_OF_3};
 use reference::{Ran, Rounded, Row, Tally};
-
-/// Seen by a walk of two processes from every fresh table, and so are those of a step's cell.
-const SEEN: [Fault; 45] = [
-    Fault::Counts40With30,
-    Fault::AheadClearedAtGo40,
-    Fault::OwnRowStoreLostAtGo24,
-    Fault::WaitingFrom20,
-    Fault::WaitingTo30,
-    Fault::HeldAlsoAt24,
-    Fault::OwnRowStoreLostAtFlicker,
-    Fault::CompetingFrom20,
-    Fault::CompetingTo40,
-    Fault::AheadWithSelfAtGo20,
-    Fault::AheadWithSelfAtGo24,
-    Fault::AheadKeptAtGo24,
-    Fault::LookKeepsIdle,
-    Fault::LookDropsBusy,
-    Fault::MoveAtEqualSize,
-    Fault::MoveKeepsBb,
-    Fault::FallKeepsBb,
-    Fault::ActKeptAtGo40,
-    Fault::Go22WithLisIsArgument,
-    Fault::ArgumentBeforeAllowed,
-    Fault::FlickerUpToN,
-    Fault::ActClearedAtCancel,
-    Fault::ActSetAtCancel,
-    Fault::CancelTo10,
-    Fault::CancelAlsoAt21,
-    Fault::CancelAlsoAt40,
-    Fault::CancelOfAnyArgument,
-    Fault::StepRefusesKind6,
-    // at level 1, an empty est and the turn of another both lead to level 0, bb 0 and 21: the cell tells them apart
-    Fault::TurnBeforeSizeOfEst,
-    Fault::RefusedWordUsesCell,
-    Fault::RoundComesAt10,
-    Fault::RoundFromTheLast,
-    Fault::RoundAllAtOnce,
-    Fault::RoundEndsAt30,
-    Fault::RoundEndsAt30Uncounted,
-    Fault::OneRoundFewer,
-    Fault::OneRoundMore,
-    Fault::PendingFrom21,
-    Fault::PendingAlsoAt40,
-    Fault::NobodyPendingUnseen,
-    Fault::At30BeforehandUnseen,
-    Fault::RoundsTake40For30,
-    Fault::OccupiedBeforeTheLastRound,
-    Fault::OccupiedBeforehandUntold,
-    Fault::RoundsOnACopy,
-];
-
-/// Seen by a walk of two processes from zeros, where tables have passes that are few.
-const SEEN_WITH_PASSES: [Fault; 10] = [
-    Fault::PassesOfTheOther,
-    Fault::PassesCountedAtCome,
-    Fault::PassesCountedAtGo24,
-    Fault::PassesOverThoseAt20,
-    Fault::PassesOverItself,
-    Fault::PassesClearedAtGo40,
-    Fault::PassesOfLeaverCleared,
-    Fault::PassesOfLeaverClearedToo,
-    Fault::PassesClearedOfCompeting,
-    Fault::PassesNotCleared,
-];
-
-/// And where they have passes that are full.
-const SEEN_WITH_FULL: [Fault; 6] = [
-    Fault::FullBeforeArgument,
-    Fault::FullBeforeAllowed,
-    Fault::FullAt65534,
-    Fault::CountsWrap,
-    Fault::CountsStayFull,
-    Fault::FullOverAnyone,
-];
-
-/// Seen by a walk of three processes only. Of two, the level is at most 1 and est has at most the other one in it.
-const SEEN_OF_3: [Fault; 4] = [
-    // at 24, and at 21 with level 1, est is all others
-    Fault::EstKeptAtGo24,
-    Fault::LisFromEveryone,
-    // no level 2
-    Fault::FallsTwoLevels,
-    Fault::TurnComparedAtLevelBelow,
-];
-
-/// Not seen by a walk of two, as is tried, nor by one of three, for the reasons given.
-const UNSEEN: [Fault; 82] = [
-    // no table that is reached has a process in its own ahead
-    Fault::OwnAheadKeptAtGo30,
-    // nor a process at 20 in an ahead set
-    Fault::AheadClearedAtCancel,
-    // every word has a kind from 1 to 6, no spare bits, and a process of the table
-    Fault::ProcessBeforeForm,
-    Fault::StepTakesKind7,
-    // words go to the step one by one: there is no list of them, no tally and no cell of a run
-    Fault::StayCountsAsCome,
-    Fault::CancelCountsAsCome,
-    Fault::TallyKeptOnRefusal,
-    Fault::GoesOnPastRefusal,
-    Fault::OneWordFewer,
-    Fault::OneWordMore,
-    Fault::RunCellOfFirstWord,
-    Fault::RunCellKeptByNone,
-    Fault::RunCellLostOnStop,
-    Fault::RunCellOfRefusedWord,
-    // every table is sound and has two or three rows
-    Fault::FirstTurnUnchecked,
-    Fault::RowCountAfterRows,
-    Fault::RoundsClearRefusedRows,
-    Fault::OwnPassesInRows,
-    Fault::PassesPastNInRows,
-    // of two, lis has one member at most at 22; rounds of three are compared with the reference
-    Fault::LooksAtHighest,
-    // rounds are done without passes
-    Fault::RoundsGoOnPast15,
-    Fault::BrokenRoundCounted,
-    Fault::BrokenRoundUndone,
-    Fault::BrokenRoundNeverOccupied,
-    // rounds lead to 30 long before the limit, and one process alone
-    Fault::LimitWithNAnd2,
-    Fault::LimitOneLess,
-    Fault::LimitOneMore,
-    Fault::OccupiedIsANumber,
-    // of two, there is nobody else over whom a refused word could count
-    Fault::FullCountsTheOthers,
-    // the call on bytes is not made
-    Fault::NoImageOnStop,
-    Fault::LentBeforeWordCount,
-    Fault::LentMustBeWords,
-    Fault::ImageFillsAllLent,
-    Fault::ByteLimitIgnored,
-    Fault::OddBytesDropped,
-    Fault::ByteLimitWithoutPasses,
-    Fault::CutWithoutPasses,
-    // no image is read or written
-    Fault::LengthAfterWords,
-    Fault::RangeBeforeForm,
-    Fault::Level30IsLevel,
-    Fault::SpareBitsOfStateIgnored,
-    Fault::PlaceFromImageStart1,
-    Fault::ReadLentBeforeWords,
-    Fault::ReadClearsRowsFirst,
-    Fault::ReadClearsRowsPastTheTable,
-    Fault::ReadAsksFor16Rows,
-    Fault::ReadSizeWith13,
-    Fault::WritesPartWhenShort,
-    Fault::WritesOneWordMore,
-    Fault::OwnPassesInImage,
-    Fault::OwnPassesAreForm,
-    Fault::SpareBitsOfPassesIgnored,
-    Fault::PassWordsTurnedAbout,
-    Fault::PassWordsByColumn,
-    Fault::ShortFormWritten,
-    Fault::ShortFormRefused,
-    Fault::ShortFormKeepsPasses,
-    Fault::LentWithoutPasses,
-    // no engine is asked for a fresh table, to take a word apart or to put one together, or to print
-    Fault::FreshOf17Rows,
-    Fault::FreshKeepsWhatMayBeAnything,
-    Fault::FreshKeepsPasses,
-    Fault::ApartKeepsPartsOnRefusal,
-    Fault::TogetherKeepsWordOnRefusal,
-    Fault::TogetherCutsTheArgument,
-    Fault::ApartRefusesKind6,
-    Fault::ApartTakesKind7,
-    Fault::TogetherRefusesKind6,
-    Fault::TogetherTakesKind7,
-    Fault::FigureFrom0,
-    Fault::FigureKeptFrom30To40,
-    Fault::FigureLoweredFrom40To10,
-    Fault::FigureRaisedFrom21To22,
-    Fault::FigureBeforeTheWord,
-    Fault::PrintedNoneLeftOut,
-    Fault::PrintedCellWithoutIndex,
-    Fault::PrintedIndexOfOneDigit,
-    Fault::PrintedTurnAsAct,
-    Fault::PrintedCellOfWordBefore,
-    Fault::PrintPartWhenShort,
-    Fault::PrintZeroAfterText,
-    Fault::PrintAnswers0WhenShort,
-    Fault::PrintNeedsOneByteMore,
-];
 
 #[test]
 fn two_processes_from_zeros_and_from_every_fresh_table() {
-    let beside = Beside { engine: &Reference, fault: Fault::None, passes: true };
+    let beside = Beside { engine: &Reference, fault: Fault::None, again: true };
     for walk in [ZEROS_OF_2, EVERY_OF_2] {
         assert_eq!((walk.over)(&beside).expect("no difference"), walk.expected, "{}", walk.name);
-    }
-}
-
-#[test]
-fn every_fault_is_in_one_list() {
-    let cells: Vec<Fault> = Fault::of_step_cells().collect();
-    for fault in Fault::ALL {
-        let lists = [&SEEN[..], &cells, &SEEN_WITH_PASSES, &SEEN_WITH_FULL, &SEEN_OF_3, &UNSEEN];
-        let lists = lists.iter().filter(|list| list.contains(&fault)).count();
-        assert_eq!(lists, 1, "{fault:?}");
-    }
-}
-
-/// The reference and the model with the fault differ where the words lead to, passes apart, on that very case.
-fn differs(found: Found<Finding>, fault: Fault) {
-    let Finding::Difference(case) = found.finding else { panic!("{fault:?}: {found:?}") };
-    assert_ne!(case.answer(&Reference), case.answer(&Naive(fault)), "{fault:?}");
-    let (Case::Step { rows, .. } | Case::Census { rows } | Case::Rounds { rows }) = case else {
-        panic!("{fault:?}: {case}")
-    };
-    let mut led_to = found.start;
-    let ran = reference::run(&mut led_to, &found.words, &mut Tally::default());
-    let apart = |rows: Vec<Row>| rows.into_iter().map(Row::without_passes).collect::<Vec<_>>();
-    assert_eq!((ran.refusal, apart(led_to)), (0, apart(rows)), "{fault:?}");
-}
-
-#[test]
-fn faults_that_two_processes_show() {
-    for fault in SEEN.into_iter().chain(Fault::of_step_cells()) {
-        let found = (EVERY_OF_2.over)(&Beside { engine: &Reference, fault, passes: false });
-        differs(found.expect_err(&format!("{fault:?} is seen")), fault);
-    }
-}
-
-/// Those of full counts are not seen where no table is given such.
-#[test]
-fn faults_that_passes_show() {
-    for fault in SEEN_WITH_PASSES.into_iter().chain(SEEN_WITH_FULL) {
-        let found = (ZEROS_OF_2.over)(&Beside { engine: &Reference, fault, passes: true });
-        differs(found.expect_err(&format!("{fault:?} is seen")), fault);
-    }
-    for fault in SEEN_WITH_FULL {
-        let figures = (ZEROS_OF_2.over)(&Beside { engine: &Reference, fault, passes: false });
-        assert_eq!(figures.expect("no difference"), without_full(&ZEROS_OF_2), "{fault:?}");
-    }
-}
-
-/// What a walk counts that gives no words with passes.
-fn without_full(walk: &Walk) -> Figures {
-    let Figures { visited, .. } = walk.expected;
-    Figures { visited: Visited { full: Full::default(), ..visited }, ..walk.expected }
-}
-
-#[test]
-fn faults_that_only_three_processes_show() {
-    for fault in SEEN_OF_3 {
-        let found = (ZEROS_OF_3.over)(&Beside { engine: &Reference, fault, passes: true });
-        differs(found.expect_err(&format!("{fault:?} is seen")), fault);
-    }
-}
-
-#[test]
-fn faults_that_two_processes_do_not_show() {
-    for fault in SEEN_OF_3.into_iter().chain(UNSEEN) {
-        let figures = (EVERY_OF_2.over)(&Beside { engine: &Reference, fault, passes: false });
-        assert_eq!(figures.expect("no difference"), without_full(&EVERY_OF_2), "{fault:?}");
-        let figures = (ZEROS_OF_2.over)(&Beside { engine: &Reference, fault, passes: true });
-        assert_eq!(figures.expect("no difference"), ZEROS_OF_2.expected, "{fault:?}");
     }
 }
 
@@ -277,7 +27,7 @@ fn a_fault_on_both_sides_breaks_demand_3() {
         Fault::CancelAlsoAt21,
     ];
     for fault in faults {
-        let found = (ZEROS_OF_2.over)(&Beside { engine: &Naive(fault), fault, passes: true });
+        let found = (ZEROS_OF_2.over)(&Beside { engine: &Naive(fault), fault, again: true });
         let broken = matches!(&found, Err(Found { finding: Finding::Demand3(_), .. }));
         assert!(broken, "{fault:?}: {found:?}");
     }
@@ -287,7 +37,7 @@ fn a_fault_on_both_sides_breaks_demand_3() {
 #[test]
 fn an_unsound_table_breaks_demand_3() {
     let unsound = [Row { turn: 1, ..Row::IDLE }, Row::IDLE];
-    let found = walk(&[unsound], &Beside { engine: &Reference, fault: Fault::None, passes: true });
+    let found = walk(&[unsound], &Beside { engine: &Reference, fault: Fault::None, again: true });
     assert!(matches!(&found, Err(Found { finding: Finding::Demand3(_), .. })), "{found:?}");
 }
 
@@ -310,7 +60,7 @@ fn a_fault_on_both_sides_breaks_the_exchange() {
         Fault::FlickerUpToN,
     ];
     for fault in faults.into_iter().chain(UNTOLD) {
-        let found = (ZEROS_OF_2.over)(&Beside { engine: &Naive(fault), fault, passes: true })
+        let found = (ZEROS_OF_2.over)(&Beside { engine: &Naive(fault), fault, again: true })
             .expect_err("an order that matters");
         let Finding::Exchange(cases) = &found.finding else { panic!("{fault:?}: {found:?}") };
         let [one, other] = cases.each_ref().map(|case| led_to(case, fault));
@@ -328,7 +78,7 @@ fn led_to(case: &Case, fault: Fault) -> (u16, Vec<Row>) {
 #[test]
 fn cells_too_many_leave_fewer_pairs() {
     for fault in [Fault::Go23FirstCaseReads, Fault::Go23To24Reads, Fault::CancelWritesAct] {
-        let figures = (ZEROS_OF_2.over)(&Beside { engine: &Naive(fault), fault, passes: true }).expect("no difference");
+        let figures = (ZEROS_OF_2.over)(&Beside { engine: &Naive(fault), fault, again: true }).expect("no difference");
         assert!(figures.visited.exchange.apart < ZEROS_OF_2.expected.visited.exchange.apart, "{fault:?}: {figures:?}");
     }
 }
@@ -365,7 +115,7 @@ fn a_fault_on_both_sides_breaks_the_bound() {
     ];
     assert!(TOO_LONG.iter().all(|control| faults.iter().any(|(fault, ..)| fault == control)));
     for (fault, rounds, occupied) in faults {
-        let found = (ZEROS_OF_2.over)(&Beside { engine: &Naive(fault), fault, passes: true })
+        let found = (ZEROS_OF_2.over)(&Beside { engine: &Naive(fault), fault, again: true })
             .expect_err("rounds that are wrong");
         let Finding::Silence(case) = &found.finding else { panic!("{fault:?}: {found:?}") };
         let Answer::Rounds { rounded, .. } = case.answer(&Naive(fault)) else { panic!("{case}") };
@@ -387,6 +137,19 @@ fn passes_few_and_full_are_met() {
     assert_eq!(ZEROS_OF_3.expected.visited.full, Full::default());
 }
 
+/// Words under the other five settings: every candidate, at every table; of those that 0 and 0 accepts the others are
+/// forbidden.
+#[test]
+fn words_under_every_setting_are_met() {
+    for walk in [ZEROS_OF_2, EVERY_OF_2] {
+        let Under { words, accepted, flickers, goes } = walk.expected.visited.under;
+        assert_eq!(words, 5 * (walk.expected.accepted + walk.expected.refused), "{}", walk.name);
+        assert_eq!(accepted + flickers + goes, 5 * walk.expected.accepted, "{}", walk.name);
+        assert!(flickers > 0 && goes > 0, "{}", walk.name);
+    }
+    assert_eq!(ZEROS_OF_3.expected.visited.under, Under::default());
+}
+
 /// The most rounds that a walk must meet are as many as its processes can need; that it meets them is its own check.
 #[test]
 fn the_bound_is_met() {
@@ -403,7 +166,7 @@ fn est_kept_at_go_24_lets_two_of_three_be_at_30() {
     let Found { start, words, .. } = control::<3>().expect_err("two at 30");
     assert_eq!((&start, words.len()), (&vec![Row::IDLE; 3], SHORTEST));
     let mut rows = start;
-    let ran = naive::run(&mut rows, &words, &mut Tally::default(), Fault::EstKeptAtGo24);
+    let ran = naive::run(&mut rows, &words, &mut Tally::default(), 0, 0, Fault::EstKeptAtGo24);
     assert_eq!(ran, Ran { taken: SHORTEST as u32, ..Ran::default() });
     assert_eq!(rows.iter().filter(|row| row.loc == 30).count(), 2);
 }
