@@ -36,13 +36,10 @@ pub extern "C" fn zaguypo_step(rows: &mut [[u16; 24]], word: u32, act: u32, turn
         StepsTo (record { act = act; turn = turn }) word r (rowsOf (now (rows .entry))) (rowsOf (now (rows .exit)))
         ⌝ }
 {
-    let answer = step(
-        rows,
-        word,
-        Settings {
-            act: act,
-            turn: turn,
-        },
-    );
+    let settings = Settings {
+        act: act,
+        turn: turn,
+    };
+    let answer = step(rows, word, settings);
     to_c(answer)
 }
