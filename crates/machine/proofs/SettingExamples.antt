@@ -2,16 +2,16 @@
 -- leaves alone; runs and calls that they stop; and two words that may not be exchanged under one writer.
 --
 -- Assumes nothing.
-use Prim.Native.Nat.{ℕ, _+_, _*_}
+use Prim.Native.Nat.{ℕ, _+_}
 use mathlib.Core.Path.{_≡_, refl}
 use mathlib.Core.List.{List, [], _∷_, _++_, map}
 use lib.ListN.{replicate}
-use Rattle.counting.specs.Ranges.{upTo, every, some}
-use Rattle.machine.specs.Rows.{idle, noPasses, withLocation, withAct, withBb, withLevel, withEst, withPasses}
+use Rattle.counting.specs.Ranges.{upTo, every}
+use Rattle.machine.specs.Rows.{idle, withLocation, withAct, withBb, withLevel, withEst, withPasses}
 use Rattle.machine.specs.Tables.{Table, freshTable}
 use Rattle.machine.specs.Shared.{noCell}
 use Rattle.machine.specs.Settings.{weakest, refusalUnder, afterUnder, listUnder, acceptedOf, stepAnswerUnder}
-use Rattle.machine.specs.Runs.{Outcome, zeroTally, untaken, runOf}
+use Rattle.machine.specs.Runs.{Outcome, untaken, runOf}
 use Rattle.machine.specs.Images
 use Rattle.machine.specs.Bytes.{bytesOf}
 use Rattle.machine.specs.Calls.{callOf}

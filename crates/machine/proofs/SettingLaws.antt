@@ -12,7 +12,7 @@
 --
 -- Assumes nothing.
 use Prim.Native.Nat.{ℕ, _≤_, _<_}
-use mathlib.Core.Path.{_≡_, refl, sym, ap, _∙_, subst}
+use mathlib.Core.Path.{_≡_, refl, sym, _∙_}
 use mathlib.Core.Bool.{Bool, true, false, cond, _&&_, not, false≢true, and-eq-true-iff}
 use mathlib.Core.Logic.{_≢_, _⊎_, inl, inr, ⊎-elim}
 use mathlib.Core.List.{[], _∷_}
@@ -20,12 +20,12 @@ use native.Mathlib.Decide.{ℕ-discrete}
 use native.Mathlib.Omega.{arith}
 use lib.Dec.{eqb, ltb}
 use lib.ListN.{length}
-use borrow.Author.Tests.{eqb-true, eqb-false, eq-eqb, ne-eqb, not-true}
+use borrow.Author.Tests.{eqb-true, eq-eqb, ne-eqb}
 use Rattle.counting.proofs.TestLaws.{split, cond-le}
 use Rattle.machine.specs.Refusals.{accepted, passesFull, plainFlicker, secondWriter}
 use Rattle.machine.specs.Tables.{Table, row, oneOf, sizeFits, soundFrom, tableRefusal}
 use Rattle.machine.specs.Words.{FLICKER, GO, kindOf, processOf, argumentOf, formed}
-use Rattle.machine.specs.Steps.{allowed, argumentFits, overflows, refusalAt, wordRefusal, refusalOf}
+use Rattle.machine.specs.Steps.{allowed, argumentFits, overflows, wordRefusal, refusalOf}
 use Rattle.machine.specs.Settings.{weakest, oneWriter, settingsFit, flickerForbidden, otherWriter, goesTo24}
 use Rattle.machine.specs.Settings.{goForbidden, forbiddenBy, before15, refusalUnder}
 use Rattle.machine.specs.declared.Settings.{Settings}

@@ -13,30 +13,27 @@
 --   exchange-under                        two words in either order, where turn is not to have one writer
 --
 -- Assumes nothing.
-use Prim.Native.Nat.{ℕ, zero, suc, _+_, _≤_, _<_}
-use mathlib.Core.Path.{_≡_, refl, sym, ap, ap₂, _∙_, subst}
+use Prim.Native.Nat.{ℕ, zero, suc, _≤_, _<_}
+use mathlib.Core.Path.{_≡_, refl, sym, ap, _∙_, subst}
 use mathlib.Core.Bool.{Bool, true, false, cond, _&&_, not, false≢true, and-eq-true-iff}
 use mathlib.Core.Logic.{_≢_, _⊎_, inl, inr, ⊎-elim, by-cases}
 use mathlib.Core.List.{List, [], _∷_}
 use native.Mathlib.Decide.{ℕ-discrete, decLt}
 use native.Mathlib.Omega.{arith}
-use lib.Dec.{eqb}
+use lib.Dec.{eqb, leb}
 use lib.ListN.{length, getD, take}
-use borrow.Author.Tests.{eqb-true, eqb-false, eq-eqb, ne-eqb, not-true}
-use Rattle.counting.proofs.TestLaws.{split}
+use borrow.Author.Tests.{eqb-true, eqb-false, leb-true, eq-eqb, ne-eqb, le-leb, not-true}
+use Rattle.counting.proofs.TestLaws.{fails}
 use Rattle.counting.proofs.RangeLaws.{some-one, one-some}
 use Rattle.machine.specs.Tables.{Table, row, sound, tableRefusal}
 use Rattle.machine.specs.Words.{FLICKER, GO, kindOf, processOf}
-use Rattle.machine.specs.Shared.{noCell, clash, own, butHistory}
+use Rattle.machine.specs.Shared.{noCell, clash, butHistory}
 use Rattle.machine.specs.Steps.{gone, moved, refusalOf, afterWord, afterWords, cellOf, answerOf, stepAnswerOf}
 use Rattle.machine.specs.Settings.{weakest, settingsFit, flickerForbidden, writesTurn, otherWriter, goesTo24}
-use Rattle.machine.specs.Settings.{goForbidden, forbiddenBy, refusalUnder, afterUnder, listUnder, acceptedOf}
+use Rattle.machine.specs.Settings.{forbiddenBy, refusalUnder, afterUnder, listUnder, acceptedOf}
 use Rattle.machine.specs.Settings.{answerUnder, stepAnswerUnder}
 use Rattle.machine.specs.declared.Row.{Row}
 use Rattle.machine.specs.declared.Settings.{Settings}
-use Rattle.machine.specs.declared.SharedCell.{SharedCell}
-use Rattle.machine.specs.declared.Stepped.{Stepped}
-use Rattle.machine.specs.declared.StepAnswer.{StepAnswer}
 use Rattle.machine.proofs.TableLaws.{row-over}
 use Rattle.machine.proofs.SoundRows.{sound-accepted, accepted-sound}
 use Rattle.machine.proofs.Accepted as Accepted
@@ -46,7 +43,7 @@ use Rattle.machine.proofs.CellLaws.{refused-cell}
 use Rattle.machine.proofs.CellTheorems.{others-kept, exchange}
 use Rattle.machine.proofs.SettingLaws as Laws
 use Rattle.machine.proofs.SettingLaws.{weakest-free, forbidden-cases}
-use Rattle.machine.proofs.SettingLaws.{Under, Allowed, under-cases, accepted-under, under-accepted}
+use Rattle.machine.proofs.SettingLaws.{Under, under-cases, accepted-under, under-accepted}
 use Rattle.machine.proofs.SettingLaws.{under-forbidden, under-unfit, under-fit, full-free, met-16, met-17, met-18}
 
 -- ---- the step
@@ -127,6 +124,19 @@ under-keeps-sound s t w z =
     (λ a. ap tableRefusal (accepted-same s t w a .1 .table-same) ∙ word-keeps-sound t w z)
     (λ ne. ap tableRefusal (refused-under s t w ne .0) ∙ z)
 
+-- ---- settings that fit
+
+-- act is 0 or 1, and turn 0, 1 or 2
+abbrev pub Fits : Settings → Type 0
+Fits s = (s .act ≤ 1) × (s .turn ≤ 2)
+
+fit-says : (s : Settings) → settingsFit s ≡ true → Fits s
+fit-says s h =
+    let both = and-eq-true-iff (leb (s .act) 1) (leb (s .turn) 2) .0 h in (leb-true _ _ (both .0), leb-true _ _ (both .1))
+
+says-fit : (s : Settings) → Fits s → settingsFit s ≡ true
+says-fit s (a, u) = and-eq-true-iff _ _ .1 (le-leb _ _ a, le-leb _ _ u)
+
 -- ---- which words are forbidden
 
 -- A word meets 16 just where the settings are two of those listed, the word is accepted under 0 and 0, it is FLICKER,
@@ -135,14 +145,14 @@ under-keeps-sound s t w z =
 -- any; 16 before 11; a setting that forbids nothing.
 pub forbidden-flicker : (s : Settings) (t : Table) (w : ℕ)
     → refusalUnder s t w ≡ 16
-    → (settingsFit s ≡ true)
+    → Fits s
     × (refusalOf t w ≡ 0)
     × (kindOf w ≡ FLICKER)
     × (((row t (processOf w) .location ≡ 24) × (s .turn ≡ 2))
     ⊎ ((row t (processOf w) .location ≢ 24) × (s .act ≡ 1)))
 forbidden-flicker s t w e =
     let m = met-16 s t w e in
-    (m .0 .settings-fit, m .0 .not-refused, m .1 .0, go (ℕ-discrete (row t (processOf w) .location) 24) (m .1 .1))
+    (fit-says s (m .0 .settings-fit), m .0 .not-refused, m .1 .0, go (ℕ-discrete (row t (processOf w) .location) 24) (m .1 .1))
   where
     go : Dec (row t (processOf w) .location ≡ 24)
         → flickerForbidden s (row t (processOf w)) ≡ true
@@ -152,7 +162,7 @@ forbidden-flicker s t w e =
     go (no l) h = inr (l, eqb-true _ _ (rw (ne-eqb _ _ l) at h))
 
 pub flicker-forbidden : (s : Settings) (t : Table) (w : ℕ)
-    → settingsFit s ≡ true
+    → Fits s
     → refusalOf t w ≡ 0
     → kindOf w ≡ FLICKER
     → ((row t (processOf w) .location ≡ 24) × (s .turn ≡ 2))
@@ -160,7 +170,7 @@ pub flicker-forbidden : (s : Settings) (t : Table) (w : ℕ)
     → refusalUnder s t w ≡ 16
 flicker-forbidden s t w fit n k h =
     let f = Laws.flicker-forbidden s t (kindOf w) (processOf w) k (go h) in
-    under-forbidden s t w (record { settings-fit = fit; not-refused = n }) (omega (arith, f)) ∙ f
+    under-forbidden s t w (record { settings-fit = says-fit s fit; not-refused = n }) (omega (arith, f)) ∙ f
   where
     go : ((row t (processOf w) .location ≡ 24) × (s .turn ≡ 2))
         ⊎ ((row t (processOf w) .location ≢ 24) × (s .act ≡ 1))
@@ -183,7 +193,7 @@ Writer t p q = (q ≢ p) × (row t q .location ≡ 24) × (row t q .level ≡ ro
 -- level, or at 23 of the same; 17 before 11; one writer that lets a second one in.
 pub forbidden-go : (s : Settings) (t : Table) (w : ℕ)
     → refusalUnder s t w ≡ 17
-    → (settingsFit s ≡ true)
+    → Fits s
     × (refusalOf t w ≡ 0)
     × (kindOf w ≡ GO)
     × (s .turn ≡ 1)
@@ -202,7 +212,7 @@ forbidden-go s t w e =
     let other = some-one _ (length t) (goes .1) in
     let apart = and-eq-true-iff (not (eqb (other .0) p)) _ .0 (other .2) in
     let writes = and-eq-true-iff (eqb (row t (other .0) .location) 24) _ .0 (apart .1) in (
-      m .0 .settings-fit,
+      fit-says s (m .0 .settings-fit),
       n,
       k,
       eqb-true _ _ (one .0),
@@ -213,7 +223,7 @@ forbidden-go s t w e =
     )
 
 pub go-forbidden : (s : Settings) (t : Table) (w q : ℕ)
-    → settingsFit s ≡ true
+    → Fits s
     → refusalOf t w ≡ 0
     → kindOf w ≡ GO
     → s .turn ≡ 1
@@ -229,7 +239,7 @@ go-forbidden s t w q fit n k one l m (ne, there, level) =
     (inside q there) (rw (ne-eqb _ _ ne, eq-eqb _ _ there, eq-eqb _ _ level) refl) in
     let f = Laws.go-forbidden s t (kindOf w) p k
     (rw (eq-eqb _ _ one, eq-eqb _ _ l, eq-eqb _ _ goes) other) in
-    under-forbidden s t w (record { settings-fit = fit; not-refused = n }) (omega (arith, f)) ∙ f
+    under-forbidden s t w (record { settings-fit = says-fit s fit; not-refused = n }) (omega (arith, f)) ∙ f
   where
     inside : (q : ℕ) → row t q .location ≡ 24 → q < length t
     inside q e = by-cases (decLt q (length t)) (λ h. h)
@@ -239,14 +249,24 @@ go-forbidden s t w q fit n k one l m (ne, there, level) =
 -- Excludes: 18 before 7, or after 8; act 2, turn 3, or a value of which only some bits are looked at.
 pub unfit-settings : (s : Settings) (t : Table) (w : ℕ)
     → refusalUnder s t w ≡ 18
-    → (sound t ≡ true) × (settingsFit s ≡ false)
-unfit-settings s t w e = let m = met-18 s t w e in (accepted-sound t (m .0), m .1)
+    → (sound t ≡ true) × ((1 < s .act) ⊎ (2 < s .turn))
+unfit-settings s t w e = let m = met-18 s t w e in (accepted-sound t (m .0), go (decLt 1 (s .act)) (decLt 2 (s .turn)) (m .1))
+  where
+    go : Dec (1 < s .act) → Dec (2 < s .turn) → settingsFit s ≡ false → (1 < s .act) ⊎ (2 < s .turn)
+    go (yes a) u h = inl a
+    go (no a) (yes u) h = inr u
+    go (no a) (no u) h =
+        absurd (false≢true (sym h ∙ says-fit s (omega (arith, a), omega (arith, u))))
 
 pub settings-unfit : (s : Settings) (t : Table) (w : ℕ)
     → sound t ≡ true
-    → settingsFit s ≡ false
+    → (1 < s .act) ⊎ (2 < s .turn)
     → refusalUnder s t w ≡ 18
-settings-unfit s t w h f = under-unfit s t w (sound-accepted t h) f
+settings-unfit s t w h o = under-unfit s t w (sound-accepted t h) (fails (settingsFit s) (λ f. go o (fit-says s f)))
+  where
+    go : (1 < s .act) ⊎ (2 < s .turn) → Fits s → ⊥
+    go (inl a) f = omega (arith, a, f .0)
+    go (inr u) f = omega (arith, u, f .1)
 
 -- ---- lists
 

@@ -30,7 +30,7 @@ use Rattle.machine.proofs.SettingLaws.{before15-cases, before15-free}
 use Rattle.rows.specs.Pushing.{toPush}
 use Rattle.cells.specs.View.{rowsOf}
 use Rattle.cells.specs.Writers.{hasWriter}
-use Rattle.steps.specs.Moves.{rowRefusal, refusalBy, TakesBy, Takes, TakesUnder}
+use Rattle.steps.specs.Moves.{rowRefusal, TakesBy, Takes, TakesUnder}
 use Rattle.steps.proofs.TakeLaws.{refused-early, refused-late, row-refusals, refused-with}
 
 -- ---- GO
