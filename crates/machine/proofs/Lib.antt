@@ -22,6 +22,7 @@ pub mod SameOutcome
 pub mod RoundLaws
 pub mod FullLaws
 pub mod SettingLaws
+pub mod AllowedSteps
 pub mod RoundAnswers
 pub mod OwnMoves
 pub mod Arriving

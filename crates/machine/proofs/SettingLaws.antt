@@ -1,6 +1,7 @@
 -- Laws of the step under settings: which check answers, and which words the settings forbid.
 --
 --   refusal-low                            no refusal of the step without settings is above 15
+--   goes-by                                where GO goes from 23 to 24, by the row
 --   flicker-forbidden, flicker-free, go-forbidden, go-free, others-free, weakest-free    what forbiddenBy answers
 --   Flickers, Goes, forbidden-cases        what 16, and what 17, says
 --   before15-cases, before15-zero, before15-free    16 and 17 between 11 and 15
@@ -12,7 +13,7 @@
 --
 -- Assumes nothing.
 use Prim.Native.Nat.{ℕ, _≤_, _<_}
-use mathlib.Core.Path.{_≡_, refl, sym, _∙_}
+use mathlib.Core.Path.{_≡_, refl, sym, ap, _∙_}
 use mathlib.Core.Bool.{Bool, true, false, cond, _&&_, not, false≢true, and-eq-true-iff}
 use mathlib.Core.Logic.{_≢_, _⊎_, inl, inr, ⊎-elim}
 use mathlib.Core.List.{[], _∷_}
@@ -20,15 +21,19 @@ use native.Mathlib.Decide.{ℕ-discrete}
 use native.Mathlib.Omega.{arith}
 use lib.Dec.{eqb, ltb}
 use lib.ListN.{length}
-use borrow.Author.Tests.{eqb-true, eq-eqb, ne-eqb}
+use borrow.Author.Tests.{eqb-true, eq-eqb, ne-eqb, lt-ltb, le-ltb}
+use Rattle.counting.specs.Sets.{size}
 use Rattle.counting.proofs.TestLaws.{split, cond-le}
 use Rattle.machine.specs.Refusals.{accepted, passesFull, plainFlicker, secondWriter}
 use Rattle.machine.specs.Tables.{Table, row, oneOf, sizeFits, soundFrom, tableRefusal}
 use Rattle.machine.specs.Words.{FLICKER, GO, kindOf, processOf, argumentOf, formed}
-use Rattle.machine.specs.Steps.{allowed, argumentFits, overflows, wordRefusal, refusalOf}
+use Rattle.machine.specs.Steps.{reconsidered, gone, allowed, argumentFits, overflows, wordRefusal, refusalOf}
 use Rattle.machine.specs.Settings.{weakest, oneWriter, settingsFit, flickerForbidden, otherWriter, goesTo24}
 use Rattle.machine.specs.Settings.{goForbidden, forbiddenBy, before15, refusalUnder}
+use Rattle.machine.specs.declared.Row.{Row}
 use Rattle.machine.specs.declared.Settings.{Settings}
+use Rattle.machine.proofs.TableLaws.{row-same}
+use Rattle.machine.proofs.Forms.{reconsidered-cases, gone-23}
 use Rattle.machine.proofs.Accepted.{accepted-table}
 use Rattle.machine.proofs.FullLaws.{full-go}
 
@@ -45,6 +50,34 @@ refusal-low t w =
     (cond-le (overflows t (kindOf w) (processOf w)) 15 0 15 (omega arith) (omega arith))))))
     (cond-le (not (sizeFits (length t))) 6 _ 15 (omega arith)
     (cond-le (not (soundFrom (length t) 0 t)) 7 0 15 (omega arith) (omega arith)))
+
+-- ---- where GO goes from 23 to 24
+
+-- at 23 by est, level and bb
+to-24 : (p v : ℕ) (r : Row)
+    → eqb (reconsidered p v r .location) 24 ≡ (not (ltb (size (r .est)) (r .level)) && eqb (r .bb) 0)
+to-24 p v r =
+    let low = ltb (size (r .est)) (r .level) in
+    reconsidered-cases (λ x. eqb (x .location) 24 ≡ (not low && eqb (r .bb) 0)) p v r
+    (λ h. rw (lt-ltb _ _ h) refl)
+    (λ h z. rw (le-ltb _ _ h, eq-eqb _ _ z) refl)
+    (λ h z _. rw (le-ltb _ _ h, ne-eqb _ _ z) refl)
+    (λ h z _. rw (le-ltb _ _ h, ne-eqb _ _ z) refl)
+
+pub goes-by : (t : Table) (p : ℕ)
+    → p < length t
+    → goesTo24 t p
+    ≡ (eqb (row t p .location) 23 && (not (ltb (size (row t p .est)) (row t p .level)) && eqb (row t p .bb) 0))
+unfolding goesTo24
+goes-by t p l =
+    split (λ b. (b && eqb (row (gone t p) p .location) 24)
+    ≡ (b && (not (ltb (size (row t p .est)) (row t p .level)) && eqb (row t p .bb) 0)))
+    (eqb (row t p .location) 23)
+    (λ e.
+    ap (λ (u : Table). eqb (row u p .location) 24) (gone-23 t p (eqb-true _ _ e))
+    ∙ ap (λ (r : Row). eqb (r .location) 24) (row-same t p _ l)
+    ∙ to-24 p _ (row t p))
+    (λ _. refl)
 
 -- ---- what is forbidden
 

@@ -8,6 +8,7 @@
 --   forbidden-flicker, flicker-forbidden  which words meet 16
 --   forbidden-go, go-forbidden            which words meet 17
 --   unfit-settings, settings-unfit        which words meet 18
+--   word-is-allowed-step, one-allowed-word, left-out-word    words and the steps of the system that settings leave
 --   accepted-list, each-accepted          a list under settings is its accepted words under 0 and 0
 --   allowed-run                           a run under settings is the run of the words it took under 0 and 0
 --   exchange-under                        two words in either order, where turn is not to have one writer
@@ -15,7 +16,7 @@
 -- Assumes nothing.
 use Prim.Native.Nat.{ℕ, zero, suc, _≤_, _<_}
 use mathlib.Core.Path.{_≡_, refl, sym, ap, _∙_, subst}
-use mathlib.Core.Bool.{Bool, true, false, cond, _&&_, not, false≢true, and-eq-true-iff}
+use mathlib.Core.Bool.{Bool, true, false, cond, not, false≢true, and-eq-true-iff}
 use mathlib.Core.Logic.{_≢_, _⊎_, inl, inr, ⊎-elim, by-cases}
 use mathlib.Core.List.{List, [], _∷_}
 use native.Mathlib.Decide.{ℕ-discrete, decLt}
@@ -24,23 +25,25 @@ use lib.Dec.{eqb, leb}
 use lib.ListN.{length, getD, take}
 use borrow.Author.Tests.{eqb-true, eqb-false, leb-true, eq-eqb, ne-eqb, le-leb, not-true}
 use Rattle.counting.proofs.TestLaws.{fails}
-use Rattle.counting.proofs.RangeLaws.{some-one, one-some}
+use Rattle.counting.proofs.RangeLaws.{some-one}
 use Rattle.machine.specs.Tables.{Table, row, sound, tableRefusal}
 use Rattle.machine.specs.Words.{FLICKER, GO, kindOf, processOf}
 use Rattle.machine.specs.Shared.{noCell, clash, butHistory}
 use Rattle.machine.specs.Steps.{gone, moved, refusalOf, afterWord, afterWords, cellOf, answerOf, stepAnswerOf}
-use Rattle.machine.specs.Settings.{weakest, settingsFit, flickerForbidden, writesTurn, otherWriter, goesTo24}
+use Rattle.machine.specs.Settings.{weakest, settingsFit, flickerForbidden, otherWriter, goesTo24}
 use Rattle.machine.specs.Settings.{forbiddenBy, refusalUnder, afterUnder, listUnder, acceptedOf}
 use Rattle.machine.specs.Settings.{answerUnder, stepAnswerUnder}
+use Rattle.machine.specs.System.{Step, stepWord, StepAllowed}
 use Rattle.machine.specs.declared.Row.{Row}
 use Rattle.machine.specs.declared.Settings.{Settings}
-use Rattle.machine.proofs.TableLaws.{row-over}
 use Rattle.machine.proofs.SoundRows.{sound-accepted, accepted-sound}
 use Rattle.machine.proofs.Accepted as Accepted
 use Rattle.machine.proofs.Soundness.{word-keeps-sound}
 use Rattle.machine.proofs.FullLaws.{full-word}
 use Rattle.machine.proofs.CellLaws.{refused-cell}
 use Rattle.machine.proofs.CellTheorems.{others-kept, exchange}
+use Rattle.machine.proofs.WordsAreSteps.{word-is-step, one-word}
+use Rattle.machine.proofs.AllowedSteps.{allowed-free, free-allowed, beside-forbidden}
 use Rattle.machine.proofs.SettingLaws as Laws
 use Rattle.machine.proofs.SettingLaws.{weakest-free, forbidden-cases}
 use Rattle.machine.proofs.SettingLaws.{Under, under-cases, accepted-under, under-accepted}
@@ -231,19 +234,15 @@ pub go-forbidden : (s : Settings) (t : Table) (w q : ℕ)
     → row (afterWord t w) (processOf w) .location ≡ 24
     → Writer t (processOf w) q
     → refusalUnder s t w ≡ 17
-unfolding otherWriter goesTo24
+unfolding goesTo24
 go-forbidden s t w q fit n k one l m (ne, there, level) =
     let p = processOf w in
     let goes = ap (λ (u : Table). row u p .location) (sym (go-gone t w n k)) ∙ m in
-    let other = one-some (λ i. not (eqb i p) && writesTurn (row t p .level) (row t i)) (length t) q
-    (inside q there) (rw (ne-eqb _ _ ne, eq-eqb _ _ there, eq-eqb _ _ level) refl) in
-    let f = Laws.go-forbidden s t (kindOf w) p k
-    (rw (eq-eqb _ _ one, eq-eqb _ _ l, eq-eqb _ _ goes) other) in
+    let to-24 = and-eq-true-iff _ _ .1 (eq-eqb _ _ l, eq-eqb _ _ goes) in
+    let sound = Accepted.accepted-table t w n in
+    let inside = Accepted.accepted-process t w n in
+    let f = Laws.go-forbidden s t (kindOf w) p k (beside-forbidden s t p sound inside q one to-24 ne there level) in
     under-forbidden s t w (record { settings-fit = says-fit s fit; not-refused = n }) (omega (arith, f)) ∙ f
-  where
-    inside : (q : ℕ) → row t q .location ≡ 24 → q < length t
-    inside q e = by-cases (decLt q (length t)) (λ h. h)
-        (λ nl. absurd (omega (arith, e, ap (λ (r : Row). r .location) (row-over t q (omega (arith, nl))))))
 
 -- A word meets 18 just where the table is sound and one of the settings is none of those listed, whatever the word.
 -- Excludes: 18 before 7, or after 8; act 2, turn 3, or a value of which only some bits are looked at.
@@ -267,6 +266,75 @@ settings-unfit s t w h o = under-unfit s t w (sound-accepted t h) (fails (settin
     go : (1 < s .act) ⊎ (2 < s .turn) → Fits s → ⊥
     go (inl a) f = omega (arith, a, f .0)
     go (inr u) f = omega (arith, u, f .1)
+
+-- ---- demand 2 under settings
+
+-- 15 is met under settings where it is met under 0 and 0
+full-under : (s : Settings) (t : Table) (w : ℕ)
+    → settingsFit s ≡ true
+    → refusalOf t w ≡ 15
+    → refusalUnder s t w ≡ 15
+full-under s t w fit e =
+    under-fit s t w (sound-accepted t (full-word t w e .0)) fit ∙ rw (full-free s t w e, e) refl
+
+-- A word that is accepted under settings is the word of a step of the system that these leave, by the process that it
+-- names, from a sound table to the table after the word.
+-- Excludes: a setting that accepts a FLICKER of a plain cell, or a second writer where one is to be alone.
+pub word-is-allowed-step : (s : Settings) (t : Table) (w : ℕ)
+    → refusalUnder s t w ≡ 0
+    → (sound t ≡ true)
+    × (processOf w < length t)
+    × (x : Step t (processOf w) (afterUnder s t w))
+    × (stepWord (processOf w) x ≡ w)
+    × StepAllowed s (processOf w) x
+word-is-allowed-step s t w z =
+    let n = accepted-same s t w z in
+    let p = processOf w in
+    let (h, l, x, e) = word-is-step t w (n .0) in
+    let free = subst (λ (v : ℕ). forbiddenBy s t (kindOf v) (processOf v) ≡ 0) (sym e) (accepted-under s t w z .1) in
+    let allowed = free-allowed s t p (sound-accepted t h) l x free in
+    subst
+    (λ (u : Table). (sound t ≡ true) × (p < length t) × (y : Step t p u) × (stepWord p y ≡ w) × StepAllowed s p y)
+    (sym (n .1 .table-same))
+    (h, l, x, e, allowed)
+
+-- Every step of a process of a sound table that settings leave is what its word does under them, and no other word of
+-- that process; or its word is the one that meets 15. A step that they do not leave has a word that they refuse.
+-- Excludes: a setting that refuses more than it forbids, such as every GO at 23, or every FLICKER.
+pub one-allowed-word : (s : Settings) (t u : Table) (p : ℕ)
+    → sound t ≡ true
+    → p < length t
+    → Fits s
+    → (x : Step t p u)
+    → StepAllowed s p x
+    → ((processOf (stepWord p x) ≡ p)
+    × (refusalUnder s t (stepWord p x) ≡ 0)
+    × (afterUnder s t (stepWord p x) ≡ u)
+    × ((v : ℕ) → processOf v ≡ p → refusalUnder s t v ≡ 0 → afterUnder s t v ≡ u → v ≡ stepWord p x))
+    ⊎ ((processOf (stepWord p x) ≡ p) × (refusalUnder s t (stepWord p x) ≡ 15))
+one-allowed-word s t u p h l fit x allowed =
+    let w = stepWord p x in
+    let free = allowed-free s t p (sound-accepted t h) l x allowed in
+    ⊎-elim
+    (λ o.
+    let z = under-accepted s t w (record { settings-fit = says-fit s fit; not-refused = o .1 }) free in
+    inl (
+      o .0,
+      z,
+      accepted-same s t w z .1 .table-same ∙ o .2,
+      λ v i y e. let n = accepted-same s t v y in o .3 v i (n .0) (sym (n .1 .table-same) ∙ e),
+    ))
+    (λ o. inr (o .0, full-under s t w (says-fit s fit) (o .1)))
+    (one-word t u p h l x)
+
+pub left-out-word : (s : Settings) (t u : Table) (p : ℕ)
+    → sound t ≡ true
+    → p < length t
+    → (x : Step t p u)
+    → (StepAllowed s p x → ⊥)
+    → refusalUnder s t (stepWord p x) ≢ 0
+left-out-word s t u p h l x out z =
+    out (free-allowed s t p (sound-accepted t h) l x (accepted-under s t (stepWord p x) z .1))
 
 -- ---- lists
 
@@ -337,14 +405,6 @@ accepted-after s t v w one z ne n =
     (same-forbidden s t (afterWord t v) (kindOf w) (processOf w) one
     (ap (λ (r : Row). r .location) (others-kept t v (processOf w) (λ e. ne (sym e))))
     ∙ a .1)
-
--- 15 is met under settings where it is met under 0 and 0
-full-under : (s : Settings) (t : Table) (w : ℕ)
-    → settingsFit s ≡ true
-    → refusalOf t w ≡ 15
-    → refusalUnder s t w ≡ 15
-full-under s t w fit e =
-    under-fit s t w (sound-accepted t (full-word t w e .0)) fit ∙ rw (full-free s t w e, e) refl
 
 -- Two words as for `exchange` of CellTheorems.antt, under settings of which turn is 0 or 2, and act either: each is
 -- accepted after the other under the same settings, and both orders lead to the same table, history apart.

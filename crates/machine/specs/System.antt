@@ -6,6 +6,7 @@
 --                      gives up at 20 (`cancels`).
 --   stepWord p x  ==   the event word that stands for the step x of process p, with its choice.
 --   stepCell p x  ==   the shared cell that this step reads or writes.
+--   StepAllowed s p x  <=>  the settings s leave this step.
 --
 -- A second reading of the paper: one constructor for each alternative, and then `cancels`; the guards are premises, the
 -- assignments stand in the paper's order, by the cell setters, the set operations and, for counts, a list by its places
@@ -28,6 +29,7 @@ use Rattle.machine.specs.Tables.{Table, row}
 use Rattle.machine.specs.Words.{STAY, COME, FLICKER, GO, LOOK, CANCEL, wordOf}
 use Rattle.machine.specs.Shared.{noCell, actRead, actWritten, turnRead, turnWritten}
 use Rattle.machine.specs.declared.Row.{Row}
+use Rattle.machine.specs.declared.Settings.{Settings}
 use Rattle.machine.specs.declared.SharedCell.{SharedCell}
 
 -- the assignment of private variables of p, and of act[p]
@@ -160,3 +162,28 @@ stepCell p (exits e) = noCell
 stepCell p (flickers-40 a e h) = actWritten p
 stepCell p (leaves e) = actWritten p
 stepCell p (cancels e) = noCell
+
+-- the steps that settings leave, a second reading beside Settings.antt: act[p] flickers unless act is plain, 1; turn
+-- flickers unless it is plain, 2; where turn is to have one writer, 1, a process comes to 24 only while no other is at 24
+-- with its level; of all other alternatives settings say nothing
+abbrev pub StepAllowed : Settings → {t u : Table} (p : ℕ) → Step t p u → Type 0
+StepAllowed s p (rests e) = Unit {0}
+StepAllowed s p (comes e) = Unit {0}
+StepAllowed s p (flickers-20 a e h) = s .act ≡ 1 → ⊥
+StepAllowed s p (enters e) = Unit {0}
+StepAllowed s p (starts-scan e h) = Unit {0}
+StepAllowed s p (wins e h) = Unit {0}
+StepAllowed s p (discards q e h a) = Unit {0}
+StepAllowed s p (keeps q e h a) = Unit {0}
+StepAllowed s p (ends-scan e h) = Unit {0}
+StepAllowed s p (lowers e h) = Unit {0}
+StepAllowed s {t} p (to-push e h b) =
+    s .turn ≡ 1 → (q : ℕ) → (q ≡ p → ⊥) → row t q .location ≡ 24 → row t q .level ≡ row t p .level → ⊥
+StepAllowed s p (waits e h b v) = Unit {0}
+StepAllowed s p (skips e h b v) = Unit {0}
+StepAllowed s p (flickers-24 a e h) = s .turn ≡ 2 → ⊥
+StepAllowed s p (pushes e) = Unit {0}
+StepAllowed s p (exits e) = Unit {0}
+StepAllowed s p (flickers-40 a e h) = s .act ≡ 1 → ⊥
+StepAllowed s p (leaves e) = Unit {0}
+StepAllowed s p (cancels e) = Unit {0}

@@ -11,22 +11,17 @@ use mathlib.Core.Logic.{_≢_, _⊎_, inl, inr}
 use mathlib.Core.List.{List}
 use native.Mathlib.Decide.{ℕ-discrete}
 use native.Mathlib.Omega.{arith}
-use lib.Dec.{eqb, ltb}
+use lib.Dec.{eqb}
 use lib.ListN.{length}
-use borrow.Author.Tests.{eqb-true, eq-eqb, ne-eqb, lt-ltb, le-ltb}
-use Rattle.counting.specs.Sets.{size}
-use Rattle.counting.proofs.TestLaws.{split}
+use borrow.Author.Tests.{eqb-true, eq-eqb, ne-eqb}
 use Rattle.counting.proofs.RangeLaws.{some-cong}
 use Rattle.machine.specs.Refusals.{accepted, passesFull}
 use Rattle.machine.specs.Tables.{Table, row}
-use Rattle.machine.specs.Steps.{reconsidered, gone, overflows, refusalAt}
-use Rattle.machine.specs.Settings.{writesTurn, otherWriter, goesTo24, goForbidden, forbiddenBy, before15}
-use Rattle.machine.specs.declared.Row.{Row}
+use Rattle.machine.specs.Steps.{overflows, refusalAt}
+use Rattle.machine.specs.Settings.{writesTurn, otherWriter, goForbidden, forbiddenBy, before15}
 use Rattle.machine.specs.declared.Settings.{Settings}
 use Rattle.machine.specs.declared.Stepped.{Stepped}
-use Rattle.machine.proofs.TableLaws.{row-same}
-use Rattle.machine.proofs.Forms.{reconsidered-cases, gone-23}
-use Rattle.machine.proofs.SettingLaws.{before15-cases, before15-free}
+use Rattle.machine.proofs.SettingLaws.{goes-by, before15-cases, before15-free}
 use Rattle.rows.specs.Pushing.{toPush}
 use Rattle.cells.specs.View.{rowsOf}
 use Rattle.cells.specs.Writers.{hasWriter}
@@ -35,30 +30,7 @@ use Rattle.steps.proofs.TakeLaws.{refused-early, refused-late, row-refu
 
 -- ---- GO
 
--- GO at 23 goes to 24 by est, level and bb
-to-24 : (p v : ℕ) (r : Row)
-    → eqb (reconsidered p v r .location) 24 ≡ (not (ltb (size (r .est)) (r .level)) && eqb (r .bb) 0)
-to-24 p v r =
-    let low = ltb (size (r .est)) (r .level) in
-    reconsidered-cases (λ x. eqb (x .location) 24 ≡ (not low && eqb (r .bb) 0)) p v r
-    (λ h. rw (lt-ltb _ _ h) refl)
-    (λ h z. rw (le-ltb _ _ h, eq-eqb _ _ z) refl)
-    (λ h z _. rw (le-ltb _ _ h, ne-eqb _ _ z) refl)
-    (λ h z _. rw (le-ltb _ _ h, ne-eqb _ _ z) refl)
-
 module _ (t : Table) (p : ℕ) where
-  push-so : p < length t → goesTo24 t p ≡ toPush (row t p)
-  unfolding goesTo24
-  push-so l =
-      split (λ b. (b && eqb (row (gone t p) p .location) 24)
-      ≡ (b && (not (ltb (size (row t p .est)) (row t p .level)) && eqb (row t p .bb) 0)))
-      (eqb (row t p .location) 23)
-      (λ e.
-      ap (λ (u : Table). eqb (row u p .location) 24) (gone-23 t p (eqb-true _ _ e))
-      ∙ ap (λ (r : Row). eqb (r .location) 24) (row-same t p _ l)
-      ∙ to-24 p _ (row t p))
-      (λ _. refl)
-
   -- a process at 23 is not at 24 itself
   writer-so : row t p .location ≡ 23 → otherWriter t p ≡ hasWriter (row t p .level) t
   unfolding otherWriter
@@ -74,13 +46,13 @@ module _ (t : Table) (p : ℕ) where
     forbids-not ne = rw (ne-eqb (m .turn) 1 ne) refl
 
     pub forbids-away : m .turn ≡ 1 → p < length t → toPush (row t p) ≡ false → goForbidden m t p ≡ false
-    forbids-away one l h = rw (eq-eqb (m .turn) 1 one, push-so l, h) refl
+    forbids-away one l h = rw (eq-eqb (m .turn) 1 one, goes-by t p l, h) refl
 
     pub forbids-by : m .turn ≡ 1 → p < length t → toPush (row t p) ≡ true
         → goForbidden m t p ≡ hasWriter (row t p .level) t
     forbids-by one l h =
         let at-23 = eqb-true _ _ (and-eq-true-iff (eqb (row t p .location) 23) _ .0 h .0) in
-        rw (eq-eqb (m .turn) 1 one, push-so l, h) (writer-so at-23)
+        rw (eq-eqb (m .turn) 1 one, goes-by t p l, h) (writer-so at-23)
 
 -- ---- a kind taken under settings
 
