@@ -5,21 +5,19 @@
 --
 -- Assumes nothing.
 use Prim.Native.Nat.{ℕ, _≤_, _<_}
-use mathlib.Core.Path.{_≡_, refl, sym, ap, ap₂, _∙_}
-use mathlib.Core.Bool.{Bool, true, false, cond, _&&_, not, and-eq-true-iff}
-use mathlib.Core.Logic.{_≢_, by-cases}
-use native.Mathlib.Decide.{ℕ-discrete, decLt}
+use mathlib.Core.Path.{_≡_, refl, ap, ap₂, _∙_}
+use mathlib.Core.Bool.{true, false, _&&_, not, and-eq-true-iff}
+use mathlib.Core.Logic.{_≢_}
+use native.Mathlib.Decide.{decLt}
 use native.Mathlib.Omega.{arith}
 use lib.Dec.{eqb}
-use lib.ListN.{length, set}
+use lib.ListN.{length}
 use borrow.Author.Tests.{eqb-true, eqb-false, eq-eqb, ne-eqb, lt-ltb, le-ltb, not-true}
 use Rattle.counting.specs.Sets.{size}
 use Rattle.counting.proofs.TestLaws.{split, fails}
 use Rattle.counting.proofs.RangeLaws.{some-one, one-some}
-use Rattle.machine.specs.Rows.{withLocation}
 use Rattle.machine.specs.Tables.{Table, row, tableRefusal}
 use Rattle.machine.specs.Words.{STAY, COME, FLICKER, GO, LOOK, CANCEL, kindOf, processOf, wordOf}
-use Rattle.machine.specs.Steps.{reconsidered, gone}
 use Rattle.machine.specs.Settings.{flickerForbidden, writesTurn, otherWriter, goesTo24, goForbidden, forbiddenBy}
 use Rattle.machine.specs.System.{Step, stepWord, StepAllowed}
 use Rattle.machine.specs.System.Step.{rests, comes, flickers-20, enters, starts-scan, wins, discards, keeps}
@@ -27,9 +25,8 @@ use Rattle.machine.specs.System.Step.{ends-scan, lowers, to-push, waits,
 use Rattle.machine.specs.System.Step.{flickers-40, leaves, cancels}
 use Rattle.machine.specs.declared.Row.{Row}
 use Rattle.machine.specs.declared.Settings.{Settings}
-use Rattle.machine.proofs.TableLaws.{row-same, row-over}
+use Rattle.machine.proofs.TableLaws.{row-over}
 use Rattle.machine.proofs.SoundRows.{sound-few}
-use Rattle.machine.proofs.Forms.{gone-23}
 use Rattle.machine.proofs.WordLaws.{kind-wordOf, process-wordOf}
 use Rattle.machine.proofs.OneWord.{member-low}
 use Rattle.machine.proofs.SettingLaws.{goes-by, flicker-forbidden, flicker-free, go-forbidden, go-free, others-free}

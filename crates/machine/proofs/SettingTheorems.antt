@@ -32,7 +32,7 @@ use Rattle.machine.specs.Shared.{noCell, clash, butHistory}
 use Rattle.machine.specs.Steps.{gone, moved, refusalOf, afterWord, afterWords, cellOf, answerOf, stepAnswerOf}
 use Rattle.machine.specs.Settings.{weakest, settingsFit, flickerForbidden, otherWriter, goesTo24}
 use Rattle.machine.specs.Settings.{forbiddenBy, refusalUnder, afterUnder, listUnder, acceptedOf}
-use Rattle.machine.specs.Settings.{answerUnder, stepAnswerUnder}
+use Rattle.machine.specs.Settings.{answerUnder, stepAnswerUnder, SameStep}
 use Rattle.machine.specs.System.{Step, stepWord, StepAllowed}
 use Rattle.machine.specs.declared.Row.{Row}
 use Rattle.machine.specs.declared.Settings.{Settings}
@@ -50,13 +50,6 @@ use Rattle.machine.proofs.SettingLaws.{Under, under-cases, accepted-und
 use Rattle.machine.proofs.SettingLaws.{under-forbidden, under-unfit, under-fit, full-free, met-16, met-17, met-18}
 
 -- ---- the step
-
--- what a step hands back
-pub record SameStep (s : Settings) (t : Table) (w : ℕ) : Type 0 where
-  pub refusal-same : refusalUnder s t w ≡ refusalOf t w
-  pub table-same : afterUnder s t w ≡ afterWord t w
-  pub answer-same : answerUnder s t w ≡ answerOf t w
-  pub to-c-same : stepAnswerUnder s t w ≡ stepAnswerOf t w
 
 -- where the refusal is the same, so is everything else
 same-step : (s : Settings) (t : Table) (w : ℕ) → refusalUnder s t w ≡ refusalOf t w → SameStep s t w

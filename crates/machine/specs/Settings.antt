@@ -12,9 +12,11 @@
 --   listUnder s t ws   ==   the table after a list of words, given one by one; a refused word is passed over.
 --   acceptedOf s t ws  ==   the words of a list that are accepted so.
 --   answerUnder s t w  ==   the step's answer under settings; stepAnswerUnder s t w is that to C.
+--   SameStep s t w     <=>  the step under settings does what it does without them.
 --
 -- Assumes nothing.
 use Prim.Native.Nat.{ℕ}
+use mathlib.Core.Path.{_≡_}
 use mathlib.Core.Bool.{Bool, cond, _&&_, not}
 use mathlib.Core.List.{List, [], _∷_}
 use lib.Dec.{eqb, leb}
@@ -24,7 +26,7 @@ use Rattle.machine.specs.Refusals.{accepted, passesFull, plainFlicker, s
 use Rattle.machine.specs.Tables.{Table, row, oneOf, tableRefusal}
 use Rattle.machine.specs.Words.{FLICKER, GO, kindOf, processOf}
 use Rattle.machine.specs.Shared.{noCell}
-use Rattle.machine.specs.Steps.{gone, refusalOf, afterWord, cellOf, toldOf}
+use Rattle.machine.specs.Steps.{gone, refusalOf, afterWord, cellOf, toldOf, answerOf, stepAnswerOf}
 use Rattle.machine.specs.declared.Row.{Row}
 use Rattle.machine.specs.declared.Settings.{Settings}
 use Rattle.machine.specs.declared.Stepped.{Stepped}
@@ -121,3 +123,11 @@ answerUnder s t w =
 abbrev pub stepAnswerUnder : Settings → Table → ℕ → StepAnswer
 stepAnswerUnder s t w =
     let n = refusalUnder s t w in record { refusal = n; cell = cond (eqb n accepted) (cellOf t w) noCell }
+
+-- under the settings s a step does what it does without them: refusal, table, and answer, of which event and cell are
+-- part, also to C
+pub record SameStep (s : Settings) (t : Table) (w : ℕ) : Type 0 where
+  pub refusal-same : refusalUnder s t w ≡ refusalOf t w
+  pub table-same : afterUnder s t w ≡ afterWord t w
+  pub answer-same : answerUnder s t w ≡ answerOf t w
+  pub to-c-same : stepAnswerUnder s t w ≡ stepAnswerOf t w
