@@ -1,7 +1,7 @@
 -- What the parts of the call from C require and promise (machine/specs/Calls).
 --
 --   CallsTo c m r    <=>  the lent bytes are m and the answer is r, as the call c says.
---   Tabled x ws      <=>  the cells x hold a sound table, and the words ws are at most 8,192.
+--   Prepared x ws    <=>  the cells x hold a sound table, and the words ws are at most 8,192.
 --   Writable x l     <=>  the cells x hold a sound table, and the lent bytes l have room for its image.
 --
 -- Assumes nothing.
@@ -22,6 +22,6 @@ pub record Writable (x : List (List ℕ)) (l : List ℕ) : Type 0 where
   pub sound : tableRefusal (rowsOf x) ≡ 0
   pub room : roomFor (rowsOf x) ≤ length l
 
-pub record Tabled (x : List (List ℕ)) (ws : List ℕ) : Type 0 where
+pub record Prepared (x : List (List ℕ)) (ws : List ℕ) : Type 0 where
   pub table-sound : tableRefusal (rowsOf x) ≡ 0
   pub words-few : length ws ≤ limit

@@ -17,7 +17,7 @@ ghost use Rattle.machine.specs.Calls.{numberOf, callFor, callOf};
 ghost use Rattle.cells.specs.View.{rowsOf};
 ghost use Rattle.images.specs.Answers.{Room};
 ghost use Rattle.inputs.specs.Opening.{Roomy};
-ghost use Rattle.zaguypo.specs.Calls.{CallsTo, Writable, Tabled};
+ghost use Rattle.zaguypo.specs.Calls.{CallsTo, Writable, Prepared};
 
 // The most words of a short input, and of one that is not long. An image of five processes has 50 words,
 // the longest 336.
@@ -64,7 +64,7 @@ fn number_of(taken: u32, refusal: u32) -> u64
 
 // The run of the event words under settings from the table in the cells: 18, 13, or the run.
 fn run_table(cells: &mut [[u16; 24]], words: &[u32], image: &mut [u8], settings: Settings) -> u64
-    requires { ⌜ Tabled (now cells) (now words) ⌝ }
+    requires { ⌜ Prepared (now cells) (now words) ⌝ }
     ensures { λ r. ⌜
         CallsTo
         (callFor settings (Input.Ready (rowsOf (now (cells .entry))) (now (words .entry))) (now (image .entry)))

@@ -1,5 +1,6 @@
-//! Searches every table that two processes reach from a fresh one, and three from zeros, under each turn setting, with and
-//! without CANCELs, for the largest count of passes: through the linked library, or the reference where none is linked.
+//! Searches every table that two processes reach from a fresh one, and three from zeros with every turn, under each turn
+//! setting, with and without CANCELs, for the largest count of passes: through the linked library, or the reference where
+//! none is linked.
 //!
 //!     overtaking [2 | 3]        both where no number of processes is given; a line for each search
 //!
