@@ -4,7 +4,7 @@
 --   goes-by                                where GO goes from 23 to 24, by the row
 --   flicker-forbidden, flicker-free, go-forbidden, go-free, others-free, weakest-free    what forbiddenBy answers
 --   Flickers, Goes, forbidden-cases        what 16, and what 17, says
---   before15-cases, before15-zero, before15-free    16 and 17 between 11 and 15
+--   before15-free, before15-first, before15-other    16 and 17 between 11 and 15
 --   under-table, under-unfit, under-fit    6 and 7, then 18, then the word
 --   accepted-under, under-accepted         what is accepted under settings
 --   full-free                              a word that meets 15 is not forbidden
@@ -15,7 +15,7 @@
 use Prim.Native.Nat.{ℕ, _≤_, _<_}
 use mathlib.Core.Path.{_≡_, refl, sym, ap, _∙_}
 use mathlib.Core.Bool.{Bool, true, false, cond, _&&_, not, false≢true, and-eq-true-iff}
-use mathlib.Core.Logic.{_≢_, _⊎_, inl, inr, ⊎-elim}
+use mathlib.Core.Logic.{_≢_, _⊎_, inl, inr, ⊎-elim, by-cases}
 use mathlib.Core.List.{[], _∷_}
 use native.Mathlib.Decide.{ℕ-discrete}
 use native.Mathlib.Omega.{arith}
@@ -165,43 +165,21 @@ weakest-free t k p =
 
 -- ---- before 15
 
--- f where n is 0 or 15, and else n
-pub before15-cases : (f n : ℕ)
-    → ((before15 f n ≡ f) × (f ≢ 0) × ((n ≡ 0) ⊎ (n ≡ 15)))
-    ⊎ ((before15 f n ≡ n) × ((n ≡ 0) → f ≡ 0))
-before15-cases f n = go (ℕ-discrete f 0) (ℕ-discrete n 0) (ℕ-discrete n 15)
-  where
-    go : Dec (f ≡ 0) → Dec (n ≡ 0) → Dec (n ≡ 15)
-        → ((before15 f n ≡ f) × (f ≢ 0) × ((n ≡ 0) ⊎ (n ≡ 15)))
-        ⊎ ((before15 f n ≡ n) × ((n ≡ 0) → f ≡ 0))
-    go (yes e) x y =
-        inr (
-          split (λ b. cond (b && not (eqb f 0)) f n ≡ n) (oneOf n (accepted ∷ passesFull ∷ []))
-              (λ _. rw (eq-eqb f 0 e) refl) (λ _. refl),
-          λ _. e,
-        )
-    go (no ne) (yes z) y = inl (rw (ne-eqb f 0 ne, z) refl, ne, inl z)
-    go (no ne) (no x) (yes y) = inl (rw (ne-eqb f 0 ne, y) refl, ne, inr y)
-    go (no ne) (no x) (no y) = inr (rw (ne-eqb n 0 x, ne-eqb n 15 y) refl, λ z. absurd (x z))
+module _ (f n : ℕ) where
+  -- nothing is forbidden
+  pub before15-free : f ≡ 0 → before15 f n ≡ n
+  before15-free e =
+      split (λ b. cond (b && not (eqb f 0)) f n ≡ n) (oneOf n (accepted ∷ passesFull ∷ []))
+      (λ _. rw (eq-eqb f 0 e) refl)
+      (λ _. refl)
 
--- f counts first where n is 0; where it counts, it is not 0
-pub before15-zero : (f n : ℕ) → before15 f n ≡ 0 → (f ≡ 0) × (n ≡ 0)
-before15-zero f n z = go (before15-cases f n)
-  where
-    go : ((before15 f n ≡ f) × (f ≢ 0) × ((n ≡ 0) ⊎ (n ≡ 15)))
-        ⊎ ((before15 f n ≡ n) × ((n ≡ 0) → f ≡ 0))
-        → (f ≡ 0) × (n ≡ 0)
-    go (inl (e, ne, h)) = absurd (ne (sym e ∙ z))
-    go (inr (e, h)) = (h (sym e ∙ z), sym e ∙ z)
+  -- 16 or 17 where the word is accepted without settings
+  pub before15-first : f ≢ 0 → n ≡ 0 → before15 f n ≡ f
+  before15-first ne z = rw (ne-eqb f 0 ne, z) refl
 
-pub before15-free : (f n : ℕ) → f ≡ 0 → before15 f n ≡ n
-before15-free f n z = go (before15-cases f n)
-  where
-    go : ((before15 f n ≡ f) × (f ≢ 0) × ((n ≡ 0) ⊎ (n ≡ 15)))
-        ⊎ ((before15 f n ≡ n) × ((n ≡ 0) → f ≡ 0))
-        → before15 f n ≡ n
-    go (inl (e, ne, h)) = absurd (ne z)
-    go (inr (e, h)) = e
+  -- 10 and 11, and all other refusals but 15
+  pub before15-other : n ≢ 0 → n ≢ 15 → before15 f n ≡ n
+  before15-other x y = rw (ne-eqb n 0 x, ne-eqb n 15 y) refl
 
 -- ---- which check answers
 
@@ -248,53 +226,54 @@ module _ (s : Settings) (t : Table) (w : ℕ) where
     where
       fit : tableRefusal t ≡ 0
           → settingsFit s ≡ true
-          → ((before15 (forbidden s t w) (refusalOf t w) ≡ forbidden s t w)
-          × (forbidden s t w ≢ 0)
-          × ((refusalOf t w ≡ 0) ⊎ (refusalOf t w ≡ 15)))
-          ⊎ ((before15 (forbidden s t w) (refusalOf t w) ≡ refusalOf t w)
-          × ((refusalOf t w ≡ 0) → forbidden s t w ≡ 0))
+          → Dec (forbidden s t w ≡ 0)
+          → Dec (refusalOf t w ≡ 0)
+          → Dec (refusalOf t w ≡ 15)
           → Under s t w
-      fit z h (inl (e, ne, inl n)) =
-          Under.forbids (under-fit s t w z h ∙ e) ne (record { settings-fit = h; not-refused = n })
-      fit z h (inl (e, ne, inr full)) = absurd (ne (full-free s t w full))
-      fit z h (inr (e, f)) = Under.same (under-fit s t w z h ∙ e)
+      fit z h (yes f) x y = Under.same (under-fit s t w z h ∙ before15-free (forbidden s t w) (refusalOf t w) f)
+      fit z h (no f) (yes n) y =
+          Under.forbids (under-fit s t w z h ∙ before15-first (forbidden s t w) (refusalOf t w) f n) f
+          (record { settings-fit = h; not-refused = n })
+      fit z h (no f) (no x) (yes full) = absurd (f (full-free s t w full))
+      fit z h (no f) (no x) (no y) = Under.same (under-fit s t w z h ∙ before15-other (forbidden s t w) (refusalOf t w) x y)
 
       go : Dec (tableRefusal t ≡ 0) → Under s t w
       go (no ne) = Under.same (under-table s t w ne)
       go (yes z) =
           split (λ _. Under s t w) (settingsFit s)
-          (λ h. fit z h (before15-cases (forbidden s t w) (refusalOf t w)))
+          (λ h. fit z h (ℕ-discrete (forbidden s t w) 0) (ℕ-discrete (refusalOf t w) 0) (ℕ-discrete (refusalOf t w) 15))
           (λ h. Under.unfit (under-unfit s t w z h) z h)
 
   -- what is accepted under settings is accepted without them, and the settings do not forbid it
   pub accepted-under : refusalUnder s t w ≡ 0 → Allowed s t w × (forbidden s t w ≡ 0)
   accepted-under z = go under-cases
     where
-      fit : tableRefusal t ≡ 0 → settingsFit s ≡ true
-      fit sound =
-          split (λ b. b ≡ true) (settingsFit s) (λ _. refl)
+      -- of a word that is accepted without settings
+      so : refusalOf t w ≡ 0 → Allowed s t w × (forbidden s t w ≡ 0)
+      so n =
+          let sound = accepted-table t w n in
+          split (λ _. Allowed s t w × (forbidden s t w ≡ 0)) (settingsFit s)
+          (λ h. (
+            record { settings-fit = h; not-refused = n },
+            by-cases (ℕ-discrete (forbidden s t w) 0) (λ f. f)
+                (λ f. absurd (f (sym (under-fit s t w sound h ∙ before15-first _ _ f n) ∙ z))),
+          ))
           (λ h. absurd (omega (arith, under-unfit s t w sound h, z)))
 
       go : Under s t w → Allowed s t w × (forbidden s t w ≡ 0)
-      go (Under.same e) =
-          let n = sym e ∙ z in
-          let sound = accepted-table t w n in (
-            record { settings-fit = fit sound; not-refused = n },
-            before15-zero (forbidden s t w) (refusalOf t w) (sym (under-fit s t w sound (fit sound)) ∙ z) .0,
-          )
+      go (Under.same e) = so (sym e ∙ z)
       go (Under.forbids e ne a) = absurd (ne (sym e ∙ z))
       go (Under.unfit e x y) = absurd (omega (arith, e, z))
 
   pub under-accepted : Allowed s t w → forbidden s t w ≡ 0 → refusalUnder s t w ≡ 0
   under-accepted a f =
       let n = a .not-refused in
-      under-fit s t w (accepted-table t w n) (a .settings-fit) ∙ before15-free (forbidden s t w) (refusalOf t w) f ∙ n
+      under-fit s t w (accepted-table t w n) (a .settings-fit) ∙ before15-free _ _ f ∙ n
 
   -- what the settings forbid, where nothing else refuses it
   pub under-forbidden : Allowed s t w → forbidden s t w ≢ 0 → refusalUnder s t w ≡ forbidden s t w
   under-forbidden a f =
-      under-fit s t w (accepted-table t w (a .not-refused)) (a .settings-fit)
-      ∙ rw (ne-eqb (forbidden s t w) 0 f, a .not-refused) refl
+      under-fit s t w (accepted-table t w (a .not-refused)) (a .settings-fit) ∙ before15-first _ _ f (a .not-refused)
 
   -- what is answered above 15
   over : (v : ℕ) → 15 < v → v < 18 → refusalUnder s t w ≡ v → (forbidden s t w ≡ v) × Allowed s t w

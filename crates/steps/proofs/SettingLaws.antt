@@ -4,10 +4,10 @@
 --   takes-early, takes-forbidden, takes-free    a kind with an argument under settings: 10 or 11; 16 or 17; as without
 --
 -- Assumes nothing.
-use Prim.Native.Nat.{ℕ, _≤_, _<_}
+use Prim.Native.Nat.{ℕ, _<_}
 use mathlib.Core.Path.{_≡_, refl, sym, ap, _∙_, subst}
 use mathlib.Core.Bool.{Bool, true, false, cond, _&&_, not, and-eq-true-iff}
-use mathlib.Core.Logic.{_≢_, _⊎_, inl, inr}
+use mathlib.Core.Logic.{_≢_}
 use mathlib.Core.List.{List}
 use native.Mathlib.Decide.{ℕ-discrete}
 use native.Mathlib.Omega.{arith}
@@ -21,7 +21,7 @@ use Rattle.machine.specs.Steps.{overflows, refusalAt}
 use Rattle.machine.specs.Settings.{writesTurn, otherWriter, goForbidden, forbiddenBy, before15}
 use Rattle.machine.specs.declared.Settings.{Settings}
 use Rattle.machine.specs.declared.Stepped.{Stepped}
-use Rattle.machine.proofs.SettingLaws.{goes-by, before15-cases, before15-free}
+use Rattle.machine.proofs.SettingLaws.{goes-by, before15-free, before15-other}
 use Rattle.rows.specs.Pushing.{toPush}
 use Rattle.cells.specs.View.{rowsOf}
 use Rattle.cells.specs.Writers.{hasWriter}
@@ -72,17 +72,9 @@ module _ {x : List (List ℕ)} {k p a v : ℕ} (m : Settings) (why : v ≡ rowRe
       let n = refusalAt t k p a in
       let early = why ∙ sym (refused-early t k p a (λ z. ne (why ∙ z))) in
       let few = row-refusals t k p a in
-      refused-with v (early ∙ go n early few (before15-cases (forbiddenBy m t k p) n)) ne
-    where
-      go : (n : ℕ) → v ≡ n → rowRefusal (rowsOf x) k p a ≤ 11
-          → ((before15 (forbiddenBy m (rowsOf x) k p) n ≡ forbiddenBy m (rowsOf x) k p)
-          × (forbiddenBy m (rowsOf x) k p ≢ 0)
-          × ((n ≡ 0) ⊎ (n ≡ 15)))
-          ⊎ ((before15 (forbiddenBy m (rowsOf x) k p) n ≡ n) × ((n ≡ 0) → forbiddenBy m (rowsOf x) k p ≡ 0))
-          → n ≡ before15 (forbiddenBy m (rowsOf x) k p) n
-      go n e few (inl (i, f, inl z)) = absurd (ne (e ∙ z))
-      go n e few (inl (i, f, inr z)) = absurd (omega (arith, why, e, z, few))
-      go n e few (inr (i, f)) = sym i
+      let other = before15-other (forbiddenBy m t k p) n (λ z. ne (early ∙ z))
+      (λ z. absurd (omega (arith, early, z, why, few))) in
+      refused-with v (early ∙ sym other) ne
 
   -- and these before 15
   pub takes-forbidden : (f : ℕ) → v ≡ 0 → forbiddenBy m (rowsOf x) k p ≡ f → (f ≡ 0 → ⊥)

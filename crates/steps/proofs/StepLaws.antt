@@ -4,7 +4,6 @@
 use Prim.Native.Nat.{ℕ, _^_, _≤_, _<_}
 use mathlib.Core.Path.{_≡_, refl, sym, ap, subst, _∙_}
 use mathlib.Core.Bool.{true, false, cond}
-use mathlib.Core.Logic.{_≢_, _⊎_, inl, inr}
 use mathlib.Core.List.{List}
 use native.Mathlib.Omega.{arith}
 use lib.Dec.{eqb}
@@ -20,7 +19,7 @@ use Rattle.machine.specs.declared.Stepped.{Stepped}
 use Rattle.counting.proofs.TestLaws.{split}
 use Rattle.machine.proofs.SoundRows.{sound-row, sound-few}
 use Rattle.machine.proofs.Accepted.{accepted-word, accepted-moved}
-use Rattle.machine.proofs.SettingLaws.{weakest-free, before15-cases, forbidden, under-fit, accepted-under}
+use Rattle.machine.proofs.SettingLaws.{weakest-free, before15-other, forbidden, under-fit, accepted-under}
 use Rattle.machine.proofs.SettingTheorems.{weakest-step, refused-under}
 use Rattle.cells.specs.View.{rowsOf}
 use Rattle.cells.proofs.ViewLaws.{rows-length}
@@ -70,17 +69,8 @@ module _ (m : Settings) (t : Table) (w : ℕ) where
   -- 8 and 9 come before 16 and 17
   under-early : (v : ℕ) → v ≡ refusalOf t w → (v ≡ 0 → ⊥) → (v ≡ 15 → ⊥) → tableRefusal t ≡ 0 → settingsFit m ≡ true
       → v ≡ refusalUnder m t w
-  under-early v e n f z fit = e ∙ sym (under-fit m t w z fit ∙ go (before15-cases (forbidden m t w) (refusalOf t w)))
-    where
-      go : ((before15 (forbidden m t w) (refusalOf t w) ≡ forbidden m t w)
-          × (forbidden m t w ≢ 0)
-          × ((refusalOf t w ≡ 0) ⊎ (refusalOf t w ≡ 15)))
-          ⊎ ((before15 (forbidden m t w) (refusalOf t w) ≡ refusalOf t w)
-          × ((refusalOf t w ≡ 0) → forbidden m t w ≡ 0))
-          → before15 (forbidden m t w) (refusalOf t w) ≡ refusalOf t w
-      go (inl (i, j, inl y)) = absurd (n (e ∙ y))
-      go (inl (i, j, inr y)) = absurd (f (e ∙ y))
-      go (inr (i, j)) = i
+  under-early v e n f z fit =
+      e ∙ sym (under-fit m t w z fit ∙ before15-other (forbidden m t w) (refusalOf t w) (λ y. n (e ∙ y)) (λ y. f (e ∙ y)))
 
 -- ---- the step of cells
 
