@@ -52,14 +52,15 @@ extern "C" {
      15  the same word, since version 3.0.0: it would carry a count of passes past 65,535, which only GO at 20 can */
 
 /* ---- settings, since version 4.0.0: two parameters of a step and of a run, act and turn, that say what the shared cells do while
-   they are written ("Settings"). Under 0 and 0 every word is answered as up to version 3.0.0. Other settings refuse some of the
+   they are written ("Settings"). Under 0 and 0 every word is answered as in version 3.0.0. Other settings refuse some of the
    words that 0 and 0 accepts, and change no other answer. All 32 bits are compared: any other value meets 18. */
 
-#define ZAGUYPO_ACT_SAFE 0         /* act may be read as anything while it is written: FLICKER is allowed at 20 and at 40 */
-#define ZAGUYPO_ACT_PLAIN 1        /* it may not: FLICKER at 20 and at 40 meets 16 */
-#define ZAGUYPO_TURN_WRITE_SAFE 0  /* so may turn[k], by several writers at once: FLICKER is allowed at 24 */
-#define ZAGUYPO_TURN_ONE_WRITER 1  /* by one at a time: GO from 23 to 24 meets 17 while another process at 24 has the same level */
-#define ZAGUYPO_TURN_PLAIN 2       /* it may not: FLICKER at 24 meets 16 */
+#define ZAGUYPO_ACT_SAFE 0        /* act may be read as anything while it is written: FLICKER is allowed at 20 and at 40 */
+#define ZAGUYPO_ACT_PLAIN 1       /* a write of act shows nothing before it is done: FLICKER at 20 and at 40 meets 16 */
+#define ZAGUYPO_TURN_WRITE_SAFE 0 /* turn[k] may be read as anything while processes write it: FLICKER is allowed at 24 */
+#define ZAGUYPO_TURN_ONE_WRITER 1 /* so it may, but one writes at a time: GO from 23 to 24 meets 17 while another process at 24 has the
+                                     same level; FLICKER is allowed at 24 */
+#define ZAGUYPO_TURN_PLAIN 2      /* a write of turn[k] shows nothing before it is done: FLICKER at 24 meets 16 */
 
 /* ---- inputs: bytes that are words of 4 bytes, lowest byte first, an image and then event words ("Bytes and inputs", "The call
    on bytes", "The printed text") */

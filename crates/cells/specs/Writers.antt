@@ -1,4 +1,4 @@
--- Who is about to write a turn cell.
+-- Whether a turn cell is being written.
 --
 --   hasWriter k t  <=>  some process of t is at 24 with level k.
 --

@@ -28,7 +28,7 @@ pub fn competitors(cells: &[[u16; 24]]) -> u16
     s
 }
 
-// Whether some process at 24 has level k: it is about to write turn[k].
+// Whether some process at 24 has level k: it is writing turn[k].
 pub fn has_writer(cells: &[[u16; 24]], k: u16) -> bool
     ensures { λ b. ⌜ b ≡ hasWriter k (rowsOf (now (cells .entry))) ⌝ }
 {

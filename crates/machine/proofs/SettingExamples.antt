@@ -207,7 +207,7 @@ pub one-writer-exchange :
 unfolding evaluated afterUnder
 one-writer-exchange = (refl, refl, refl, refl)
 
--- under 0 and 2, and under 0 and 0, each goes after the other
+-- under turn 0 and 2, act either, each goes after the other
 pub others-exchange :
     let t = beside 1 2 23 1 in
     (refusals (afterUnder weakest t 0x40000000) 0x40010000 ≡ 0 ∷ 17 ∷ 0 ∷ 0 ∷ 17 ∷ 0 ∷ [])

@@ -1,16 +1,16 @@
--- Settings, as a reader opens them: what a step or a run answers under settings, for all six of them together, and for
--- numbers that are none. `refusalOf`, `afterWord` and `answerOf` are the step without settings, which is the one under
+-- Settings, as a reader opens them: what a step answers under settings, for all six of them together, and for numbers
+-- that are none; what a run does is in runs/proofs/OneByOne.antt. `refusalOf`, `afterWord` and `answerOf` are the step without settings, which is the one under
 -- 0 and 0 (`weakest-step`); `refusalUnder s`, `afterUnder s` and `answerUnder s` the step under the settings s
 -- (Settings.antt).
 --
 --   weakest-step                          0 and 0 is the step without settings
---   accepted-same, refused-same           settings refuse some words that 0 and 0 accept, and change nothing else
+--   accepted-same, refused-same, refused-under    settings refuse some words that 0 and 0 accept, and change nothing else
+--   under-keeps-sound                     a sound table stays sound
 --   forbidden-flicker, flicker-forbidden  which words meet 16
 --   forbidden-go, go-forbidden            which words meet 17
 --   unfit-settings, settings-unfit        which words meet 18
 --   word-is-allowed-step, one-allowed-word, left-out-word    words and the steps of the system that settings leave
 --   accepted-list, each-accepted          a list under settings is its accepted words under 0 and 0
---   allowed-run                           a run under settings is the run of the words it took under 0 and 0
 --   exchange-under                        two words in either order, where turn is not to have one writer
 --
 -- Assumes nothing.
@@ -113,7 +113,8 @@ pub refused-under : (s : Settings) (t : Table) (w : ℕ)
 unfolding afterUnder
 refused-under s t w ne = (rw (ne-eqb _ _ ne) refl, rw (ne-eqb _ _ ne) refl)
 
--- A word under settings keeps a sound table sound, and its number of processes.
+-- A word under settings keeps a sound table sound.
+-- Excludes: a setting that leads to a table which the next step refuses.
 pub under-keeps-sound : (s : Settings) (t : Table) (w : ℕ) → tableRefusal t ≡ 0 → tableRefusal (afterUnder s t w) ≡ 0
 under-keeps-sound s t w z =
     by-cases (ℕ-discrete (refusalUnder s t w) 0)
@@ -292,7 +293,7 @@ word-is-allowed-step s t w z =
     (h, l, x, e, allowed)
 
 -- Every step of a process of a sound table that settings leave is what its word does under them, and no other word of
--- that process; or its word is the one that meets 15. A step that they do not leave has a word that they refuse.
+-- that process; or its word is the one that meets 15.
 -- Excludes: a setting that refuses more than it forbids, such as every GO at 23, or every FLICKER.
 pub one-allowed-word : (s : Settings) (t u : Table) (p : ℕ)
     → sound t ≡ true
@@ -320,6 +321,8 @@ one-allowed-word s t u p h l fit x allowed =
     (λ o. inr (o .0, full-under s t w (says-fit s fit) (o .1)))
     (one-word t u p h l x)
 
+-- A step that they do not leave has a word that they refuse.
+-- Excludes: a setting that leaves more than it says.
 pub left-out-word : (s : Settings) (t u : Table) (p : ℕ)
     → sound t ≡ true
     → p < length t

@@ -58,7 +58,7 @@ settingsFit s = leb (s .act) 1 && leb (s .turn) 2
 abbrev pub flickerForbidden : Settings → Row → Bool
 flickerForbidden s r = cond (eqb (r .location) 24) (eqb (s .turn) turnPlain) (eqb (s .act) actPlain)
 
--- a row at 24 with level k: its process is about to write turn[k]
+-- a row at 24 with level k: its process is writing turn[k]
 abbrev pub writesTurn : ℕ → Row → Bool
 writesTurn k r = eqb (r .location) 24 && eqb (r .level) k
 

@@ -2,7 +2,7 @@
 --
 --   kindEvent k r     ==   the event of an allowed kind at a row, read before the step; goEvent r is that of GO.
 --   kindTold k p a r  ==   what the step tells of it, of process p with argument a.
---   rowRefusal t k p a  ==  the first of 10 and 11 that applies, or 0: all that refuses a word but 15.
+--   rowRefusal t k p a  ==  the first of 10 and 11 that applies, or 0: what refuses it but 16, 17 and 15.
 --   Ready x p         <=>  process p of the cells x can move: what a sound table gives.
 --   At x p l          <=>  it can, and is at location l.
 --   Free x k p        <=>  it can, and kind k is allowed where it is.
@@ -50,7 +50,7 @@ kindEvent k r = cond (eqb k COME) Event.Come (cond (eqb k GO) (goEvent r) Event.
 abbrev pub kindTold : ℕ → ℕ → ℕ → Row → Told
 kindTold k p a r = record { event = kindEvent k r; cell = cellAt k p a r }
 
--- ---- what refuses, but for the counts
+-- ---- what refuses, but for settings and counts
 
 abbrev pub rowRefusal : Table → ℕ → ℕ → ℕ → ℕ
 rowRefusal t k p a =
