@@ -123,7 +123,7 @@ fn a_fault_on_both_sides_breaks_the_bound() {
     }
 }
 
-/// Words with passes: every candidate with each of the sixteen settings, at every table; of the entries over a process
+/// Words with passes: every candidate with each of the sixteen pairs of counts, at every table; of the entries over a process
 /// that competes one in four has a full count.
 #[test]
 fn passes_few_and_full_are_met() {
