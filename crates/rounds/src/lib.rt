@@ -5,6 +5,7 @@ use cells::checks::check;
 use census::count_at;
 use census::critical;
 use machine::RoundsAnswer;
+use machine::Settings;
 use machine::Stepped;
 use steps::going::go;
 use steps::moving::look;
@@ -44,7 +45,7 @@ fn move_on(cells: &mut [[u16; 24]], p: u16) -> Done
             occupied: false,
         };
     }
-    match go(cells, p) {
+    match go(cells, p, Settings::WEAKEST) {
         Stepped::Moved(_) => Done {
             refusal: 0,
             occupied: (r.location == 21) & (r.level == 0),

@@ -2,6 +2,7 @@
 --
 --   forbids-not, forbids-away, forbids-by    GO of p is forbidden, by its row and by who is at 24
 --   takes-early, takes-forbidden, takes-free    a kind with an argument under settings: 10 or 11; 16 or 17; as without
+--   goes-free, weakest-takes                    GO away from 23, and every kind under 0 and 0, as without
 --
 -- Assumes nothing.
 use Prim.Native.Nat.{ℕ, _<_}
@@ -14,14 +15,16 @@ use native.Mathlib.Omega.{arith}
 use lib.Dec.{eqb}
 use lib.ListN.{length}
 use borrow.Author.Tests.{eqb-true, eq-eqb, ne-eqb}
+use Rattle.counting.proofs.TestLaws.{split}
 use Rattle.counting.proofs.RangeLaws.{some-cong}
 use Rattle.machine.specs.Refusals.{accepted, passesFull}
 use Rattle.machine.specs.Tables.{Table, row}
 use Rattle.machine.specs.Steps.{overflows, refusalAt}
-use Rattle.machine.specs.Settings.{writesTurn, otherWriter, goForbidden, forbiddenBy, before15}
+use Rattle.machine.specs.Words.{GO}
+use Rattle.machine.specs.Settings.{weakest, writesTurn, otherWriter, goesTo24, goForbidden, forbiddenBy, before15}
 use Rattle.machine.specs.declared.Settings.{Settings}
 use Rattle.machine.specs.declared.Stepped.{Stepped}
-use Rattle.machine.proofs.SettingLaws.{goes-by, before15-free, before15-other}
+use Rattle.machine.proofs.SettingLaws.{goes-by, go-free, weakest-free, before15-free, before15-other}
 use Rattle.rows.specs.Pushing.{toPush}
 use Rattle.cells.specs.View.{rowsOf}
 use Rattle.cells.specs.Writers.{hasWriter}
@@ -63,6 +66,26 @@ by-same {x = x} {y} {k} {p} {a} {s} e h = subst (λ (i : ℕ). TakesBy i x k p a
 module _ {x y : List (List ℕ)} {k p a : ℕ} {s : Stepped} (m : Settings) where
   pub takes-free : forbiddenBy m (rowsOf x) k p ≡ 0 → Takes x k p a y s → TakesUnder m x k p a y s
   takes-free e h = by-same (before15-free (forbiddenBy m (rowsOf x) k p) (refusalAt (rowsOf x) k p a) e) h
+
+-- GO away from 23 is not forbidden
+pub goes-free : {x y : List (List ℕ)} {p a : ℕ} {s : Stepped} (m : Settings) (l : ℕ)
+    → row (rowsOf x) p .location ≡ l
+    → eqb l 23 ≡ false
+    → Takes x GO p a y s
+    → TakesUnder m x GO p a y s
+unfolding goesTo24
+goes-free {x} {p = p} m l e away h =
+    takes-free m
+    (go-free m (rowsOf x) GO p refl
+    (split (λ b. (b && (goesTo24 (rowsOf x) p && otherWriter (rowsOf x) p)) ≡ false) (eqb (m .turn) 1)
+    (λ _. rw (e, away) refl)
+    (λ _. refl)))
+    h
+
+-- 0 and 0 forbid nothing
+pub weakest-takes : {x y : List (List ℕ)} {k p a : ℕ} {s : Stepped} → TakesUnder weakest x k p a y s → Takes x k p a y s
+weakest-takes {x} {k = k} {p} {a} h =
+    by-same (sym (before15-free (forbiddenBy weakest (rowsOf x) k p) _ (weakest-free (rowsOf x) k p))) h
 
 module _ {x : List (List ℕ)} {k p a v : ℕ} (m : Settings) (why : v ≡ rowRefusal (rowsOf x) k p a) where
   -- 10 and 11 come before 16 and 17

@@ -13,12 +13,13 @@ use Rattle.machine.specs.Refusals.{accepted, notAllowed, badArgument, passesFul
 use Rattle.machine.specs.Tables.{Table, row, competitors}
 use Rattle.machine.specs.Words.{STAY, COME, FLICKER, GO, LOOK, CANCEL, isKind, kindOf, spareClear, formed}
 use Rattle.machine.specs.Steps.{moved, allowed, argumentFits, raisable, overflows, refusalAt}
+use Rattle.machine.specs.declared.Settings.{Settings}
 use Rattle.machine.specs.declared.Told.{Told}
 use Rattle.machine.specs.declared.Stepped.{Stepped}
 use Rattle.counting.proofs.TestLaws.{cond-zero, cond-le}
 use Rattle.machine.proofs.KindLaws.{by-kind}
 use Rattle.cells.specs.View.{rowsOf}
-use Rattle.steps.specs.Moves.{kindTold, rowRefusal, Ready, Free, Sees, Moves, Goes, TakesBy, Takes}
+use Rattle.steps.specs.Moves.{kindTold, rowRefusal, Ready, Free, Sees, Moves, Goes, TakesBy, Takes, TakesUnder}
 use Rattle.steps.proofs.MoveLaws.{becomes-as}
 
 -- ---- the kinds
@@ -195,10 +196,10 @@ module _ (x : List (List ℕ)) (p : ℕ) (there : row (rowsOf x) p .location ≡
   enters-moved e m = takes-moved (sym enters-may) refl (enters-counts true e) m
 
 -- GO is taken with no other argument than 0
-pub go-argument : {x y : List (List ℕ)} {p a : ℕ} {s : Stepped}
+pub go-argument : {x y : List (List ℕ)} {p a : ℕ} {s : Stepped} (m : Settings)
     → rowRefusal (rowsOf x) GO p a ≡ 0
-    → Takes x GO p 0 y s
-    → Takes x GO p a y s
+    → TakesUnder m x GO p 0 y s
+    → TakesUnder m x GO p a y s
 unfolding argumentFits
-go-argument {x} {y} {p} {a} {s} z m =
-    subst (λ (b : ℕ). Takes x GO p b y s) (sym (eqb-true a 0 (argument-fits (rowsOf x) GO p a z))) m
+go-argument {x} {y} {p} {a} {s} m z h =
+    subst (λ (b : ℕ). TakesUnder m x GO p b y s) (sym (eqb-true a 0 (argument-fits (rowsOf x) GO p a z))) h

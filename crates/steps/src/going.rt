@@ -6,15 +6,19 @@ use cells::access::row_at;
 use cells::access::turn_to;
 use cells::sweeps::competitors;
 use cells::sweeps::forget;
+use cells::sweeps::has_writer;
 use machine::Event;
+use machine::Settings;
 use machine::Stepped;
 use machine::Told;
 ghost use lib.ListN.{set};
 ghost use Rattle.machine.specs.Rows.{withLocation};
 ghost use Rattle.machine.specs.Tables.{row};
+ghost use mathlib.Core.Path.{_≡_};
 ghost use Rattle.machine.specs.Words.{GO};
+ghost use Rattle.machine.specs.Settings.{goForbidden};
 ghost use Rattle.cells.specs.View.{rowsOf, Becomes};
-ghost use Rattle.steps.specs.Moves.{Ready, At, Free, Goes, Takes};
+ghost use Rattle.steps.specs.Moves.{Ready, At, Free, Goes, Takes, TakesUnder};
 
 // Process p goes to a location, with everything else kept.
 pub(crate) fn go_to(cells: &mut [[u16; 24]], p: u16, l: u16)
@@ -80,6 +84,34 @@ fn reconsider(cells: &mut [[u16; 24]], p: u16) -> Told
     Told::QUIET
 }
 
+// Whether the settings forbid GO of process p: it goes from 23 to 24, while another process at 24 has
+// its level. Process p itself is at 23 then.
+fn go_forbidden(cells: &[[u16; 24]], p: u16, settings: Settings) -> bool
+    requires { ⌜ Ready (now cells) p ⌝ }
+    ensures { λ b. ⌜ b ≡ goForbidden settings (rowsOf (now (cells .entry))) p ⌝ }
+{
+    if settings.turn != machine::ONE_WRITER {
+        return false;
+    }
+    let r = row_at(cells, p as usize);
+    if !rows::settings::to_push(r) {
+        return false;
+    }
+    has_writer(cells, r.level)
+}
+
+// GO at 23 under settings: 17, or what it does without them. It is the only GO that settings look at,
+// so that the others cost what they cost without settings.
+fn reconsider_under(cells: &mut [[u16; 24]], p: u16, settings: Settings) -> Stepped
+    requires { ⌜ At (now cells) p 23 ⌝ }
+    ensures { λ s. ⌜ TakesUnder settings (now (cells .entry)) GO p 0 (now (cells .exit)) s ⌝ }
+{
+    if go_forbidden(cells, p, settings) {
+        return Stepped::Refused(machine::SECOND_WRITER);
+    }
+    Stepped::Moved(reconsider(cells, p))
+}
+
 // GO at 24. The turn cell is written after the row of p, for it may stand in that row.
 fn push(cells: &mut [[u16; 24]], p: u16) -> Told
     requires { ⌜ At (now cells) p 24 ⌝ }
@@ -113,18 +145,18 @@ fn rest(cells: &mut [[u16; 24]], p: u16) -> Told
     Told::act_written(p)
 }
 
-// GO of process p where it is allowed: what it tells, or 15. What is left for the last arm is 40: as a
-// case of its own it makes a run of two processes 7 percent slower.
-pub fn go(cells: &mut [[u16; 24]], p: u16) -> Stepped
+// GO of process p under settings, where it is allowed: what it tells, or 15 or 17. What is left for the
+// last arm is 40: as a case of its own it makes a run of two processes 7 percent slower.
+pub fn go(cells: &mut [[u16; 24]], p: u16, settings: Settings) -> Stepped
     requires { ⌜ Free (now cells) GO p ⌝ }
-    ensures { λ s. ⌜ Takes (now (cells .entry)) GO p 0 (now (cells .exit)) s ⌝ }
+    ensures { λ s. ⌜ TakesUnder settings (now (cells .entry)) GO p 0 (now (cells .exit)) s ⌝ }
 {
     let l = row_at(cells, p as usize).location;
     match l {
         20 => enter(cells, p),
         21 => Stepped::Moved(start_scan(cells, p)),
         22 => Stepped::Moved(end_scan(cells, p)),
-        23 => Stepped::Moved(reconsider(cells, p)),
+        23 => reconsider_under(cells, p, settings),
         24 => Stepped::Moved(push(cells, p)),
         30 => Stepped::Moved(leave(cells, p)),
         _ => Stepped::Moved(rest(cells, p)),

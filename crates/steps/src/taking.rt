@@ -7,19 +7,17 @@ use crate::moving::come;
 use crate::moving::flicker;
 use crate::moving::look;
 use cells::access::row_at;
-use cells::sweeps::has_writer;
 use machine::Settings;
 use machine::Stepped;
 use machine::Told;
 ghost use mathlib.Core.Path.{_≡_};
 ghost use Rattle.machine.specs.Words.{FLICKER, GO, LOOK};
-ghost use Rattle.machine.specs.Settings.{goForbidden};
 ghost use Rattle.cells.specs.View.{rowsOf};
 ghost use Rattle.steps.specs.Moves.{rowRefusal, Ready, Asked, Jumping, Takes, TakesUnder};
 
 // 0, or the refusal of a kind and an argument at the row of p: 10, then 11. What is left of a refusal:
-// 16 and 17, which settings give to FLICKER and GO, and 15, which GO finds at 20, with the competitors
-// that it counts.
+// 16, which settings give to FLICKER; 17 and 15, which GO finds where it moves, 17 at 23, and 15 at 20,
+// with the competitors that it counts.
 fn refusal_at(cells: &[[u16; 24]], kind: u16, p: u16, a: u16) -> u16
     requires { ⌜ Asked (now cells) kind p ⌝ }
     ensures { λ v. ⌜ v ≡ rowRefusal (rowsOf (now (cells .entry))) kind p a ⌝ }
@@ -48,22 +46,6 @@ pub(crate) fn take_look(cells: &mut [[u16; 24]], p: u16, a: u16) -> Stepped
     Stepped::Moved(look(cells, p, a))
 }
 
-// Whether the settings forbid GO of process p: it goes from 23 to 24, while another process at 24 has
-// its level. Process p itself is at 23 then.
-fn go_forbidden(cells: &[[u16; 24]], p: u16, settings: Settings) -> bool
-    requires { ⌜ Ready (now cells) p ⌝ }
-    ensures { λ b. ⌜ b ≡ goForbidden settings (rowsOf (now (cells .entry))) p ⌝ }
-{
-    if settings.turn != machine::ONE_WRITER {
-        return false;
-    }
-    let r = row_at(cells, p as usize);
-    if !rows::settings::to_push(r) {
-        return false;
-    }
-    has_writer(cells, r.level)
-}
-
 // GO of process p.
 pub(crate) fn take_go(cells: &mut [[u16; 24]], p: u16, a: u16, settings: Settings) -> Stepped
     requires { ⌜ Ready (now cells) p ⌝ }
@@ -73,10 +55,7 @@ pub(crate) fn take_go(cells: &mut [[u16; 24]], p: u16, a: u16, settings: Setting
     if refusal != 0 {
         return Stepped::Refused(refusal);
     }
-    if go_forbidden(cells, p, settings) {
-        return Stepped::Refused(machine::SECOND_WRITER);
-    }
-    go(cells, p)
+    go(cells, p, settings)
 }
 
 // FLICKER of process p to `a`.

@@ -3,6 +3,7 @@ use mathlib.Core.Path.{subst}
 use borrow.Author.Needs.{needs}
 use Rattle.machine.specs.Words.{GO}
 use Rattle.steps.specs.Moves.{Takes}
+use Rattle.steps.proofs.SettingLaws.{weakest-takes}
 use Rattle.rounds.proofs.MoveLaws.{rest-moves, some-member, look-sees, look-moves, go-free, go-moves, go-refused}
 use Rattle.rounds.proofs.move_on.Statement.{statement}
 use Rattle.rounds.proofs.move_on.Tie as tie
@@ -71,7 +72,7 @@ returns-3 c =
     let a = e .before .before in
     let s = a .before .before in
     go-moves _ _ (s .pre) _ (a .row-at .ensures) (e .if1 .left) (i .if2 .left) _ _
-    (subst (Takes _ GO _ 0 _) (n .enum-told .given .1) (g .go .ensures))
+    (subst (Takes _ GO _ 0 _) (n .enum-told .given .1) (weakest-takes (g .go .ensures)))
 
 same-length-4 : tie.Need-same-length-4
 same-length-4 c = search needs
@@ -85,7 +86,7 @@ returns-4 c =
     let a = e .before .before in
     let s = a .before .before in
     go-refused _ _ (s .pre) _ (a .row-at .ensures) (e .if1 .left) (i .if2 .left) _ _
-    (subst (Takes _ GO _ 0 _) (n .why .given .1) (g .go .ensures))
+    (subst (Takes _ GO _ 0 _) (n .why .given .1) (weakest-takes (g .go .ensures)))
 
 pub move-on-spec : {M : Type 1} → statement M
 move-on-spec =

@@ -1,11 +1,9 @@
 -- `taking::take_go` meets its contract. Assumes nothing.
-use mathlib.Core.Path.{refl, sym, _∙_}
-use native.Mathlib.Omega.{arith}
+use mathlib.Core.Path.{sym, _∙_}
 use borrow.Author.Needs.{needs}
 use Rattle.machine.specs.Words.{GO}
-use Rattle.machine.proofs.SettingLaws.{go-forbidden, go-free}
 use Rattle.steps.proofs.TakeLaws.{may-move, go-argument}
-use Rattle.steps.proofs.SettingLaws.{takes-early, takes-forbidden, takes-free}
+use Rattle.steps.proofs.SettingLaws.{takes-early}
 use Rattle.steps.proofs.taking.take_go.Statement.{statement}
 use Rattle.steps.proofs.taking.take_go.Tie as tie
 
@@ -18,8 +16,11 @@ same-length c = search needs
 returns : tie.Need-returns
 returns c = takes-early (c .before .before .before .args .settings) (c .before .refusal-at .ensures) (c .if1 .taken)
 
-go-forbidden-requires : tie.Need-go-forbidden-requires
-go-forbidden-requires c κs = search needs
+go-requires : tie.Need-go-requires
+go-requires c κs =
+    let e = c .before in
+    let s = e .before .before .before in
+    may-move GO (s .args .a) (s .pre) (e .before .refusal-at .ensures) (e .if1 .left)
 
 same-length-2 : tie.Need-same-length-2
 same-length-2 c = search needs
@@ -27,37 +28,10 @@ same-length-2 c = search needs
 returns-2 : tie.Need-returns-2
 returns-2 c =
     let e = c .before .before .before in
-    let m = e .before .before .before .args .settings in
-    takes-forbidden m (e .before .refusal-at .ensures) 17 (e .if1 .left)
-    (go-forbidden m _ GO _ refl (sym (c .before .go-forbidden .ensures) ∙ c .if2 .taken)) (omega arith)
-
-go-requires : tie.Need-go-requires
-go-requires c κs =
-    let e = c .before .before .before .before in
-    let s = e .before .before .before in
-    may-move GO (s .args .a) (s .pre) (e .before .refusal-at .ensures) (e .if1 .left)
-
-same-length-3 : tie.Need-same-length-3
-same-length-3 c = search needs
-
-returns-3 : tie.Need-returns-3
-returns-3 c =
-    let f = c .before .before .before in
-    let e = f .before .before .before in
-    let m = e .before .before .before .args .settings in
-    takes-free m (go-free m _ GO _ refl (sym (f .before .go-forbidden .ensures) ∙ f .if2 .left))
-    (go-argument (sym (e .before .refusal-at .ensures) ∙ e .if1 .left) (c .before .go .ensures))
+    go-argument (e .before .before .before .args .settings) (sym (e .before .refusal-at .ensures) ∙ e .if1 .left)
+    (c .before .go .ensures)
 
 pub take-go-spec : {M : Type 1} → statement M
 take-go-spec =
     tie.close
-    (tie.spec
-    refusal-at-requires
-    same-length
-    returns
-    go-forbidden-requires
-    same-length-2
-    returns-2
-    go-requires
-    same-length-3
-    returns-3)
+    (tie.spec refusal-at-requires same-length returns go-requires same-length-2 returns-2)

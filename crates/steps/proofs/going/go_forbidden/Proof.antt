@@ -1,4 +1,4 @@
--- `taking::go_forbidden` meets its contract. Assumes nothing.
+-- `going::go_forbidden` meets its contract. Assumes nothing.
 use Prim.Native.Nat.{ℕ, _<_}
 use mathlib.Core.Path.{sym, ap, subst, _∙_}
 use lib.ListN.{length}
@@ -10,8 +10,8 @@ use Rattle.cells.specs.View.{rowsOf}
 use Rattle.cells.specs.Writers.{hasWriter}
 use Rattle.cells.proofs.ViewLaws.{rows-length}
 use Rattle.steps.proofs.SettingLaws.{forbids-not, forbids-away, forbids-by}
-use Rattle.steps.proofs.taking.go_forbidden.Statement.{statement}
-use Rattle.steps.proofs.taking.go_forbidden.Tie as tie
+use Rattle.steps.proofs.going.go_forbidden.Statement.{statement}
+use Rattle.steps.proofs.going.go_forbidden.Tie as tie
 
 inside : (c : tie.Start) → c .args .p < length (rowsOf (c .args .cells .now))
 inside c = subst (λ (n : ℕ). c .args .p < n) (sym (rows-length (c .args .cells .now))) (c .pre .one)
