@@ -18,7 +18,7 @@ use Rattle.machine.specs.declared.Settings.{Settings}
 use Rattle.machine.proofs.SoundRows.{sound-accepted, accepted-sound}
 use Rattle.machine.proofs.Soundness.{words-keep-length, words-keep-sound}
 use Rattle.machine.proofs.FreshRows.{fresh-sound}
-use Rattle.machine.proofs.SettingTheorems.{accepted-list}
+use Rattle.machine.proofs.SettingListTheorems.{accepted-list}
 use Rattle.exclusion.proofs.Fresh.{freshTable-fresh}
 use Rattle.exclusion.proofs.Exclusion.{invariant-after, invariant-held, invariant-critical}
 
@@ -56,7 +56,7 @@ exclusion t ws h = (stays-sound t ws (fresh-sound t h), words-keep-length t ws, 
 -- ---- under settings
 
 -- Demand 3 whole under settings, the same statement for every one of them: a list under settings leads to the table
--- after its accepted words, given without settings (`accepted-list` of machine/proofs/SettingTheorems.antt).
+-- after its accepted words, given without settings (`accepted-list` of SettingListTheorems.antt).
 -- Excludes: a setting under which a list brings two processes to 30, or k + 1 to be held at k.
 -- Not empty: `fresh-exists`, and each setting accepts words (machine/proofs/SettingExamples.antt).
 pub exclusion-under : (s : Settings) (t : Table) (ws : List ℕ)

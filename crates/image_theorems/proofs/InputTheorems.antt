@@ -21,7 +21,8 @@ use Rattle.machine.specs.Calls.{Called, numberOf, roomFor, ranCall, callFor, ca
 use Rattle.machine.specs.declared.Settings.{Settings}
 use Rattle.machine.proofs.SoundRows.{sound-accepted, accepted-sound}
 use Rattle.machine.proofs.RunLaws.{runOf-settings, runOf-words, runOf-taken}
-use Rattle.machine.proofs.InputLaws.{words-too-many, words-ready, bytes-words, call-unfit, call-ran, many-unfit, many-words}
+use Rattle.machine.proofs.InputLaws.{words-too-many, words-ready, bytes-words, call-unfit, call-ran, many-unfit}
+use Rattle.machine.proofs.InputLaws.{many-words}
 use Rattle.machine.proofs.WordsAreSteps.{words-keep-sound}
 use Rattle.image_theorems.proofs.Reading.{accepted-facts}
 use Rattle.image_theorems.proofs.RoundTrip.{table-sound}

@@ -29,7 +29,8 @@ use Rattle.machine.proofs.TableLaws.{row-over}
 use Rattle.machine.proofs.SoundRows.{sound-few}
 use Rattle.machine.proofs.WordLaws.{kind-wordOf, process-wordOf}
 use Rattle.machine.proofs.OneWord.{member-low}
-use Rattle.machine.proofs.SettingLaws.{goes-by, flicker-forbidden, flicker-free, go-forbidden, go-free, others-free}
+use Rattle.machine.proofs.SettingLaws.{goes-by, flicker-forbidden, flicker-free, go-forbidden, go-free}
+use Rattle.machine.proofs.SettingLaws.{others-free}
 
 module _ (s : Settings) (t : Table) (p : ℕ) (z : tableRefusal t ≡ 0) (l : p < length t) where
   -- a word of its parts is forbidden as these are
@@ -67,7 +68,10 @@ module _ (s : Settings) (t : Table) (p : ℕ) (z : tableRefusal t ≡ 0) (l : p 
   lower : row t p .location ≡ 23 → size (row t p .est) < row t p .level → goForbidden s t p ≡ false
   lower e i = stays-free (goes-by t p l ∙ rw (e, lt-ltb _ _ i) refl)
 
-  pushed-before : row t p .location ≡ 23 → row t p .level ≤ size (row t p .est) → row t p .bb ≢ 0 → goForbidden s t p ≡ false
+  pushed-before : row t p .location ≡ 23
+      → row t p .level ≤ size (row t p .est)
+      → row t p .bb ≢ 0
+      → goForbidden s t p ≡ false
   pushed-before e i b = stays-free (goes-by t p l ∙ rw (e, le-ltb _ _ i, ne-eqb _ _ b) refl)
 
   -- where it does

@@ -87,7 +87,9 @@ module _ (s : Settings) (t : Table) (ws l : List ℕ) where
   pub call-unfit : settingsFit s ≡ false → callFor s (Input.Ready t ws) l ≡ refusedCall l badSettings
   call-unfit e = call-by ∙ ap (λ (b : Bool). fit b (leb (roomFor t) (length l))) e
 
-  pub call-short : settingsFit s ≡ true → length l < roomFor t → callFor s (Input.Ready t ws) l ≡ refusedCall l tooFewLent
+  pub call-short : settingsFit s ≡ true
+      → length l < roomFor t
+      → callFor s (Input.Ready t ws) l ≡ refusedCall l tooFewLent
   call-short e h = call-by ∙ ap₂ fit e (lt-leb (roomFor t) (length l) h)
 
   pub call-ran : settingsFit s ≡ true → roomFor t ≤ length l → callFor s (Input.Ready t ws) l ≡ ranCall s t ws l

@@ -38,6 +38,7 @@ pub mod CellBounds
 pub mod CellEffects
 pub mod CellTheorems
 pub mod SettingTheorems
+pub mod SettingListTheorems
 pub mod RoundTheorems
 pub mod Benchmarks
 pub mod ExportExamples

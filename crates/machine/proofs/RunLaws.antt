@@ -27,7 +27,10 @@ module _ (s : Settings) (t : Table) (ws : List ℕ) where
   unfolding runOf
   runOf-settings e f = rw (eq-eqb (tableRefusal t) 0 e, f) refl
 
-  pub runOf-words : tableRefusal t ≡ 0 → settingsFit s ≡ true → limit < length ws → runOf s t ws ≡ untaken t tooManyWords
+  pub runOf-words : tableRefusal t ≡ 0
+      → settingsFit s ≡ true
+      → limit < length ws
+      → runOf s t ws ≡ untaken t tooManyWords
   unfolding runOf
   runOf-words e f l = rw (eq-eqb (tableRefusal t) 0 e, f, lt-leb (length ws) limit l) refl
 

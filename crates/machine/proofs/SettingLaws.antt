@@ -7,7 +7,7 @@
 --   before15-free, before15-first, before15-other    16 and 17 between 11 and 15
 --   under-table, under-unfit, under-fit    6 and 7, then 18, then the word
 --   accepted-under, under-accepted         what is accepted under settings
---   full-free                              a word that meets 15 is not forbidden
+--   full-free, full-under                  a word that meets 15 is not forbidden, and meets it under settings
 --   met-16, met-17, met-18                 what meets 16, 17 and 18
 --   Under, under-cases                     the refusal without settings, one of these two, or 18
 --
@@ -34,8 +34,9 @@ use Rattle.machine.specs.declared.Row.{Row}
 use Rattle.machine.specs.declared.Settings.{Settings}
 use Rattle.machine.proofs.TableLaws.{row-same}
 use Rattle.machine.proofs.Forms.{reconsidered-cases, gone-23}
+use Rattle.machine.proofs.SoundRows.{sound-accepted}
 use Rattle.machine.proofs.Accepted.{accepted-table}
-use Rattle.machine.proofs.FullLaws.{full-go}
+use Rattle.machine.proofs.FullLaws.{full-go, full-word}
 
 -- ---- no refusal without settings is above 15
 
@@ -209,6 +210,11 @@ module _ (s : Settings) (t : Table) (w : ℕ) where
       (split (λ b. (b && (goesTo24 t (processOf w) && otherWriter t (processOf w))) ≡ false) (eqb (s .turn) oneWriter)
       (λ _. rw (full .1) refl) (λ _. refl))
 
+  -- and meets 15 under settings too
+  pub full-under : settingsFit s ≡ true → refusalOf t w ≡ 15 → refusalUnder s t w ≡ 15
+  full-under fit e =
+      under-fit (sound-accepted t (full-word t w e .0)) fit ∙ before15-free forbidden (refusalOf t w) (full-free e) ∙ e
+
 -- a word that is accepted without settings, given with settings that fit
 pub record Allowed (s : Settings) (t : Table) (w : ℕ) : Type 0 where
   pub settings-fit : settingsFit s ≡ true
@@ -235,7 +241,8 @@ module _ (s : Settings) (t : Table) (w : ℕ) where
           Under.forbids (under-fit s t w z h ∙ before15-first (forbidden s t w) (refusalOf t w) f n) f
           (record { settings-fit = h; not-refused = n })
       fit z h (no f) (no x) (yes full) = absurd (f (full-free s t w full))
-      fit z h (no f) (no x) (no y) = Under.same (under-fit s t w z h ∙ before15-other (forbidden s t w) (refusalOf t w) x y)
+      fit z h (no f) (no x) (no y) =
+          Under.same (under-fit s t w z h ∙ before15-other (forbidden s t w) (refusalOf t w) x y)
 
       go : Dec (tableRefusal t ≡ 0) → Under s t w
       go (no ne) = Under.same (under-table s t w ne)

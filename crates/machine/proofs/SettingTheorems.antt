@@ -1,53 +1,48 @@
 -- Settings, as a reader opens them: what a step answers under settings, for all six of them together, and for numbers
--- that are none; what a run does is in runs/proofs/OneByOne.antt. `refusalOf`, `afterWord` and `answerOf` are the step without settings, which is the one under
--- 0 and 0 (`weakest-step`); `refusalUnder s`, `afterUnder s` and `answerUnder s` the step under the settings s
--- (Settings.antt).
+-- that are none; lists and pairs of words are in SettingListTheorems.antt, runs in runs/proofs/OneByOne.antt.
+-- `refusalOf`, `afterWord` and `answerOf` are the step without settings, which is the one under 0 and 0
+-- (`weakest-step`); `refusalUnder s`, `afterUnder s` and `answerUnder s` the step under the settings s (Settings.antt).
 --
 --   weakest-step                          0 and 0 is the step without settings
---   accepted-same, refused-same, refused-under    settings refuse some words that 0 and 0 accept, and change nothing else
+--   accepted-same, refused-same           settings refuse some words that 0 and 0 accept, and change nothing else
+--   refused-under                         a word that they refuse changes nothing
 --   under-keeps-sound                     a sound table stays sound
 --   forbidden-flicker, flicker-forbidden  which words meet 16
 --   forbidden-go, go-forbidden            which words meet 17
 --   unfit-settings, settings-unfit        which words meet 18
 --   word-is-allowed-step, one-allowed-word, left-out-word    words and the steps of the system that settings leave
---   accepted-list, each-accepted          a list under settings is its accepted words under 0 and 0
---   exchange-under                        two words in either order, where turn is not to have one writer
 --
 -- Assumes nothing.
-use Prim.Native.Nat.{ℕ, zero, suc, _≤_, _<_}
+use Prim.Native.Nat.{ℕ, _≤_, _<_}
 use mathlib.Core.Path.{_≡_, refl, sym, ap, _∙_, subst}
-use mathlib.Core.Bool.{Bool, true, false, cond, not, false≢true, and-eq-true-iff}
+use mathlib.Core.Bool.{true, false, not, false≢true, and-eq-true-iff}
 use mathlib.Core.Logic.{_≢_, _⊎_, inl, inr, ⊎-elim, by-cases}
-use mathlib.Core.List.{List, [], _∷_}
 use native.Mathlib.Decide.{ℕ-discrete, decLt}
 use native.Mathlib.Omega.{arith}
 use lib.Dec.{eqb, leb}
-use lib.ListN.{length, getD, take}
+use lib.ListN.{length}
 use borrow.Author.Tests.{eqb-true, eqb-false, leb-true, eq-eqb, ne-eqb, le-leb, not-true}
 use Rattle.counting.proofs.TestLaws.{fails}
 use Rattle.counting.proofs.RangeLaws.{some-one}
 use Rattle.machine.specs.Tables.{Table, row, sound, tableRefusal}
 use Rattle.machine.specs.Words.{FLICKER, GO, kindOf, processOf}
-use Rattle.machine.specs.Shared.{noCell, clash, butHistory}
-use Rattle.machine.specs.Steps.{gone, moved, refusalOf, afterWord, afterWords, cellOf, answerOf, stepAnswerOf}
+use Rattle.machine.specs.Shared.{noCell}
+use Rattle.machine.specs.Steps.{gone, moved, refusalOf, afterWord, answerOf, stepAnswerOf}
 use Rattle.machine.specs.Settings.{weakest, settingsFit, flickerForbidden, otherWriter, goesTo24}
-use Rattle.machine.specs.Settings.{forbiddenBy, refusalUnder, afterUnder, listUnder, acceptedOf}
+use Rattle.machine.specs.Settings.{forbiddenBy, refusalUnder, afterUnder}
 use Rattle.machine.specs.Settings.{answerUnder, stepAnswerUnder, SameStep}
 use Rattle.machine.specs.System.{Step, stepWord, StepAllowed}
-use Rattle.machine.specs.declared.Row.{Row}
 use Rattle.machine.specs.declared.Settings.{Settings}
 use Rattle.machine.proofs.SoundRows.{sound-accepted, accepted-sound}
 use Rattle.machine.proofs.Accepted as Accepted
 use Rattle.machine.proofs.Soundness.{word-keeps-sound}
-use Rattle.machine.proofs.FullLaws.{full-word}
 use Rattle.machine.proofs.CellLaws.{refused-cell}
-use Rattle.machine.proofs.CellTheorems.{others-kept, exchange}
 use Rattle.machine.proofs.WordsAreSteps.{word-is-step, one-word}
 use Rattle.machine.proofs.AllowedSteps.{allowed-free, free-allowed, beside-forbidden}
 use Rattle.machine.proofs.SettingLaws as Laws
 use Rattle.machine.proofs.SettingLaws.{weakest-free, forbidden-cases}
 use Rattle.machine.proofs.SettingLaws.{Under, under-cases, accepted-under, under-accepted}
-use Rattle.machine.proofs.SettingLaws.{under-forbidden, under-unfit, under-fit, full-free, met-16, met-17, met-18}
+use Rattle.machine.proofs.SettingLaws.{under-forbidden, under-unfit, full-under, met-16, met-17, met-18}
 
 -- ---- the step
 
@@ -129,7 +124,8 @@ Fits s = (s .act ≤ 1) × (s .turn ≤ 2)
 
 fit-says : (s : Settings) → settingsFit s ≡ true → Fits s
 fit-says s h =
-    let both = and-eq-true-iff (leb (s .act) 1) (leb (s .turn) 2) .0 h in (leb-true _ _ (both .0), leb-true _ _ (both .1))
+    let both = and-eq-true-iff (leb (s .act) 1) (leb (s .turn) 2) .0 h in
+    (leb-true _ _ (both .0), leb-true _ _ (both .1))
 
 says-fit : (s : Settings) → Fits s → settingsFit s ≡ true
 says-fit s (a, u) = and-eq-true-iff _ _ .1 (le-leb _ _ a, le-leb _ _ u)
@@ -149,7 +145,8 @@ pub forbidden-flicker : (s : Settings) (t : Table) (w : ℕ)
     ⊎ ((row t (processOf w) .location ≢ 24) × (s .act ≡ 1)))
 forbidden-flicker s t w e =
     let m = met-16 s t w e in
-    (fit-says s (m .0 .settings-fit), m .0 .not-refused, m .1 .0, go (ℕ-discrete (row t (processOf w) .location) 24) (m .1 .1))
+    let there = go (ℕ-discrete (row t (processOf w) .location) 24) (m .1 .1) in
+    (fit-says s (m .0 .settings-fit), m .0 .not-refused, m .1 .0, there)
   where
     go : Dec (row t (processOf w) .location ≡ 24)
         → flickerForbidden s (row t (processOf w)) ≡ true
@@ -243,7 +240,8 @@ go-forbidden s t w q fit n k one l m (ne, there, level) =
 pub unfit-settings : (s : Settings) (t : Table) (w : ℕ)
     → refusalUnder s t w ≡ 18
     → (sound t ≡ true) × ((1 < s .act) ⊎ (2 < s .turn))
-unfit-settings s t w e = let m = met-18 s t w e in (accepted-sound t (m .0), go (decLt 1 (s .act)) (decLt 2 (s .turn)) (m .1))
+unfit-settings s t w e =
+    let m = met-18 s t w e in (accepted-sound t (m .0), go (decLt 1 (s .act)) (decLt 2 (s .turn)) (m .1))
   where
     go : Dec (1 < s .act) → Dec (2 < s .turn) → settingsFit s ≡ false → (1 < s .act) ⊎ (2 < s .turn)
     go (yes a) u h = inl a
@@ -262,14 +260,6 @@ settings-unfit s t w h o = under-unfit s t w (sound-accepted t h) (fails (settin
     go (inr u) f = omega (arith, u, f .1)
 
 -- ---- demand 2 under settings
-
--- 15 is met under settings where it is met under 0 and 0
-full-under : (s : Settings) (t : Table) (w : ℕ)
-    → settingsFit s ≡ true
-    → refusalOf t w ≡ 15
-    → refusalUnder s t w ≡ 15
-full-under s t w fit e =
-    under-fit s t w (sound-accepted t (full-word t w e .0)) fit ∙ rw (full-free s t w e, e) refl
 
 -- A word that is accepted under settings is the word of a step of the system that these leave, by the process that it
 -- names, from a sound table to the table after the word.
@@ -331,109 +321,3 @@ pub left-out-word : (s : Settings) (t u : Table) (p : ℕ)
     → refusalUnder s t (stepWord p x) ≢ 0
 left-out-word s t u p h l x out z =
     out (free-allowed s t p (sound-accepted t h) l x (accepted-under s t (stepWord p x) z .1))
-
--- ---- lists
-
--- The table after a list under settings is the table after its accepted words under 0 and 0.
--- Excludes: a setting under which a list leads anywhere else; so whatever holds of every list holds under settings.
-pub accepted-list : (s : Settings) (t : Table) (ws : List ℕ) → listUnder s t ws ≡ afterWords t (acceptedOf s t ws)
-unfolding listUnder acceptedOf afterWords afterUnder
-accepted-list s t [] = refl
-accepted-list s t (w ∷ ws) = go (ℕ-discrete (refusalUnder s t w) 0) (accepted-list s (afterUnder s t w) ws)
-  where
-    go : Dec (refusalUnder s t w ≡ 0)
-        → listUnder s (afterUnder s t w) ws ≡ afterWords (afterUnder s t w) (acceptedOf s (afterUnder s t w) ws)
-        → listUnder s (afterUnder s t w) ws ≡ afterWords t (acceptedOf s t (w ∷ ws))
-    go (yes z) h = h ∙ rw (eq-eqb _ _ z) refl
-    go (no ne) h = h ∙ rw (ne-eqb _ _ ne) refl
-
--- every word of a list is accepted under 0 and 0, after the ones before it
-abbrev pub AllAccepted : Table → List ℕ → Type 0
-AllAccepted t vs = (i : ℕ) → i < length vs → refusalOf (afterWords t (take i vs)) (getD vs i 0) ≡ 0
-
-one-more : (t : Table) (w : ℕ) (vs : List ℕ)
-    → refusalOf t w ≡ 0
-    → AllAccepted (afterWord t w) vs
-    → AllAccepted t (w ∷ vs)
-unfolding afterWords
-one-more t w vs z h zero l = z
-one-more t w vs z h (suc i) l = h i (omega arith)
-
--- And these words are accepted under 0 and 0, every one.
--- Excludes: words that are only passed over.
-pub each-accepted : (s : Settings) (t : Table) (ws : List ℕ) → AllAccepted t (acceptedOf s t ws)
-unfolding acceptedOf
-each-accepted s t [] = λ i l. absurd (omega arith)
-each-accepted s t (w ∷ ws) =
-    let u = afterUnder s t w in
-    let rest = acceptedOf s u ws in
-    let h = each-accepted s u ws in
-    let pick : Bool → List ℕ = λ b. cond b (w ∷ rest) rest in
-    by-cases (ℕ-discrete (refusalUnder s t w) 0)
-    (λ z.
-    let a = accepted-same s t w z in
-    subst (AllAccepted t) (sym (ap pick (eq-eqb _ _ z)))
-    (one-more t w rest (a .0) (subst (λ (v : Table). AllAccepted v rest) (a .1 .table-same) h)))
-    (λ ne.
-    subst (AllAccepted t) (sym (ap pick (ne-eqb _ _ ne)))
-    (subst (λ (v : Table). AllAccepted v rest) (refused-under s t w ne .0) h))
-
--- ---- two words
-
--- forbidding looks at the location of the process alone, where turn is not to have one writer
-same-forbidden : (s : Settings) (t u : Table) (k p : ℕ)
-    → s .turn ≢ 1
-    → row u p .location ≡ row t p .location
-    → forbiddenBy s u k p ≡ forbiddenBy s t k p
-unfolding forbiddenBy
-same-forbidden s t u k p ne e = rw (ne-eqb _ _ ne, e) refl
-
--- w after v, by what the exchange of the two says of 0 and 0
-accepted-after : (s : Settings) (t : Table) (v w : ℕ)
-    → s .turn ≢ 1
-    → refusalUnder s t w ≡ 0
-    → processOf v ≢ processOf w
-    → refusalOf (afterWord t v) w ≡ 0
-    → refusalUnder s (afterWord t v) w ≡ 0
-accepted-after s t v w one z ne n =
-    let a = accepted-under s t w z in
-    under-accepted s (afterWord t v) w (record { settings-fit = a .0 .settings-fit; not-refused = n })
-    (same-forbidden s t (afterWord t v) (kindOf w) (processOf w) one
-    (ap (λ (r : Row). r .location) (others-kept t v (processOf w) (λ e. ne (sym e))))
-    ∙ a .1)
-
--- Two words as for `exchange` of CellTheorems.antt, under settings of which turn is 0 or 2, and act either: each is
--- accepted after the other under the same settings, and both orders lead to the same table, history apart.
--- Excludes: act plain, or turn plain, that look at a process of which the word tells nothing.
--- Under one writer it is false: `one-writer-exchange` of SettingExamples.antt, where each of two may go to 24, and after
--- either the other may not.
-pub exchange-under : (s : Settings) (t : Table) (v w : ℕ)
-    → s .turn ≢ 1
-    → refusalUnder s t v ≡ 0
-    → refusalUnder s t w ≡ 0
-    → processOf v ≢ processOf w
-    → clash (cellOf t v) (cellOf t w) ≡ false
-    → refusalUnder s (afterUnder s t v) w ≢ 15
-    → refusalUnder s (afterUnder s t w) v ≢ 15
-    → (refusalUnder s (afterUnder s t v) w ≡ 0)
-    × (refusalUnder s (afterUnder s t w) v ≡ 0)
-    × (butHistory (afterUnder s (afterUnder s t v) w) ≡ butHistory (afterUnder s (afterUnder s t w) v))
-exchange-under s t v w one x y ne free fw fv =
-    let a = accepted-same s t v x in
-    let b = accepted-same s t w y in
-    let fit = accepted-under s t v x .0 .settings-fit in
-    let tv = a .1 .table-same in
-    let tw = b .1 .table-same in
-    let e =
-    exchange t v w (a .0) (b .0) ne free
-    (λ f. fw (ap (λ (u : Table). refusalUnder s u w) tv ∙ full-under s (afterWord t v) w fit f))
-    (λ f. fv (ap (λ (u : Table). refusalUnder s u v) tw ∙ full-under s (afterWord t w) v fit f)) in
-    let p = accepted-after s t v w one y ne (e .0) in
-    let q = accepted-after s t w v one x (λ i. ne (sym i)) (e .1) in (
-      ap (λ (u : Table). refusalUnder s u w) tv ∙ p,
-      ap (λ (u : Table). refusalUnder s u v) tw ∙ q,
-      ap (λ (u : Table). butHistory (afterUnder s u w)) tv
-          ∙ ap butHistory (accepted-same s (afterWord t v) w p .1 .table-same) ∙ e .2
-          ∙ sym (ap butHistory (accepted-same s (afterWord t w) v q .1 .table-same))
-          ∙ sym (ap (λ (u : Table). butHistory (afterUnder s u v)) tw),
-    )

@@ -1,7 +1,7 @@
 -- The call from C on bytes (MANUAL, "The call on bytes").
 --
 --   numberOf taken refusal  ==  words taken and refusal as one number.
---   callFor s i l    ==  the call's number and the lent bytes l after it, under the settings s, for what the input holds.
+--   callFor s i l    ==  the call's number and the lent bytes l after it, under the settings s, for what an input holds.
 --   callOf s bs l    ==  the same for the input bytes bs.
 --
 -- Assumes nothing.

@@ -1,6 +1,6 @@
 -- One step of one process, with the ahead sets and the passes, lists of words, and what a step tells (MANUAL, "Steps",
--- "Ahead sets", "Passes", "Lists of words", "Shared cells" and "The functions of the crates"). It is the step under 0 and
--- 0; Settings.antt has the step under any settings, made of it.
+-- "Ahead sets", "Passes", "Lists of words", "Shared cells" and "The functions of the crates"). It is the step under 0
+-- and 0; Settings.antt has the step under any settings, made of it.
 --
 --   goRow n p c v r  ==  row r of process p after GO, but for turn[level] and for what 30 forgets; c is the set of
 --                        those that compete, v what turn[level] holds.

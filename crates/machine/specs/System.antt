@@ -164,8 +164,8 @@ stepCell p (leaves e) = actWritten p
 stepCell p (cancels e) = noCell
 
 -- the steps that settings leave, a second reading beside Settings.antt: act[p] flickers unless act is plain, 1; turn
--- flickers unless it is plain, 2; where turn is to have one writer, 1, a process comes to 24 only while no other is at 24
--- with its level; of all other alternatives settings say nothing
+-- flickers unless it is plain, 2; where turn is to have one writer, 1, a process comes to 24 only while no other is at
+-- 24 with its level; of all other alternatives settings say nothing
 abbrev pub StepAllowed : Settings → {t u : Table} (p : ℕ) → Step t p u → Type 0
 StepAllowed s p (rests e) = Unit {0}
 StepAllowed s p (comes e) = Unit {0}

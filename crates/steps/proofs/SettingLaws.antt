@@ -60,7 +60,10 @@ module _ (t : Table) (p : ℕ) where
 -- ---- a kind taken under settings
 
 -- by another number that is the same
-by-same : {n v : ℕ} {x y : List (List ℕ)} {k p a : ℕ} {s : Stepped} → v ≡ n → TakesBy n x k p a y s → TakesBy v x k p a y s
+by-same : {n v : ℕ} {x y : List (List ℕ)} {k p a : ℕ} {s : Stepped}
+    → v ≡ n
+    → TakesBy n x k p a y s
+    → TakesBy v x k p a y s
 by-same {x = x} {y} {k} {p} {a} {s} e h = subst (λ (i : ℕ). TakesBy i x k p a y s) (sym e) h
 
 module _ {x y : List (List ℕ)} {k p a : ℕ} {s : Stepped} (m : Settings) where

@@ -70,7 +70,8 @@ module _ (m : Settings) (t : Table) (w : ℕ) where
   under-early : (v : ℕ) → v ≡ refusalOf t w → (v ≡ 0 → ⊥) → (v ≡ 15 → ⊥) → tableRefusal t ≡ 0 → settingsFit m ≡ true
       → v ≡ refusalUnder m t w
   under-early v e n f z fit =
-      e ∙ sym (under-fit m t w z fit ∙ before15-other (forbidden m t w) (refusalOf t w) (λ y. n (e ∙ y)) (λ y. f (e ∙ y)))
+      let other = before15-other (forbidden m t w) (refusalOf t w) (λ y. n (e ∙ y)) (λ y. f (e ∙ y)) in
+      e ∙ sym (under-fit m t w z fit ∙ other)
 
 -- ---- the step of cells
 

@@ -132,8 +132,8 @@ module _ (bs : List ℕ) (t : Table) (ws : List ℕ) (sound : tableRefusal t ≡
   )
 
 -- For every input whose bytes and whose image are accepted, the text ends in a line feed and one more line, and that
--- line says what the run of its event words from its table answers under 0 and 0: `done` and the words taken, or `stop`, the words
--- taken and the refusal, 12 included.
+-- line says what the run of its event words from its table answers under 0 and 0: `done` and the words taken, or
+-- `stop`, the words taken and the refusal, 12 included.
 -- Excludes: `done` after a refusal; another count or refusal than the run's; text after the last line.
 pub last-line : (bs : List ℕ)
     → bytesFit bs ≡ true

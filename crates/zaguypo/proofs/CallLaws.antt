@@ -42,7 +42,8 @@ pub calls-bad-bytes : (s : Settings) (l : List ℕ) → CallsTo (callFor s Input
 unfolding callFor
 calls-bad-bytes s l = refused l badBytes badBytes refl
 
-pub calls-bad-image : (s : Settings) (l : List ℕ) (place why : ℕ) → CallsTo (callFor s (Input.BadImage place why) l) l why
+pub calls-bad-image : (s : Settings) (l : List ℕ) (place why : ℕ)
+    → CallsTo (callFor s (Input.BadImage place why) l) l why
 unfolding callFor
 calls-bad-image s l place why = refused l why why refl
 

@@ -50,7 +50,8 @@ settings-fit-requires c κs = search needs
 
 -- ---- where the table is sound
 
-sound : (c : tie.Else1 Inv-loop μ-loop) → tableRefusal (rowsOf (c .before .before .before .before .args .cells .now)) ≡ 0
+sound : (c : tie.Else1 Inv-loop μ-loop)
+    → tableRefusal (rowsOf (c .before .before .before .before .args .cells .now)) ≡ 0
 sound c = sym (c .before .check .ensures) ∙ c .if1 .left
 
 same-length-2 : tie.Need-same-length-2 Inv-loop μ-loop
@@ -125,7 +126,8 @@ returns-3 c =
     let ws = a .words .now in
     let y = c .before .loop .cells in
     let n : c .before .loop .i ≡ length ws = omega arith in
-    let e = v .4 ∙ ap (listUnder m (rowsOf y)) (ap (λ (k : ℕ). drop k ws) n ∙ drop-length ws) ∙ after-none m (rowsOf y) in
+    let rest = ap (λ (k : ℕ). drop k ws) n ∙ drop-length ws in
+    let e = v .4 ∙ ap (listUnder m (rowsOf y)) rest ∙ after-none m (rowsOf y) in
     listed m (a .cells .now) ws y (sym e) (v .1)
 
 pub step-all-spec : {M : Type 1} → statement M

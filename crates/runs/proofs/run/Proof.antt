@@ -28,7 +28,8 @@ returns : tie.Need-returns
 returns c =
     let a = c .before .before .before .before .before .args in
     let x = a .cells .now in
-    let o = runOf-table (a .settings) (rowsOf x) (a .words .now) _ (c .before .before .check .ensures) (c .before .if1 .taken) in
+    let why = c .before .before .check .ensures in
+    let o = runOf-table (a .settings) (rowsOf x) (a .words .now) _ why (c .before .if1 .taken) in
     runs-ended x x _ zeroTally noCell _ _ refl o (c .untaken .ensures)
 
 -- ---- where the table is sound

@@ -101,7 +101,8 @@ returns c =
     let w = getD ws (at .i) 0 in
     let s = c .before .before .before .before .before .advance-under .ensures in
     let m = under-refused (a .settings) t w _ (sym (s .answer-is) ∙ c .before .before .refusal .given .1) in
-    let halt = run-halt (a .settings) t _ (at .tally) (at .cell) ws (at .i) _ (omega arith) (m .0) (s .becomes .rows-are) (m .1) in
+    let halt =
+    run-halt (a .settings) t _ (at .tally) (at .cell) ws (at .i) _ (omega arith) (m .0) (s .becomes .rows-are) (m .1) in
     let size = s .becomes .size-is ∙ v .3 in
     record {
       runs = runs-ended (a .cells .now) _ _ (at .tally) (at .cell) _ _ size (v .7 ∙ halt) (c .answer .ensures);

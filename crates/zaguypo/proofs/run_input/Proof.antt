@@ -107,7 +107,8 @@ same-length c = search needs
 returns : tie.Need-returns
 returns c =
     let o = c .before .before .before .before .before in
-    calls-as (call-of (under o) (bytes o) (lent o) Input.BadBytes (said o _ (c .enum-told .given .1))) (calls-bad-bytes (under o) (lent o))
+    calls-as (call-of (under o) (bytes o) (lent o) Input.BadBytes (said o _ (c .enum-told .given .1)))
+    (calls-bad-bytes (under o) (lent o))
 
 same-length-2 : tie.Need-same-length-2
 same-length-2 c = search needs
@@ -116,7 +117,8 @@ returns-2 : tie.Need-returns-2
 returns-2 c =
     let o = c .before .before .before .before .before .before in
     let g = c .before .number .given in
-    calls-as (call-of (under o) (bytes o) (lent o) _ (said o _ (g .1))) (calls-bad-image (under o) (lent o) (g .0 .0) (g .0 .1 .0))
+    calls-as (call-of (under o) (bytes o) (lent o) _ (said o _ (g .1)))
+    (calls-bad-image (under o) (lent o) (g .0 .0) (g .0 .1 .0))
 
 same-length-3 : tie.Need-same-length-3
 same-length-3 c = search needs
@@ -125,7 +127,8 @@ returns-3 : tie.Need-returns-3
 returns-3 c =
     let o = c .before .before .before .before .before .before in
     let g = c .before .enum-told2 .given in
-    calls-as (call-of (under o) (bytes o) (lent o) _ (said o _ (g .1) .holds)) (calls-too-many (under o) (lent o) _ _ (c .too-many .ensures))
+    calls-as (call-of (under o) (bytes o) (lent o) _ (said o _ (g .1) .holds))
+    (calls-too-many (under o) (lent o) _ _ (c .too-many .ensures))
 
 same-length-4 : tie.Need-same-length-4
 same-length-4 c = search needs

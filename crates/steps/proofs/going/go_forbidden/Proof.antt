@@ -33,7 +33,8 @@ returns-2 c =
     let a = s .args in
     let row-is = c .before .before .row-at .ensures in
     let away = sym (ap toPush row-is) ∙ sym (c .before .to-push .ensures) ∙ not-true _ (c .if2 .taken) in
-    sym (forbids-away (rowsOf (a .cells .now)) (a .p) (a .settings) (c .before .before .before .if1 .left) (inside s) away)
+    let one = c .before .before .before .if1 .left in
+    sym (forbids-away (rowsOf (a .cells .now)) (a .p) (a .settings) one (inside s) away)
 
 has-writer-requires : tie.Need-has-writer-requires
 has-writer-requires c κs = search needs
@@ -44,7 +45,8 @@ returns-3 c =
     let a = s .args in
     let t = rowsOf (a .cells .now) in
     let row-is = c .before .before .before .row-at .ensures in
-    let goes = sym (ap toPush row-is) ∙ sym (c .before .before .to-push .ensures) ∙ not-false _ (c .before .if2 .left) in
+    let push = c .before .before .to-push .ensures in
+    let goes = sym (ap toPush row-is) ∙ sym push ∙ not-false _ (c .before .if2 .left) in
     c .has-writer .ensures
     ∙ ap (λ (r : Row). hasWriter (r .level) t) row-is
     ∙ sym (forbids-by t (a .p) (a .settings) (c .before .before .before .before .if1 .left) (inside s) goes)

@@ -37,7 +37,8 @@ returns-2 c =
     let s = c .before .before .before .before in
     let f = sym (c .before .before .formed .ensures) ∙ not-false _ (c .before .if1 .left) in
     let process = c .before .before .before .process-of .ensures in
-    process-steps (s .args .settings) (s .args .cells .now) (s .args .word) (s .pre .0) (s .pre .1) f (omega (arith, process))
+    process-steps (s .args .settings) (s .args .cells .now) (s .args .word) (s .pre .0) (s .pre .1) f
+    (omega (arith, process))
 
 kind-of-requires : tie.Need-kind-of-requires
 kind-of-requires c κs = search needs
@@ -126,7 +127,8 @@ same-length-4 c = search needs
 returns-6 : tie.Need-returns-6
 returns-6 c =
     taken (c .before .before .before .before .before .before) _ _ _ refl
-    (takes-free _ (others-free _ _ _ _ (c .before .before .before .if5 .left) (c .before .before .before .before .if4 .left))
+    (takes-free _
+    (others-free _ _ _ _ (c .before .before .before .if5 .left) (c .before .before .before .before .if4 .left))
     (c .before .take-jump .ensures))
 
 pub advance-under-spec : {M : Type 1} → statement M
