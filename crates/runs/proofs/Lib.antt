@@ -1,4 +1,5 @@
--- Laws of runs, and the call of a run in a walk by hand.
+-- Laws of runs, and the calls in the walk of the run on lent rows.
 pub mod RunLaws
+pub mod StandLaws
 pub mod OneByOne
-pub mod Passing
+pub mod RunCalls

@@ -7,13 +7,17 @@ use machine::Settings;
 use machine::SharedCell;
 use machine::Stepped;
 use machine::Tally;
+use machine::Told;
 use steps::stepping::advance_under;
 ghost use mathlib.Core.Path.{_≡_};
+ghost use Prim.Native.Nat.{_≤_};
+ghost use lib.ListN.{length};
 ghost use Rattle.machine.specs.Shared.{noCell};
 ghost use Rattle.machine.specs.Runs.{counted, zeroTally, runFrom, runOf};
 ghost use Rattle.cells.specs.View.{rowsOf};
 ghost use Rattle.runs.specs.Outcomes.{answered, Runs, RunsSound, RunsTo};
-ghost use Rattle.runs.specs.Bounds.{Room, Runnable};
+ghost use Rattle.runs.specs.Progressing.{onwardOf, haltedOf, Stands, Tried};
+ghost use Rattle.runs.specs.Bounds.{Room, Runnable, Checked};
 
 // What a run hands back: how many words it took, the refusal or 0, the shared cell of the last of
 // them, and the tally.
@@ -97,9 +101,26 @@ pub fn run_words(cells: &mut [[u16; 24]], words: &[u32], settings: Settings) -> 
     answer(0, cell, tally)
 }
 
-// A run under settings at a table of any size and content: 6 or 7 for the table, then 18 for the
-// settings, then 12 for more than 8,192 words, and no row is changed; else the words in order up to
-// the first that is refused.
+// What refuses a run before any word is taken, or 0: 6 or 7 for the table, then 18 for the settings,
+// then 12 for more than 8,192 words.
+fn check_run(cells: &[[u16; 24]], words: &[u32], settings: Settings) -> u16
+    ensures { λ v. ⌜ Checked settings (now (words .entry)) (now (cells .entry)) v ⌝ }
+{
+    let unsound = check(cells);
+    if unsound != 0 {
+        return unsound;
+    }
+    if !rows::settings::settings_fit(settings) {
+        return machine::BAD_SETTINGS;
+    }
+    if machine::RUN_LIMIT < words.len() {
+        return machine::TOO_MANY_WORDS;
+    }
+    0
+}
+
+// A run under settings at a table of any size and content: it is refused, and no row is changed; else
+// the words in order up to the first that is refused.
 pub fn run(cells: &mut [[u16; 24]], words: &[u32], settings: Settings) -> RunAnswer
     ensures { λ r. ⌜
         Runs (now (cells .entry))
@@ -107,41 +128,112 @@ pub fn run(cells: &mut [[u16; 24]], words: &[u32], settings: Settings) -> RunAns
         (now (cells .exit)) r
         ⌝ }
 {
-    let refusal = check(cells);
+    let refusal = check_run(cells, words, settings);
     if refusal != 0 {
         return untaken(refusal);
-    }
-    if !rows::settings::settings_fit(settings) {
-        return untaken(machine::BAD_SETTINGS);
-    }
-    if machine::RUN_LIMIT < words.len() {
-        return untaken(machine::TOO_MANY_WORDS);
     }
     run_words(cells, words, settings)
 }
 
-// The same with the settings as two numbers.
-fn run_by(cells: &mut [[u16; 24]], words: &[u32], act: u32, turn: u32) -> RunAnswer
-    ensures { λ r. ⌜
-        Runs (now (cells .entry))
+// Where a run stands: whether it is going, that is, may take another word, the event of the last word
+// taken, and what the run answers if it ends here.
+struct Progress {
+    going: bool,
+    event: Event,
+    ran: Ran,
+}
+
+// The run has taken i words, and told this of the last of them.
+fn onward(i: u32, told: Told) -> Progress
+    ensures { λ p. ⌜ p ≡ onwardOf i told ⌝ }
+{
+    let event = told.event;
+    let cell = told.cell;
+    Progress {
+        going: true,
+        event: event,
+        ran: Ran {
+            taken: i,
+            refusal: 0,
+            cell: cell,
+        },
+    }
+}
+
+// The run ends with a refusal, or with 0, after i words, the last of which used the cell.
+fn halted(i: u32, refusal: u16, cell: SharedCell) -> Progress
+    ensures { λ p. ⌜ p ≡ haltedOf i refusal cell ⌝ }
+{
+    Progress {
+        going: false,
+        event: Event::Quiet,
+        ran: Ran {
+            taken: i,
+            refusal: refusal as u32,
+            cell: cell,
+        },
+    }
+}
+
+// A run under settings at a table of any size and content: it is going, or it is refused.
+fn begin(cells: &[[u16; 24]], words: &[u32], act: u32, turn: u32) -> Progress
+    ensures { λ p. ⌜
+        Stands (record { act = act; turn = turn }) (now (words .entry))
         (runOf (record { act = act; turn = turn }) (rowsOf (now (cells .entry))) (now (words .entry)))
-        (now (cells .exit)) r
+        zeroTally (now (cells .entry)) p
         ⌝ }
 {
-    run(
-        cells,
-        words,
-        Settings {
-            act: act,
-            turn: turn,
-        },
-    )
+    let settings = Settings {
+        act: act,
+        turn: turn,
+    };
+    let refusal = check_run(cells, words, settings);
+    if refusal != 0 {
+        return halted(0, refusal, SharedCell::NONE);
+    }
+    onward(0, Told::QUIET)
+}
+
+// A run that is going takes its next word, or ends: no word is left, or the word is refused.
+fn go_on(cells: &mut [[u16; 24]], words: &[u32], act: u32, turn: u32, at: Progress) -> Progress
+    requires { ⌜
+        Runnable (record { act = act; turn = turn }) (now cells) (now words)
+        × (at .ran .taken ≤ length (now words))
+        ⌝ }
+    ensures { λ p. ⌜
+        Tried (record { act = act; turn = turn }) (now (words .entry)) (at .ran .taken) (at .ran .cell)
+        (now (cells .entry)) (now (cells .exit)) p
+        ⌝ }
+{
+    let ran = at.ran;
+    let cell = ran.cell;
+    let i = ran.taken as usize;
+    if words.len() <= i {
+        return halted(ran.taken, 0, cell);
+    }
+    let settings = Settings {
+        act: act,
+        turn: turn,
+    };
+    match advance_under(cells, words[i], settings) {
+        Stepped::Moved(told) => onward(ran.taken + 1, told),
+        Stepped::Refused(refusal) => halted(ran.taken, refusal, cell),
+    }
+}
+
+// An accepted word with an event is counted in the lent tally. Proved by hand: the borrow checker
+// covers no reference to a struct.
+fn count_word(tally: &mut Tally, event: Event)
+    requires { ⌜ Room (now tally) ⌝ }
+    ensures { λ _. ⌜ now (tally .exit) ≡ counted event (now (tally .entry)) ⌝ }
+{
+    *tally = counted(event, *tally);
 }
 
 // A run of the lent rows by the words under settings, for C (include/zaguypo.h): how many were taken,
 // the refusal or 0, and the shared cell of the last word taken. The rows are left as the taken words
-// make them, and the tally, whatever it held, is that of this run. Proved by hand: the borrow checker
-// covers no reference to a struct.
+// make them. The tally, whatever it held, is zero at the start, and each accepted word is counted in
+// it. Proved by hand, as `count_word`.
 #[no_mangle]
 pub extern "C" fn zaguypo_run_rows(
     rows: &mut [[u16; 24]],
@@ -155,7 +247,13 @@ pub extern "C" fn zaguypo_run_rows(
         (rowsOf (now (rows .entry))) (rowsOf (now (rows .exit)))
         ⌝ }
 {
-    let answer = run_by(rows, words, act, turn);
-    *tally = answer.tally;
-    answer.ran
+    *tally = Tally::ZERO;
+    let mut at = begin(rows, words, act, turn);
+    while at.going {
+        at = go_on(rows, words, act, turn, at);
+        if at.going {
+            count_word(tally, at.event);
+        }
+    }
+    at.ran
 }
