@@ -81,7 +81,7 @@ module _ {M : Type 1} (𝓤 : URA M) (H : Heap 𝓤) (A : Atoms 𝓤) (W : Given
       move ! (1 ∷ 0 ∷ []) $ fjoin ! $ done !
 
   -- what `step_within` ensures, where it answers r and leaves the cells zs
-  abbrev pub Made : Moving → List (List ℕ) → Type 0
+  abbrev Made : Moving → List (List ℕ) → Type 0
   Made r zs = MovesTo (record { act = act; turn = turn }) n w xs zs r
 
   module _ {Γ : List (Item 𝓤)} {E : Env 𝓤 H} {f : Name} {os : List Operand} {dst : Place} {rest : Body}
@@ -99,5 +99,6 @@ module _ {M : Type 1} (𝓤 : URA M) (H : Heap 𝓤) (A : Atoms 𝓤) (W : Given
         (to-within μ ε .0 .4) tt v (λ r zs. Made r (zs .0)) (λ r zs. id⊢ 𝓤 _) (λ r zs made is.
         use1 W (‵ (flft (μ ∷ []) fullShare) ⊛ ‵ ftrue) (id⊢ 𝓤 _) $ split ! $ move ! (1 ∷ []) $ drop ! $
         -- [the token; the array's last list, and true; its lender's part; …]
-        move ! (1 ∷ []) $ fsplit ! $ move ! (1 ∷ []) $ drop ! $ fsplit ! $ move ! (1 ∷ []) $ feqL ! (λ _. move ! (1 ∷ []) $
-        mut-back 𝓤 H A W Cells k l 0 cellsVal (cellsLaws 𝓤 H A W) room (named 0) tt μ ε (zs .0) (next r v (zs .0) made is)))))
+        move ! (1 ∷ []) $ fsplit ! $ move ! (1 ∷ []) $ drop ! $ fsplit ! $ move ! (1 ∷ []) $ feqL ! (λ _.
+        move ! (1 ∷ []) $ mut-back 𝓤 H A W Cells k l 0 cellsVal (cellsLaws 𝓤 H A W) room (named 0) tt μ ε (zs .0)
+        (next r v (zs .0) made is)))))

@@ -1,5 +1,5 @@
--- The calls in the walk of `zaguypo_run_rows` by hand. Each lends what it passes on for the call, and has it back as the
--- call leaves it. A call is a step of a walk, over whatever else is held.
+-- The calls in the walk of `zaguypo_run_rows` by hand. Each lends what it passes on, and has it back as the call leaves
+-- it. A call is a step of a walk, over whatever else is held.
 --
 --   calls-begin        the rows and the words are lent as `&`.
 --   calls-go-on        the rows are lent as `&mut`, the words as `&`.
@@ -29,7 +29,7 @@ use sound.WpLaws.{fmOf}
 use denote.Laws.{Is}
 use denote.Plain.{Nothing, uint-makes}
 use denote.Builtin.{u32}
-use denote.Ref.{RefT, MutRef}
+use denote.Ref.{MutRef}
 use denote.Slice.{sliceVal, Room, shr-slice-copy}
 use denote.Lend.{LentAgain, lends-again, comes-back}
 use denote.Steps.{owned, nothing}

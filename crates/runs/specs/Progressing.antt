@@ -1,11 +1,11 @@
 -- Where a run stands between two words.
 --
---   onwardOf i d          ==   the run has taken i words, and told d of the last.
+--   onwardOf i d          ==   the run has taken i words, and d is what the step told of the last.
 --   haltedOf i v c        ==   it ends with v after i words, the last of which used the cell c.
 --   outcomeAt m ws t h p  ==   the outcome of a run by the words ws that stands at p with the table t and the tally h.
 --   Stands m ws o h y p   <=>  the run with outcome o stands at p, with the cells y and the tally h.
---   Tried m ws i c x y p  <=>  after i words, the last of which used the cell c, the next was tried at the cells x, which
---                              became y, and the run stands at p.
+--   Tried m ws i c x y p  <=>  a run that had taken i words, the last of which used the cell c, took its next word at
+--                              the cells x, or ended there. The cells became y, and the run stands at p.
 --
 -- Assumes nothing.
 use Prim.Native.Nat.{ℕ, _+_, _≤_}

@@ -101,8 +101,8 @@ pub fn run_words(cells: &mut [[u16; 24]], words: &[u32], settings: Settings) -> 
     answer(0, cell, tally)
 }
 
-// What refuses a run before any word is taken, or 0: 6 or 7 for the table, then 18 for the settings,
-// then 12 for more than 8,192 words.
+// What refuses a run before any word is taken, or 0: 6 or 7 for the table, then 18 for the
+// settings, then 12 for more than 8,192 words.
 fn check_run(cells: &[[u16; 24]], words: &[u32], settings: Settings) -> u16
     ensures { λ v. ⌜ Checked settings (now (words .entry)) (now (cells .entry)) v ⌝ }
 {
@@ -119,8 +119,8 @@ fn check_run(cells: &[[u16; 24]], words: &[u32], settings: Settings) -> u16
     0
 }
 
-// A run under settings at a table of any size and content: it is refused, and no row is changed; else
-// the words in order up to the first that is refused.
+// A run under settings at a table of any size and content. It is refused, and no row is changed; or
+// it takes the words in order up to the first that is refused.
 pub fn run(cells: &mut [[u16; 24]], words: &[u32], settings: Settings) -> RunAnswer
     ensures { λ r. ⌜
         Runs (now (cells .entry))
@@ -135,15 +135,15 @@ pub fn run(cells: &mut [[u16; 24]], words: &[u32], settings: Settings) -> RunAns
     run_words(cells, words, settings)
 }
 
-// Where a run stands: whether it is going, that is, may take another word, the event of the last word
-// taken, and what the run answers if it ends here.
+// Where a run stands: whether it may take another word (going), the event of the word that was just
+// taken, or Quiet, and what the run answers if it ends here.
 struct Progress {
     going: bool,
     event: Event,
     ran: Ran,
 }
 
-// The run has taken i words, and told this of the last of them.
+// The run has taken i words. What the step told of the last is handed in, or QUIET at the start.
 fn onward(i: u32, told: Told) -> Progress
     ensures { λ p. ⌜ p ≡ onwardOf i told ⌝ }
 {
@@ -194,7 +194,7 @@ fn begin(cells: &[[u16; 24]], words: &[u32], act: u32, turn: u32) -> Progress
     onward(0, Told::QUIET)
 }
 
-// A run that is going takes its next word, or ends: no word is left, or the word is refused.
+// A run that is going takes its next word. It ends where no word is left, or the word is refused.
 fn go_on(cells: &mut [[u16; 24]], words: &[u32], act: u32, turn: u32, at: Progress) -> Progress
     requires { ⌜
         Runnable (record { act = act; turn = turn }) (now cells) (now words)
@@ -221,7 +221,7 @@ fn go_on(cells: &mut [[u16; 24]], words: &[u32], act: u32, turn: u32, at: Progre
     }
 }
 
-// An accepted word with an event is counted in the lent tally. Proved by hand: the borrow checker
+// Counts an accepted word with an event in the lent tally. Proved by hand: the borrow checker
 // covers no reference to a struct.
 fn count_word(tally: &mut Tally, event: Event)
     requires { ⌜ Room (now tally) ⌝ }
@@ -230,10 +230,10 @@ fn count_word(tally: &mut Tally, event: Event)
     *tally = counted(event, *tally);
 }
 
-// A run of the lent rows by the words under settings, for C (include/zaguypo.h): how many were taken,
-// the refusal or 0, and the shared cell of the last word taken. The rows are left as the taken words
-// make them. The tally, whatever it held, is zero at the start, and each accepted word is counted in
-// it. Proved by hand, as `count_word`.
+// A run of the lent rows by the words under settings, for C (include/zaguypo.h): how many were
+// taken, the refusal or 0, and the shared cell of the last word taken. The rows are left as the
+// taken words make them. The tally is set to zero, whatever it held, and each accepted word is
+// counted in it. Proved by hand, as `count_word` is.
 #[no_mangle]
 pub extern "C" fn zaguypo_run_rows(
     rows: &mut [[u16; 24]],

@@ -1,4 +1,4 @@
--- Laws for walks by hand, a subject a file.
+-- Laws for walks by hand. Each file has one subject.
 pub mod CountedLoops
 pub mod Calls
 pub mod Locals

@@ -4,7 +4,6 @@ use mathlib.Core.Bool.{true}
 use native.Mathlib.Omega.{arith}
 use borrow.Author.Needs.{needs}
 use borrow.Author.Tests.{not-true, not-false}
-use Rattle.machine.specs.Refusals.{tooManyWords, badSettings}
 use Rattle.machine.specs.Tables.{tableRefusal}
 use Rattle.machine.specs.Settings.{settingsFit}
 use Rattle.cells.specs.View.{rowsOf}

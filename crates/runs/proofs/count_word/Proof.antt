@@ -49,6 +49,7 @@ use Rattle.machine.proofs.Tally.Laws as Y′
 use Rattle.walks.proofs.Calls.{calls-plain}
 use Rattle.walks.proofs.Locals.{full, typesOf, begins, leaves}
 use Rattle.runs.specs.Bounds.{Room}
+use Rattle.runs.proofs.RunCalls.{tallyVal, eventVal}
 use Rattle.runs.proofs.counted as the-counted
 use Rattle.runs.proofs.counted.Symbol as counted-def
 use Rattle.runs.proofs.counted.Met as counted-thm
@@ -60,12 +61,6 @@ use Rattle.runs.proofs.count_word.Code.Mir as pieces
 
 abbrev stayed : Stays (f.ended .signature .params) (f.ended .kept)
 stayed = (stay-ref (0 ∷ []) tt (plain (λ _. Y.the-row)), (stay-none (λ _. Ev.the-row) yes, tt))
-
-abbrev tallyVal : Tally → Val
-tallyVal h = LL.val Y.the-type Y′.the-laws h
-
-abbrev eventVal : Event → Val
-eventVal e = EL.val Ev.the-type Ev′.the-laws e
 
 -- what is known of `counted`
 abbrev Counts : {M : Type 1} (𝓤 : URA M) (H : Heap 𝓤) (A : Atoms 𝓤) → (Memory → SProp 𝓤) → (Routine → Fun 𝓤)

@@ -1,4 +1,4 @@
--- The second loop of `zaguypo_step`, and the end of the function: the rows of the span are written back from the cells.
+-- The second loop of `zaguypo_step`, which writes the rows of the span back from the cells, and the function's end.
 --
 -- Assumes nothing.
 use mathlib.Core.Path.{_≡_, refl, sym, ap, _∙_, subst}
@@ -47,7 +47,8 @@ use Rattle.lent.specs.declared.Moving.{Moving}
 use Rattle.lent.proofs.Moving as O
 use Rattle.lent.proofs.Moving.Laws as O′
 use Rattle.lent.proofs.MovingLaws.{length-copied, loaded}
-use Rattle.lent.proofs.zaguypo_step.Proof.Walk.{Entry, n, m, slots, Known, Arrays, Taken, Holds, Low, ts, τ, answerVal, Post, exits}
+use Rattle.lent.proofs.zaguypo_step.Proof.Walk.{Entry, n, m, slots, Known, Arrays, Taken}
+use Rattle.lent.proofs.zaguypo_step.Proof.Walk.{Holds, Low, ts, τ, answerVal, Post, exits}
 use Rattle.lent.proofs.zaguypo_step.Code.Mir as pieces
 
 abbrev pub movingVal : Moving → Val
@@ -103,12 +104,14 @@ module _ {M : Type 1} (𝓤 : URA M) (H : Heap 𝓤) (A : Atoms 𝓤) (W : Given
 
   abbrev Before : ℕ → List (Item 𝓤)
   Before h =
-      Holds e ls a (zs h) cs (no ts ls 15 (no ts ls 14 (has ts ls 13 (vint w64 (from-row + h)) (has ts ls 12 (vint w64 to-row)
-      (has ts ls 11 (movingVal r) (has ts ls 10 (vint w64 (m e)) (has ts ls 9 (sliceVal (a .l, 0) (a .k)) (Low e ls a))))))))
+      Holds e ls a (zs h) cs (no ts ls 15 (no ts ls 14 (has ts ls 13 (vint w64 (from-row + h)) (
+      has ts ls 12 (vint w64 to-row) (has ts ls 11 (movingVal r) (has ts ls 10 (vint w64 (m e)) (
+      has ts ls 9 (sliceVal (a .l, 0) (a .k)) (Low e ls a))))))))
 
   abbrev Left : Out → SProp 𝓤
   Left =
-      afterBlock 𝓤 H (afterSeq 𝓤 H (Wp 𝓤 H (𝓣 .C) (𝓣 .Λ) (env ts ls) pieces.t-14 (atReturn 𝓤 H (env ts ls) (Post 𝓤 H A W mem run e)))
+      afterBlock 𝓤 H (afterSeq 𝓤 H
+      (Wp 𝓤 H (𝓣 .C) (𝓣 .Λ) (env ts ls) pieces.t-14 (atReturn 𝓤 H (env ts ls) (Post 𝓤 H A W mem run e)))
       (atReturn 𝓤 H (env ts ls) (Post 𝓤 H A W mem run e)))
 
   turns : (h : ℕ) → h < h-rows → Unit {0} → (X : SProp 𝓤) → (Unit {0} → ent 𝓤 (⋆ 𝓤 H A (Before (suc h))) X)
@@ -198,7 +201,8 @@ module _ {M : Type 1} (𝓤 : URA M) (H : Heap 𝓤) (A : Atoms 𝓤) (W : Given
       loads few =
           let all : m e ≡ n e = omega (arith, few, copies-long e (a .k) (m e), a .k-few) in
           ap (λ (i : ℕ). rowsOf (take (n e) (copies e (a .k) i))) all
-          ∙ loaded (e .ys) (zeros (a .k)) (omega (arith, few, copies-long e (a .k) (m e), length-replicate (a .k) zeroRow))
+          ∙ loaded (e .ys) (zeros (a .k))
+          (omega (arith, few, copies-long e (a .k) (m e), length-replicate (a .k) zeroRow))
           (λ p h. counts p (omega (arith, h, all)))
 
   pub writes-back : ent 𝓤 (⋆ 𝓤 H A (Before 0)) (Wp 𝓤 H (𝓣 .C) (𝓣 .Λ) (env ts ls) (loop pieces.turn-2) Left)
