@@ -1,9 +1,11 @@
 /* zaguypo_step and zaguypo_run_rows from C: the declarations fit the compiled functions, only the lent rows and the tally are
-   written, and every length has its answer. Expected rows and answers are written out by hand from the manual; what each word
+   written, and every length has its answer. A refused step stores nothing. Expected rows and answers are written out by hand from the manual; what each word
    does to any row is for the comparison in tests/reference. And zaguypo_rounds does what single steps do. All under 0 and 0. */
+#define _DEFAULT_SOURCE
 #include "calls.h"
 #include "stepped.h"
 #include "every/tables.h"
+#include <sys/mman.h>
 
 /* one more than a run may have: STAYs of process 0, and words of kind 0 */
 static uint32_t stays[8193], zeros[8193];
@@ -18,10 +20,22 @@ static void ran(const struct zaguypo_row *table, size_t n, const uint32_t *words
     ran_under(ZERO, table, n, words, count, refusal, tally, cell, after);
 }
 
+/* A step on rows that cannot be written, as many as fill a page at most: a store would end this program. */
+static void refused_unwritten(const struct zaguypo_row *table, size_t n, uint32_t word, struct settings m, unsigned refusal) {
+    const size_t page = 4096;
+    void *rows = mmap(NULL, page, PROT_READ | PROT_WRITE, MAP_PRIVATE | MAP_ANONYMOUS, -1, 0);
+    if (rows == MAP_FAILED || n * sizeof *table > page) abort();
+    memcpy(rows, table, n * sizeof *table);
+    if (mprotect(rows, page, PROT_READ) != 0) abort();
+    check("refused on rows that cannot be written", zaguypo_step(rows, n, word, m.act, m.turn).refusal == refusal);
+    munmap(rows, page);
+}
+
 /* A table that is refused, also before 8 and before 12. */
 static void refused_table(const struct zaguypo_row *table, size_t n, unsigned refusal) {
     stepped(table, n, 0x10000000, refusal, NO_CELL, table);
     stepped(table, n, 0, refusal, NO_CELL, table);
+    refused_unwritten(table, n, 0x10000000, ZERO, refusal);
     ran(table, n, stays, 0, refusal, NONE, NO_CELL, table);
     ran(table, n, zeros, 1, refusal, NONE, NO_CELL, table);
     ran(table, n, stays, 8193, refusal, NONE, NO_CELL, table);
@@ -67,9 +81,11 @@ static void refused_words(uint32_t n) {
         {0x40000000, 10}, {0x40000001, 10}, {0x60000001, 10}, {0x10000001, 11}, {0x200000FF, 11}};
     struct zaguypo_row table[MOST];
     sound_rows(table, n), table[0] = IDLE;
+    refused_unwritten(table, n, 0x10000000, (struct settings){2, 0}, 18);
     for (int i = 0; i < 14; i++) {
         const uint32_t word = refused[i][0], refusal = refused[i][1], four[4] = {0x10000000, 0x10000000, word, 0x10000000};
         stepped(table, n, word, refusal, NO_CELL, table);
+        refused_unwritten(table, n, word, ZERO, refusal);
         ran(table, n, &word, 1, refusal, NONE, NO_CELL, table);
         ran(table, n, four, 4, refusal, (struct zaguypo_tally){2, 0, 0}, NO_CELL, table);
     }
