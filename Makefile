@@ -4,7 +4,7 @@
 # make lib       target/staticlib/libzaguypo.a and libzaguypo.so, for C; include/zaguypo.h declares them
 # make install   header, libraries, zaguypo.pc, zaguypo-replay and man pages below PREFIX, with DESTDIR before it
 # make uninstall takes them out again
-# make bench     ns a word, a step, an image, .. beside a plain Rust engine, with ratios
+# make bench     ns and instructions a word, a step, an image, .. beside two Rust engines, and how they grow (target/bench/growth.svg)
 # make fuzz      compare with the Rust engine until SECONDS=600 have passed
 # make overtaking the largest count of passes in any table that two processes reach, and three, under each turn setting
 # make spin      search a model of the paper and CANCEL with Spin, which must be installed, and compare with a walk through the compiled step

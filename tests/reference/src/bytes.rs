@@ -34,7 +34,7 @@ pub(crate) fn read_input(bytes: &[u8]) -> Result<Input<'_>, Bad> {
     }
     let length = words(bytes).next().and_then(Header::of).map_or(1, Header::length);
     let (image, events) = bytes.split_at(bytes.len().min(4 * length));
-    match read(words(image)) {
+    match read(image.as_chunks().0) {
         Ok(table) => Ok(Input { table, events }),
         Err((refusal, place)) => Err(Bad::Image { refusal, place }),
     }
@@ -54,11 +54,10 @@ pub fn c_call(input: &[u8], lent: &mut [u8], settings: Settings) -> u64 {
     if events.len() > 4 * MOST_WORDS {
         return refusal::TOO_MANY_WORDS.into();
     }
-    let Some(lent) = lent.get_mut(..4 * image_length(table.len())) else {
+    let Some(lent) = lent.as_chunks_mut().0.get_mut(..image_length(table.len())) else {
         return refusal::LENT_TOO_FEW.into();
     };
     let ran = take_all(&mut table, words(events), settings, |_| ());
-    let mut cells = lent.as_chunks_mut().0.iter_mut();
-    write(&table, |word| *cells.next().expect("as many bytes as an image has") = word.to_le_bytes());
+    write(&table, lent);
     256 * u64::from(ran.taken) + u64::from(ran.refusal)
 }

@@ -75,8 +75,8 @@ const fn locations(but: &[u16]) -> u64 {
 }
 
 /// Locations 22 to 24 ask for a level above 0, location 30 for level 0.
-const LEVEL_0: u64 = locations(&[22, 23, 24]);
-const LEVEL_ABOVE_0: u64 = locations(&[30]);
+pub(crate) const LEVEL_0: u64 = locations(&[22, 23, 24]);
+pub(crate) const LEVEL_ABOVE_0: u64 = locations(&[30]);
 
 /// The set of all n processes.
 #[inline]
@@ -148,9 +148,11 @@ pub struct Table {
 
 impl Table {
     /// n idle rows; n is 2 to 16.
+    #[inline]
     pub(crate) fn idle(n: usize) -> Table {
         debug_assert!((FEWEST..=MOST).contains(&n));
-        Table { rows: [Row::IDLE; MOST], n }
+        const IDLE: [Row; MOST] = [Row::IDLE; MOST];
+        Table { rows: IDLE, n }
     }
 }
 

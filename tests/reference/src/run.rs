@@ -59,21 +59,23 @@ pub fn run(rows: &mut [Row], words: &[u32], tally: &mut Tally, settings: Setting
 #[inline]
 pub(crate) fn take_all(
     rows: &mut [Row],
-    words: impl Iterator<Item = u32>,
+    mut words: impl ExactSizeIterator<Item = u32>,
     settings: Settings,
     mut see: impl FnMut(Event),
 ) -> Ran {
     let mut machine = Machine::new(rows, settings);
-    let (mut taken, mut cell) = (0, Cell::NONE);
-    for word in words {
+    let (count, mut cell) = (words.len(), Cell::NONE);
+    while let Some(word) = words.next() {
         match machine.take(word) {
             Ok(event) => {
                 cell = event.cell;
                 see(event);
             }
-            Err(refused) => return Ran { taken, refusal: refused.into(), cell },
+            Err(refused) => {
+                let taken = (count - words.len() - 1) as u32;
+                return Ran { taken, refusal: refused.into(), cell };
+            }
         }
-        taken += 1;
     }
-    Ran { taken, refusal: 0, cell }
+    Ran { taken: count as u32, refusal: 0, cell }
 }

@@ -6,12 +6,16 @@ use crate::refusal;
 use crate::row::at_30;
 use crate::run::{take_all, Ran, MOST_WORDS};
 use crate::settings::Settings;
+use crate::step::Event;
 
 /// Room for every text.
 pub const MOST_TEXT: usize = 180_260;
 
 /// Prints into the first lent bytes and touches no other, or none where the text does not fit. Answers the text's length.
 pub fn print_into(input: &[u8], lent: &mut [u8]) -> usize {
+    if let Some(room) = lent.get_mut(..room_for(input)) {
+        return print(input, room);
+    }
     let text = text(input);
     if let Some(lent) = lent.get_mut(..text.len()) {
         lent.copy_from_slice(&text);
@@ -21,88 +25,111 @@ pub fn print_into(input: &[u8], lent: &mut [u8]) -> usize {
 
 /// What the printing program writes for an input.
 pub fn text(input: &[u8]) -> Vec<u8> {
-    // a word of 4 bytes has a line of at most 22
-    let mut out = Vec::with_capacity(MOST_TEXT.min(22 * (input.len() / 4) + 36));
+    let mut text = vec![0; room_for(input)];
+    let length = print(input, &mut text);
+    text.truncate(length);
+    text
+}
+
+/// Room for the text of an input: a word of 4 bytes has a line of at most 22.
+fn room_for(input: &[u8]) -> usize {
+    MOST_TEXT.min(22 * (input.len() / 4) + 36)
+}
+
+/// Prints into bytes that have room, and answers the text's length.
+fn print(input: &[u8], room: &mut [u8]) -> usize {
+    let mut page = Page { room, length: 0 };
     match read_input(input) {
-        Ok(input) => print_run(&mut out, input),
-        Err(Bad::Bytes) => line(&mut out, b"input ", &[refusal::INPUT_BYTES.into()]),
-        Err(Bad::Image { refusal, place }) => line(&mut out, b"image ", &[place as u32, refusal.into()]),
+        Ok(input) => page.run(input),
+        Err(Bad::Bytes) => page.line(b"input ", &[refusal::INPUT_BYTES.into()]),
+        Err(Bad::Image { refusal, place }) => page.line(b"image ", &[place as u32, refusal.into()]),
     }
-    out
+    page.length
 }
 
-fn print_run(out: &mut Vec<u8>, input: Input) {
-    let Input { mut table, events } = input;
-    line(out, b"posts ", &[table.len() as u32]);
-    let ran = if events.len() > 4 * MOST_WORDS {
-        Ran::refused(refusal::TOO_MANY_WORDS)
-    } else {
-        let (mut place, mut inside) = (0, u32::from(at_30(&table)));
-        take_all(&mut table, words(events), Settings::SAFE, |event| {
-            inside += u32::from(event.after == 30);
-            inside -= u32::from(event.before == 30);
-            taken_line(out, &[place, event.p as u32, event.before.into(), event.after.into(), inside], event.cell);
-            place += 1;
-        })
-    };
-    match ran.refusal {
-        0 => line(out, b"done ", &[ran.taken]),
-        refused => line(out, b"stop ", &[ran.taken, refused]),
-    }
+/// Bytes with room for a text, and the length of what is printed by now.
+struct Page<'a> {
+    room: &'a mut [u8],
+    length: usize,
 }
 
-/// A line: what it begins with, then numbers with single spaces between them.
-fn line(out: &mut Vec<u8>, begin: &[u8], numbers: &[u32]) {
-    let mut made = [b'\n'; 64];
-    let from = numbers_before(&mut made, 63, numbers);
-    out.extend_from_slice(begin);
-    out.extend_from_slice(&made[from..]);
-}
-
-/// The line of a taken word: numbers, and then the cell that it used.
-fn taken_line(out: &mut Vec<u8>, numbers: &[u32; 5], cell: Cell) {
-    let mut made = [b'\n'; 64];
-    let mut from = cell_before(&mut made, 63, cell) - 1;
-    made[from] = b' ';
-    from = numbers_before(&mut made, from, numbers);
-    out.extend_from_slice(&made[from..]);
-}
-
-/// Puts a cell before place `from`, and answers where it begins.
-#[inline]
-fn cell_before(made: &mut [u8; 64], from: usize, cell: Cell) -> usize {
-    if cell.access == 0 {
-        made[from - 1] = b'-';
-        return from - 1;
-    }
-    let from = decimal(made, from, cell.index.into()) - 2;
-    made[from] = if cell.access == READ { b'r' } else { b'w' };
-    made[from + 1] = if cell.variable == ACT { b'a' } else { b't' };
-    from
-}
-
-/// Puts numbers before place `from`, the last of them first, and answers where they begin.
-#[inline(always)]
-fn numbers_before(made: &mut [u8; 64], mut from: usize, numbers: &[u32]) -> usize {
-    for (i, &number) in numbers.iter().enumerate().rev() {
-        from = decimal(made, from, number);
-        if i > 0 {
-            from -= 1;
-            made[from] = b' ';
+impl Page<'_> {
+    fn run(&mut self, input: Input) {
+        let Input { mut table, events } = input;
+        self.line(b"posts ", &[table.len() as u32]);
+        let ran = if events.len() > 4 * MOST_WORDS {
+            Ran::refused(refusal::TOO_MANY_WORDS)
+        } else {
+            let (mut place, mut inside) = (0, at_30(&table));
+            take_all(&mut table, words(events), Settings::SAFE, |event| {
+                inside += u16::from(event.after == 30);
+                inside -= u16::from(event.before == 30);
+                self.taken_line(place, event, inside);
+                place += 1;
+            })
+        };
+        match ran.refusal {
+            0 => self.line(b"done ", &[ran.taken]),
+            refused => self.line(b"stop ", &[ran.taken, refused]),
         }
     }
-    from
-}
 
-/// Puts the digits of a number before place `from`, and answers where they begin.
-#[inline]
-fn decimal(made: &mut [u8; 64], mut from: usize, mut number: u32) -> usize {
-    loop {
-        from -= 1;
-        made[from] = b'0' + (number % 10) as u8;
-        number /= 10;
-        if number == 0 {
-            return from;
+    /// A line: what it begins with, then numbers with single spaces between them.
+    fn line(&mut self, begin: &[u8], numbers: &[u32]) {
+        begin.iter().for_each(|&byte| self.byte(byte));
+        for (i, &number) in numbers.iter().enumerate() {
+            if i > 0 {
+                self.byte(b' ');
+            }
+            self.number(number);
         }
+        self.byte(b'\n');
+    }
+
+    /// The line of a taken word: numbers, and then the cell that it used.
+    #[inline(always)]
+    fn taken_line(&mut self, place: u32, event: Event, inside: u16) {
+        for number in [place, event.p as u32, event.before.into(), event.after.into(), inside.into()] {
+            self.number(number);
+            self.byte(b' ');
+        }
+        self.cell(event.cell);
+        self.byte(b'\n');
+    }
+
+    #[inline(always)]
+    fn cell(&mut self, cell: Cell) {
+        if cell.access == 0 {
+            return self.byte(b'-');
+        }
+        self.byte(if cell.access == READ { b'r' } else { b'w' });
+        self.byte(if cell.variable == ACT { b'a' } else { b't' });
+        self.number(cell.index.into());
+    }
+
+    /// The digits of a number below 10,000.
+    #[inline(always)]
+    fn number(&mut self, number: u32) {
+        if number >= 1000 {
+            self.digit(number / 1000);
+        }
+        if number >= 100 {
+            self.digit(number / 100 % 10);
+        }
+        if number >= 10 {
+            self.digit(number / 10 % 10);
+        }
+        self.digit(number % 10);
+    }
+
+    #[inline(always)]
+    fn digit(&mut self, digit: u32) {
+        self.byte(b'0' + digit as u8);
+    }
+
+    #[inline(always)]
+    fn byte(&mut self, byte: u8) {
+        self.room[self.length] = byte;
+        self.length += 1;
     }
 }

@@ -76,7 +76,7 @@ impl Counts {
         }
     }
 
-    fn walk(&mut self, rows: &mut [Row], words: impl Iterator<Item = u32>, settings: Settings, printed: bool) {
+    fn walk(&mut self, rows: &mut [Row], words: impl ExactSizeIterator<Item = u32>, settings: Settings, printed: bool) {
         let n = rows.len();
         let mut inside = at_30(rows);
         let ran = take_all(rows, words.take(MOST_WORDS), settings, |event| {

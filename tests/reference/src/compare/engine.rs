@@ -1,7 +1,8 @@
-//! What is compared: one face for the fast engine, the naive model and the linked library.
+//! What is compared: one face for the plain engine, the tuned one, the naive model and the linked library.
 
 use super::Kind;
 use crate::naive::{self, Fault};
+use crate::tuned;
 use crate::{Census, PartsAnswer, Ran, Reading, Rounded, Row, Settings, StepAnswer, Tally, WordAnswer};
 
 /// Every function of include/zaguypo.h, and the printing program as `text`. An engine that lacks a kind of call says so in
@@ -33,7 +34,7 @@ pub trait Engine {
     }
 }
 
-/// The fast engine of this package.
+/// The plain engine of this package.
 pub struct Reference;
 
 impl Engine for Reference {
@@ -78,6 +79,54 @@ impl Engine for Reference {
     }
     fn write_image(&self, rows: &[Row], words: &mut [u32]) -> u16 {
         crate::write_image(rows, words)
+    }
+}
+
+/// The tuned engine. What there is nothing to tune in is the plain one's.
+pub struct Tuned;
+
+impl Engine for Tuned {
+    fn name(&self) -> &str {
+        "tuned"
+    }
+    fn offers(&self, _: Kind) -> bool {
+        true
+    }
+    fn call_under(&self, input: &[u8], image: &mut [u8], settings: Settings) -> u64 {
+        tuned::c_call(input, image, settings)
+    }
+    fn text(&self, input: &[u8]) -> Vec<u8> {
+        tuned::text(input)
+    }
+    fn print(&self, input: &[u8], text: &mut [u8]) -> usize {
+        tuned::print_into(input, text)
+    }
+    fn step_under(&self, rows: &mut [Row], word: u32, settings: Settings) -> StepAnswer {
+        tuned::step_in(rows, word, settings)
+    }
+    fn run_under(&self, rows: &mut [Row], words: &[u32], tally: &mut Tally, settings: Settings) -> Ran {
+        tuned::run(rows, words, tally, settings)
+    }
+    fn census(&self, rows: &[Row]) -> Census {
+        tuned::census(rows)
+    }
+    fn rounds(&self, rows: &mut [Row]) -> Rounded {
+        tuned::rounds(rows)
+    }
+    fn fresh(&self, rows: &mut [Row]) -> u16 {
+        crate::fresh_in(rows)
+    }
+    fn take_apart(&self, word: u32) -> PartsAnswer {
+        crate::take_apart(word)
+    }
+    fn put_together(&self, kind: u32, process: u32, argument: u32) -> WordAnswer {
+        crate::put_together(kind, process, argument)
+    }
+    fn read_image(&self, words: &[u32], rows: &mut [Row]) -> Reading {
+        tuned::read_into(words, rows)
+    }
+    fn write_image(&self, rows: &[Row], words: &mut [u32]) -> u16 {
+        tuned::write_image(rows, words)
     }
 }
 

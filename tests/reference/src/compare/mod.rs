@@ -18,7 +18,7 @@ mod shrink;
 pub use answer::Answer;
 pub use case::{Case, Kind};
 pub use counts::{Cells, Counts, CELLS};
-pub use engine::{Engine, Naive, Reference};
+pub use engine::{Engine, Naive, Reference, Tuned};
 #[cfg(feature = "linked")]
 pub use linked::Linked;
 pub use making::make_case;

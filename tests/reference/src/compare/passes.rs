@@ -98,7 +98,7 @@ impl Passes {
 impl Images {
     fn note_read(&mut self, words: &[u32]) {
         let Some(header) = words.first().and_then(|&word| Header::of(word)) else { return };
-        self.note(header, read(words.iter().copied()).err());
+        self.note(header, read(words).err());
     }
 
     fn note_input(&mut self, bytes: &[u8]) {

@@ -90,7 +90,7 @@ pub fn rows_of(case: &Case) -> Option<Vec<Row>> {
     match case {
         Case::Step { rows, .. } | Case::Run { rows, .. } | Case::Census { rows } => Some(rows.clone()),
         Case::Rounds { rows } | Case::Fresh { rows } | Case::WriteImage { rows, .. } => Some(rows.clone()),
-        Case::ReadImage { words, .. } => read(words.iter().copied()).ok().map(|table| table.to_vec()),
+        Case::ReadImage { words, .. } => read(words).ok().map(|table| table.to_vec()),
         _ => read_input(bytes_of(case)?).ok().map(|input| input.table.to_vec()),
     }
 }

@@ -50,8 +50,8 @@ pub fn some_count(rng: &mut Random) -> usize {
 
 /// The image of sound rows in words.
 pub fn image_of(rows: &[Row]) -> Vec<u32> {
-    let mut words = Vec::with_capacity(image_length(rows.len()));
-    write(rows, |word| words.push(word));
+    let mut words = vec![0; image_length(rows.len())];
+    write(rows, &mut words);
     words
 }
 

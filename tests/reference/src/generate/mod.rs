@@ -1,6 +1,7 @@
 //! Seeded random cases: tables, schedules that go deep, and every way of being refused.
 
 pub mod inputs;
+pub mod loads;
 pub mod random;
 pub mod rounds;
 pub mod schedule;

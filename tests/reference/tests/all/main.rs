@@ -10,6 +10,7 @@ mod example;
 mod exchange;
 mod exclusion;
 mod lent;
+mod loads;
 mod manual;
 mod models;
 mod overtaking;

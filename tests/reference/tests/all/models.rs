@@ -1,32 +1,37 @@
-//! The fast engine against the naive model, and the generated cases against the faults that they must see.
+//! The plain engine against the naive model and against the tuned engine, and the generated cases against the faults that
+//! they must see.
 
-use reference::compare::{make_case, shrink, Case, Counts, Kind, Naive, Reference};
+use reference::compare::{make_case, shrink, Case, Counts, Engine, Kind, Naive, Reference, Tuned};
 use reference::generate::inputs::{image_of, short_image_of, to_bytes};
 use reference::generate::Random;
 use reference::naive::Fault;
 use reference::{Row, Settings};
 
-/// The first case of a seed on which the reference and the naive model with a fault differ, among `rounds` of each kind.
-fn first_difference(seed: u64, rounds: u64, fault: Fault, mut note: impl FnMut(&Case)) -> Option<Case> {
-    let other = Naive(fault);
+/// The first case of a seed on which the reference and another engine differ, among `rounds` of each kind.
+fn first_difference(seed: u64, rounds: u64, other: &dyn Engine, mut note: impl FnMut(&Case)) -> Option<Case> {
     let kinds = Kind::ALL.len() as u64;
     (0..rounds * kinds).find_map(|number| {
         let kind = Kind::ALL[(number % kinds) as usize];
         let case = make_case(&mut Random::of_case(seed, number), kind);
         note(&case);
-        (case.answer(&Reference) != case.answer(&other)).then_some(case)
+        (case.answer(&Reference) != case.answer(other)).then_some(case)
     })
+}
+
+/// Shows a case on which they differ, made small.
+fn show(case: Case, other: &dyn Engine) -> ! {
+    let small = shrink(case, &|case| case.answer(&Reference) != case.answer(other));
+    panic!("{small}\nreference: {}\n{}: {}", small.answer(&Reference), other.name(), small.answer(other));
 }
 
 #[test]
 fn the_two_models_agree() {
     let mut counts = Counts::default();
     let seed = 2009;
-    let difference = first_difference(seed, 8_000, Fault::None, |case| counts.note(case, &case.answer(&Reference)));
+    let other = Naive(Fault::None);
+    let difference = first_difference(seed, 8_000, &other, |case| counts.note(case, &case.answer(&Reference)));
     if let Some(case) = difference {
-        let other = Naive(Fault::None);
-        let small = shrink(case, &|case| case.answer(&Reference) != case.answer(&other));
-        panic!("{small}\nreference: {}\nnaive: {}", small.answer(&Reference), small.answer(&other));
+        show(case, &other);
     }
     println!("{}", counts.report(seed));
     assert_eq!(counts.unseen(), Vec::<String>::new());
@@ -37,11 +42,19 @@ fn the_two_models_agree() {
     }
 }
 
+/// On cases of another seed, so that the tuned engine is not only tried where the plain one is.
+#[test]
+fn the_tuned_engine_agrees() {
+    if let Some(case) = first_difference(2010, 8_000, &Tuned, |_| ()) {
+        show(case, &Tuned);
+    }
+}
+
 #[test]
 fn every_fault_is_seen() {
     for fault in Fault::ALL {
         let mut cases = 0;
-        let found = first_difference(1, 4_000, fault, |_| cases += 1);
+        let found = first_difference(1, 4_000, &Naive(fault), |_| cases += 1);
         let found = found.unwrap_or_else(|| panic!("{fault:?} is not seen"));
         println!("{fault:?}: seen by {:?}, case {cases}", found.kind());
     }
