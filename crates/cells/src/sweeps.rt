@@ -11,7 +11,8 @@ ghost use Rattle.machine.specs.Steps.{forgets};
 ghost use Rattle.cells.specs.View.{rowsOf, Becomes};
 ghost use Rattle.cells.specs.Writers.{hasWriter};
 
-// The set of the processes that compete.
+// The set of the processes that compete. No branch: which of them do is hard for the processor to
+// foresee.
 pub fn competitors(cells: &[[u16; 24]]) -> u16
     requires { ⌜ length (now cells) ≤ 16 ⌝ }
     ensures { λ s. ⌜ s ≡ competitors (rowsOf (now (cells .entry))) ⌝ }
@@ -20,9 +21,8 @@ pub fn competitors(cells: &[[u16; 24]]) -> u16
     let mut s: u16 = 0;
     let mut q = 0;
     while q < n {
-        if rows::sound::competes(row_at(cells, q)) {
-            s += 1 << q;
-        }
+        let on = rows::sound::competes(row_at(cells, q));
+        s += (on as u16) << q;
         q += 1;
     }
     s

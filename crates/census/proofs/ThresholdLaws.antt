@@ -2,23 +2,25 @@
 --
 --   below-reached, held-reached   for i below 16; figure 0 counts no row: below-none, held-none
 --   below-from-le, held-from-le   a threshold is at most 16 where the level is
---   held-from-is                  the threshold for `held` as the code finds it
+--   below-from-is, held-from-is   a threshold as the code finds it
+--   held-from-none                the threshold for `held` at level 0
+--   below-from-out, held-from-out, out-critical    a row that does not compete
 --
 -- Assumes nothing.
 use Prim.Native.Nat.{ℕ, suc, _≤_, _<_}
 use mathlib.Core.Path.{_≡_, refl, ap, sym, _∙_}
-use mathlib.Core.Bool.{Bool, true, false, cond, _&&_, _||_, not, or-false, or-true, and-false}
+use mathlib.Core.Bool.{Bool, true, false, cond, _&&_, _||_, not, or-false, or-true, and-false, false≢true}
 use native.Mathlib.Decide.{decLt}
 use native.Mathlib.Omega.{arith}
 use lib.Dec.{eqb, leb, ltb, leb·suc-suc, leb·suc-zero}
-use borrow.Author.Tests.{lt-ltb, le-ltb, lt-leb}
+use borrow.Author.Tests.{eqb-true, lt-ltb, le-ltb, lt-leb}
 use Rattle.counting.specs.Sets.{size}
 use Rattle.counting.proofs.SizeLaws.{size-le-all}
 use Rattle.machine.specs.Tables.{competes}
-use Rattle.machine.specs.Census.{isBelow, isHeld}
+use Rattle.machine.specs.Census.{isBelow, isHeld, isCritical}
 use Rattle.machine.specs.declared.Row.{Row}
 use Rattle.census.specs.Series.{belowFrom, heldFrom}
-use Rattle.counting.proofs.TestLaws.{cond-le}
+use Rattle.counting.proofs.TestLaws.{fails, cond-le}
 
 -- 16 is reached by no i below 16
 reached : (b : Bool) (v i : ℕ) → i < 16 → leb (cond b v 16) i ≡ (b && ltb v (suc i))
@@ -71,3 +73,24 @@ module _ (r : Row) where
   pub held-from-is : (m : ℕ) (b : Bool) → competes r ≡ true → m ≡ size (r .ahead) → (away && ltb m (r .level)) ≡ b
       → cond b m (r .level) ≡ heldFrom r
   held-from-is m b c e t = rw (sym t, e, c) refl
+
+  pub below-from-is : competes r ≡ true → r .level ≡ belowFrom r
+  below-from-is c = rw c refl
+
+  pub held-from-none : competes r ≡ true → r .level ≡ 0 → 0 ≡ heldFrom r
+  held-from-none c z =
+      let less : (away && ltb members (r .level)) ≡ false =
+      ap (λ (v : ℕ). away && ltb members v) z ∙ ap (λ (b : Bool). away && b) (le-ltb members 0 (omega arith))
+      ∙ and-false away in
+      sym (rw (c, less) z)
+
+  pub below-from-out : competes r ≡ false → belowFrom r ≡ 16
+  below-from-out c = rw c refl
+
+  pub held-from-out : competes r ≡ false → heldFrom r ≡ 16
+  held-from-out c = rw c refl
+
+  pub out-critical : competes r ≡ false → isCritical r ≡ false
+  out-critical c =
+      fails (isCritical r)
+      (λ e. false≢true (sym c ∙ ap (λ (l : ℕ). leb 21 l && leb l 30) (eqb-true (r .location) 30 e)))

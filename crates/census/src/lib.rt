@@ -10,9 +10,9 @@ ghost use lib.Dec.{leb};
 ghost use lib.ListN.{length};
 ghost use Rattle.counting.specs.Sums.{bit};
 ghost use Rattle.machine.specs.Tables.{tableRefusal};
-ghost use Rattle.machine.specs.Census.{countRows, critical, waiting, censusOf};
+ghost use Rattle.machine.specs.Census.{countRows, critical, censusOf};
 ghost use Rattle.cells.specs.View.{rowsOf};
-ghost use Rattle.census.specs.Series.{isAt, belowFrom, heldFrom};
+ghost use Rattle.census.specs.Series.{isAt, heldFrom};
 ghost use Rattle.census.specs.Series.{Near, Small, oneMore, figuresIn};
 
 // ---- processes at some locations
@@ -27,9 +27,7 @@ pub fn count_at(cells: &[[u16; 24]], low: u16, high: u16) -> u16
     let mut q = 0;
     while q < n {
         let l = row_at(cells, q).location;
-        if (low <= l) & (l <= high) {
-            s += 1;
-        }
+        s += ((low <= l) & (l <= high)) as u16;
         q += 1;
     }
     s
@@ -43,27 +41,7 @@ pub fn critical(cells: &[[u16; 24]]) -> u16
     count_at(cells, 30, 30)
 }
 
-// How many processes wait, at 21 to 24.
-fn waiting(cells: &[[u16; 24]]) -> u16
-    requires { ⌜ length (now cells) ≤ 16 ⌝ }
-    ensures { λ s. ⌜ s ≡ waiting (rowsOf (now (cells .entry))) ⌝ }
-{
-    count_at(cells, 21, 24)
-}
-
 // ---- the thresholds of a process
-
-// The threshold for `below`: the level of a process that competes. Figure k counts it where k is
-// above that; no k is above 16.
-fn below_from(r: Row) -> u16
-    ensures { λ f. ⌜ f ≡ belowFrom r ⌝ }
-{
-    if rows::sound::competes(r) {
-        r.level
-    } else {
-        16
-    }
-}
 
 // The threshold for `held`: the lesser of the level and, elsewhere than at 24, the size of ahead.
 fn held_from(r: Row) -> u16
@@ -121,27 +99,37 @@ fn figures_in(n: u16, a: [u16; 16]) -> [u16; 17]
 
 // ---- the census
 
-// The census of a sound table.
+// The census of a sound table. Who does not compete is in no figure, and at 30 the level is 0. Who
+// competes waits or is at 30, and the last count of the first series is that of all who compete.
 fn counted(cells: &[[u16; 24]]) -> Census
     requires { ⌜ tableRefusal (rowsOf (now cells)) ≡ 0 ⌝ }
     ensures { λ r. ⌜ r ≡ censusOf (rowsOf (now (cells .entry))) ⌝ }
 {
     let n = cells.len();
+    let mut at_30: u16 = 0;
     let mut below = [0u16; 16];
     let mut held = [0u16; 16];
     let mut q = 0;
     while q < n {
         let r = row_at(cells, q);
-        let b = one_more(below, below_from(r));
-        let h = one_more(held, held_from(r));
-        below = b;
-        held = h;
+        if rows::sound::competes(r) {
+            let b = one_more(below, r.level);
+            below = b;
+            if r.level == 0 {
+                at_30 += (r.location == 30) as u16;
+                let h = one_more(held, 0);
+                held = h;
+            } else {
+                let h = one_more(held, held_from(r));
+                held = h;
+            }
+        }
         q += 1;
     }
     Census {
         refusal: 0,
-        critical: critical(cells),
-        waiting: waiting(cells),
+        critical: at_30,
+        waiting: below[15] - at_30,
         below: figures_in(n as u16, below),
         held: figures_in(n as u16, held),
     }
@@ -165,7 +153,8 @@ pub fn census(cells: &[[u16; 24]]) -> Census
     counted(cells)
 }
 
-// The census for C (include/zaguypo.h). Its waiting figure counts 21 to 24; up to version 1.1.0 it counted 20 to 24.
+// The census for C (include/zaguypo.h). Its waiting figure counts 21 to 24; up to version 1.1.0 it
+// counted 20 to 24.
 #[no_mangle]
 pub extern "C" fn zaguypo_census(rows: &[[u16; 24]]) -> Census
     ensures { λ r. ⌜ r ≡ censusOf (rowsOf (now (rows .entry))) ⌝ }

@@ -6,7 +6,7 @@
 --   one-shl         `1 << i` is 2 ^ i where the width holds it
 --   others-is       all but p is `(1 << n) - 1 - (1 << p)`
 --   and-without     `s & !(1 << q)` is s less q
---   gather-fits, gather-in, gather-out, gather-digit    a loop that gathers a set, one number a turn
+--   gather-fits-digit, gather-digit    a loop that gathers a set, one number a turn
 --
 -- Assumes nothing.
 use Prim.Native.Nat.{ℕ, zero, suc, _+_, _-_, _*_, _/_, _%_, _^_, _≤_, _<_}
@@ -171,13 +171,3 @@ module _ (P : ℕ → Bool) (i : ℕ) (l : i < 16) where
       let end : 2 ^ suc i ≤ 2 ^ 16 = pow-mono {i = suc i} {j = 16} l in
       let double = pow-suc 2 i in
       omega (arith, setOf-lt P i)
-
-  -- the same where the code branches, and adds `1 << i` or nothing
-  pub gather-fits : setOf P i + 1 * 2 ^ i % 65536 < 65536
-  gather-fits = gather-fits-digit 1 (omega arith)
-
-  pub gather-in : P i ≡ true → setOf P i + 1 * 2 ^ i % 65536 ≡ setOf P (i + 1)
-  gather-in h = gather-digit 1 (sym (ap bit h))
-
-  pub gather-out : P i ≡ false → setOf P i ≡ setOf P (i + 1)
-  gather-out h = rw (add-one i, setOf-suc P i, h) (omega arith)

@@ -1,16 +1,19 @@
 -- The word of a round given to a process of cells, by the tests of the code.
 --
+--   looks-so, listed-none, elsewhere    what the code has asked of location 22 and of lis, in one test
+--   rest-moves, go-moves, go-refused, look-moves    what is promised of STAY, GO and LOOK
+--
 -- Assumes nothing.
 use Prim.Native.Nat.{ℕ, _<_}
 use mathlib.Core.Path.{_≡_, refl, sym, ap, _∙_, subst}
-use mathlib.Core.Bool.{Bool, true, false, _&&_, not, and-eq-true-iff}
+use mathlib.Core.Bool.{Bool, true, false, _&&_, not, and-false, and-eq-true-iff}
 use mathlib.Core.List.{List}
 use native.Mathlib.Nat.{lt-of-lt-of-le}
 use native.Mathlib.Omega.{arith}
 use lib.Dec.{eqb}
 use lib.ListN.{length}
 use lib.Pow.{pow-mono}
-use borrow.Author.Tests.{eqb-true, eqb-false, ne-eqb, not-true}
+use borrow.Author.Tests.{eqb-true, eqb-false, eq-eqb, ne-eqb, not-true}
 use Rattle.counting.specs.Sets.{has, lowest}
 use Rattle.counting.proofs.SetLaws.{member-below}
 use Rattle.counting.proofs.LowestLaws.{lowest-member}
@@ -37,6 +40,20 @@ use Rattle.steps.proofs.MoveLaws.{becomes-as}
 use Rattle.steps.proofs.StepLaws.{ready, as-parts, taken-steps}
 use Rattle.rounds.specs.Promises.{Moving, MovesOn}
 use Rattle.rounds.proofs.WordLaws.{go-word, parts, rest-given, look-given, go-may}
+
+-- ---- at 22
+
+module _ (r : Row) where
+  pub looks-so : r .location ≡ 22 → (r .lis ≡ 0 → ⊥) → (eqb (r .location) 22 && not (eqb (r .lis) 0)) ≡ true
+  looks-so e n = simp (eq-eqb (r .location) 22 e, ne-eqb (r .lis) 0 n)
+
+  pub listed-none : r .lis ≡ 0 → (eqb (r .location) 22 && not (eqb (r .lis) 0)) ≡ false
+  listed-none e = rw (eq-eqb (r .lis) 0 e) (and-false (eqb (r .location) 22))
+
+  pub elsewhere : (r .location ≡ 22 → ⊥) → (eqb (r .location) 22 && not (eqb (r .lis) 0)) ≡ false
+  elsewhere n = rw (ne-eqb (r .location) 22 n) refl
+
+-- ---- the words
 
 module _ (x : List (List ℕ)) (p : ℕ) (m : Moving x p) (r : Row) (own : r ≡ row (rowsOf x) p) where
   abbrev t : Table

@@ -1,5 +1,5 @@
-// Rounds of a table in place, until some process is at 30, the limit is used up or a word is refused
-// (machine/specs/Rounds.antt). specs/Promises.antt says what they ensure.
+// Rounds of a table in place, until some process is at 30, the limit is used up or a word is
+// refused (machine/specs/Rounds.antt). specs/Promises.antt says what they ensure.
 use cells::access::row_at;
 use cells::checks::check;
 use census::count_at;
@@ -17,29 +17,40 @@ ghost use Rattle.machine.specs.Rounds.{roundLimit, roundsFrom, roundsOf};
 ghost use Rattle.cells.specs.View.{rowsOf};
 ghost use Rattle.rounds.specs.Promises.{Moving, MovesOn, GoesRound, Rounds, RoundsTo};
 
-// What was done: 0, or the refusal of the word that ended it, which changed nothing; and, where it is 0,
-// whether the process of the word, or some process after a round, is at 30.
+// What was done: 0, or the refusal of the word that ended it, which changed nothing; and, where it
+// is 0, whether the process of the word, or some process after a round, is at 30.
 struct Done {
     refusal: u16,
     occupied: bool,
 }
 
-// Process p is given its word of a round: at 10 nothing happens, at 22 it looks at the lowest member of
-// lis, and otherwise it goes on. The word is allowed, so that nothing has to be asked; GO at 20 alone may
-// be refused, by a count that is full.
+// Process p is given its word of a round: at 22 it looks at the lowest member of lis, at 10 nothing
+// happens, and otherwise it goes on. The word is allowed, so that nothing has to be asked; GO at 20
+// alone may be refused, by a count that is full. lis is asked for first: where it has a member the
+// process is nearly always at 22, and where it has none `go` need not ask for it again. 10 is asked
+// for on both ways, or the compiler makes one test of lis and 22.
 fn move_on(cells: &mut [[u16; 24]], p: u16) -> Done
     requires { ⌜ Moving (now cells) p ⌝ }
     ensures { λ a. ⌜ MovesOn (now (cells .entry)) p (now (cells .exit)) a ⌝ }
 {
     let r = row_at(cells, p as usize);
-    if r.location == 10 {
-        return Done {
-            refusal: 0,
-            occupied: false,
-        };
+    let rests = r.location == 10;
+    if r.lis != 0 {
+        if r.location == 22 {
+            let _told = look(cells, p, sets::first_of(r.lis));
+            return Done {
+                refusal: 0,
+                occupied: false,
+            };
+        }
+        if rests {
+            return Done {
+                refusal: 0,
+                occupied: false,
+            };
+        }
     }
-    if (r.location == 22) & (r.lis != 0) {
-        let _told = look(cells, p, sets::first_of(r.lis));
+    if rests {
         return Done {
             refusal: 0,
             occupied: false,
@@ -88,8 +99,8 @@ fn round_limit(n: u16) -> u16
     4 * n * n * (n + 3)
 }
 
-// Rounds at a table that is known to be sound, which is not checked again. A round that a refused word
-// ends is not counted, and who is at 30 is asked again then.
+// Rounds at a table that is known to be sound, which is not checked again. A round that a refused
+// word ends is not counted, and who is at 30 is asked again then.
 fn run_rounds(cells: &mut [[u16; 24]]) -> RoundsAnswer
     requires { ⌜ tableRefusal (rowsOf (now cells)) ≡ 0 ⌝ }
     ensures { λ a. ⌜ Rounds (now (cells .entry))
@@ -118,9 +129,9 @@ fn run_rounds(cells: &mut [[u16; 24]]) -> RoundsAnswer
     }
 }
 
-// Rounds at a table of any size and content, until some process is at 30 after a round, the limit is
-// used up, or a word meets 15. 6 or 7 for the table, and no row is changed; no round where nobody is at
-// 20 to 24.
+// Rounds at a table of any size and content, until some process is at 30 after a round, the limit
+// is used up, or a word meets 15. 6 or 7 for the table, and no row is changed; no round where
+// nobody is at 20 to 24.
 pub fn rounds(cells: &mut [[u16; 24]]) -> RoundsAnswer
     ensures { λ a. ⌜ Rounds (now (cells .entry)) (roundsOf (rowsOf (now (cells .entry))))
         (now (cells .exit)) a ⌝ }

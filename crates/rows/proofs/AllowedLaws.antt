@@ -3,19 +3,22 @@
 --   lisFits k e l   what the code asks of lis beside the mask; e is true where lis is empty
 --   allowed-with    the two are `allowed`
 --   allowed-plain   .. where lis does not matter
---   lis-free        it does not for any kind but LOOK and GO
+--   only-stay       a kind that is none of the others
+--   looks-not, looks-so   LOOK with an argument
 --
 -- Assumes nothing.
 use Prim.Native.Nat.{ℕ, _≤_, _<_}
 use mathlib.Core.Path.{_≡_, refl, sym, ap, _∙_}
 use mathlib.Core.Bool.{Bool, true, false, cond, _&&_, _||_, not, and-true, Bool·beq}
-use native.Mathlib.Decide.{decLt}
+use native.Mathlib.Decide.{decLt, ℕ-discrete}
 use native.Mathlib.Omega.{arith}
 use lib.Dec.{eqb}
 use borrow.Author.Tests.{ne-eqb}
+use Rattle.counting.specs.Sets.{has}
+use Rattle.counting.proofs.SetLaws.{has-zero}
 use Rattle.counting.proofs.TestLaws.{cond-same, every, same-at}
 use Rattle.machine.specs.Rows.{blank, withLocation, withLis}
-use Rattle.machine.specs.Words.{GO, LOOK, isKind}
+use Rattle.machine.specs.Words.{STAY, COME, FLICKER, GO, LOOK, CANCEL, isKind}
 use Rattle.machine.specs.Steps.{allowed}
 use Rattle.machine.specs.declared.Row.{Row}
 use Rattle.machine.proofs.KindLaws.{by-kind}
@@ -96,6 +99,42 @@ module _ (k j m : ℕ) (r : Row) (e : k ≡ j) (kind : isKind j ≡ true) (f : m
       ∙ ap (λ (b : Bool). marks m (r .location) && b) (sym t)
       ∙ allowed-with
 
--- where k is neither LOOK nor GO
-pub lis-free : (k : ℕ) (e : Bool) (l : ℕ) → (k ≡ LOOK → ⊥) → (k ≡ GO → ⊥) → lisFits k e l ≡ true
-lis-free k e l a b = rw (ne-eqb k LOOK a, ne-eqb k GO b) refl
+-- a kind that is none of the others
+pub only-stay : (k : ℕ)
+    → isKind k ≡ true
+    → (k ≡ LOOK → ⊥)
+    → (k ≡ GO → ⊥)
+    → (k ≡ FLICKER → ⊥)
+    → (k ≡ CANCEL → ⊥)
+    → (k ≡ COME → ⊥)
+    → k ≡ STAY
+only-stay =
+    by-kind
+    (λ k.
+    (k ≡ LOOK → ⊥) → (k ≡ GO → ⊥) → (k ≡ FLICKER → ⊥) → (k ≡ CANCEL → ⊥) → (k ≡ COME → ⊥) → k ≡ STAY)
+    (λ _ _ _ _ _. refl)
+    (λ _ _ _ _ n. absurd (n refl))
+    (λ _ _ n _ _. absurd (n refl))
+    (λ _ n _ _ _. absurd (n refl))
+    (λ n _ _ _ _. absurd (n refl))
+    (λ _ _ _ n _. absurd (n refl))
+
+-- ---- LOOK with an argument
+
+-- a lis that has a member is not empty
+member-some : (s a : ℕ) → (not (eqb s 0) && has s a) ≡ has s a
+member-some s a = go (ℕ-discrete s 0)
+  where
+    go : Dec (s ≡ 0) → (not (eqb s 0) && has s a) ≡ has s a
+    go (yes e) = rw e (sym (has-zero a))
+    go (no ne) = rw (ne-eqb s 0 ne)
+
+module _ (m : ℕ) (r : Row) (a : ℕ) (f : m ≡ maskOf (allowedAt LOOK)) where
+  look-is : (b : Bool) → marks m (r .location) ≡ b → allowed LOOK r ≡ (b && not (eqb (r .lis) 0))
+  look-is b e = sym (allowed-with LOOK LOOK m r refl refl f) ∙ ap (λ (b : Bool). b && not (eqb (r .lis) 0)) e
+
+  pub looks-not : marks m (r .location) ≡ false → (allowed LOOK r && has (r .lis) a) ≡ false
+  looks-not e = ap (λ (b : Bool). b && has (r .lis) a) (look-is false e)
+
+  pub looks-so : marks m (r .location) ≡ true → (allowed LOOK r && has (r .lis) a) ≡ has (r .lis) a
+  looks-so e = ap (λ (b : Bool). b && has (r .lis) a) (look-is true e) ∙ member-some (r .lis) a

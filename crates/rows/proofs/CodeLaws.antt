@@ -1,6 +1,7 @@
 -- The codes of locations.
 --
 --   code-under, code-over   a number below 10 or past 40 has none
+--   coded-from, coded-to    what has one is from 10 to 40
 --   code-in                 the code of a number in a word of 16 codes, by one test over them
 --
 -- Assumes nothing.
@@ -8,6 +9,8 @@ use Prim.Native.Nat.{ℕ, suc, _+_, _*_, _/_, _%_, _^_, _≤_, _<_}
 use mathlib.Core.Path.{_≡_, refl, ap, _∙_}
 use mathlib.Core.Bool.{Bool, true, false, cond, _||_, true≢false}
 use mathlib.Core.List.{List, [], _∷_}
+use native.Mathlib.Decide.{decLt}
+use native.Mathlib.Omega.{arith}
 use lib.Dec.{eqb}
 use lib.ListN.{length}
 use borrow.Author.Tests.{eqb-true}
@@ -34,6 +37,21 @@ code-over l h = place-none l locations (over-none l h)
 pub code-under : (l : ℕ) → l < 10 → codeOf l ≡ 8
 unfolding every
 code-under l h = eqb-true (codeOf l) 8 (every-at (λ l. eqb (codeOf l) 8) 10 refl l h)
+
+-- what has a code is from 10 to 40
+pub coded-from : (l : ℕ) → codeOf l < 8 → 10 ≤ l
+coded-from l h = go (decLt l 10)
+  where
+    go : Dec (l < 10) → 10 ≤ l
+    go (yes k) = absurd (omega (arith, h, code-under l k))
+    go (no k) = omega (arith, k)
+
+pub coded-to : (l : ℕ) → codeOf l < 8 → l < 41
+coded-to l h = go (decLt l 41)
+  where
+    go : Dec (l < 41) → l < 41
+    go (yes k) = k
+    go (no k) = absurd (omega (arith, h, code-over l (omega (arith, k))))
 
 -- whether w has the codes of 16 numbers from `first` on, four bits each
 unfoldable pub codesFrom : ℕ → ℕ → Bool

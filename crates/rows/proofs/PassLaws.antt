@@ -4,18 +4,20 @@
 --   none-yet, one-more    a loop that joins numbers finds whether all are 0
 --   digit, raisable-by    the loop over counts at their limit finds whether there is room
 --   passes-sound      the tests of a row's counts are `soundPasses`
+--   own-first         sound counts have none over their own process
+--   clear-none, clear-joined  none is past n among zeros; among joined counts where none is among both
 --
 -- Assumes nothing.
 use Prim.Native.Nat.{ℕ, zero, suc, _+_, _-_, _*_, _/_, _%_, _^_, _≤_, _<_}
 use mathlib.Core.Path.{_≡_, refl, sym, ap, ap₂, _∙_, subst}
-use mathlib.Core.Bool.{Bool, true, false, _&&_, and-eq-true-iff}
+use mathlib.Core.Bool.{Bool, true, false, _&&_, and-false, and-eq-true-iff}
 use mathlib.Core.List.{List}
 use native.Mathlib.Decide.{ℕ-discrete, decLt, decLe}
 use native.Mathlib.Numerals.{add-one}
 use native.Mathlib.Omega.{arith}
 use lib.Bits.{bitOr}
 use lib.Dec.{eqb, leb, ltb}
-use lib.ListN.{getD, List·getD-eq-default}
+use lib.ListN.{getD, replicate, getD-replicate, List·getD-eq-default}
 use borrow.Author.Tests.{eqb-true, ltb-true, eq-eqb, ne-eqb, le-leb, lt-leb, lt-ltb}
 use Rattle.counting.specs.Sums.{bit}
 use Rattle.counting.specs.Sets.{has}
@@ -25,7 +27,7 @@ use Rattle.counting.proofs.RangeLaws.{every-at, every-all, every-cong}
 use Rattle.machine.specs.Tables.{countLimit, soundPasses}
 use Rattle.machine.specs.Steps.{countAfter, raisable}
 use Rattle.machine.proofs.PassLaws.{SoundPasses, passes-facts, passes-true}
-use Rattle.rows.specs.Passes.{pastAt, Clear}
+use Rattle.rows.specs.Passes.{pastAt, clearPast, Clear, Joined}
 use Rattle.rows.proofs.SoundLaws.{or-ltb}
 
 pub times-low : (v d : ℕ) → v ≤ 65535 → d < 2 → v * d < 65536
@@ -35,6 +37,9 @@ times-low v (suc (suc d)) h l = absurd (omega arith)
 
 pub times-zero : (v : ℕ) → v * 0 ≡ 0
 times-zero v = omega arith
+
+times-one : (v : ℕ) → v * 1 ≡ v
+times-one v = omega arith
 
 -- one count more is low
 pub low-next : (a : List ℕ) (i : ℕ)
@@ -157,3 +162,47 @@ passes-sound n q a b c =
             let t = ltb-true (pastAt n a i) 1 (every-at (λ j. ltb (pastAt n a j) 1) 16 (sym (c .told) ∙ rest) i k) in
             let one = ap (λ (x : Bool). getD a i 0 * bit x) (le-leb n i l) in
             omega (arith, t, one)
+
+-- sound counts have none over their own process
+pub own-first : (n q : ℕ) (a : List ℕ) → (eqb (getD a q 0) 0 && soundPasses n q a) ≡ soundPasses n q a
+own-first n q a = go (soundPasses n q a) refl
+  where
+    go : (s : Bool) → soundPasses n q a ≡ s → (eqb (getD a q 0) 0 && s) ≡ s
+    go true h = rw (eq-eqb _ _ (passes-facts n q a h .own-none)) refl
+    go false h = and-false (eqb (getD a q 0) 0)
+
+-- ---- counts of several rows joined
+
+abbrev pub joinedAt : List ℕ → List ℕ → ℕ → ℕ
+joinedAt a b i = bitOr (getD a i 0) (getD b i 0)
+
+past-joined : (x y : ℕ) (on : Bool) → ltb (bitOr x y * bit on) 1 ≡ (ltb (x * bit on) 1 && ltb (y * bit on) 1)
+past-joined x y false = rw (times-zero (bitOr x y), times-zero x, times-zero y) refl
+past-joined x y true = rw (times-one (bitOr x y), times-one x, times-one y) (or-ltb 0 x y)
+
+every-both : (P Q : ℕ → Bool) (n : ℕ) → every (λ i. P i && Q i) n ≡ (every P n && every Q n)
+unfolding every
+every-both P Q zero = refl
+every-both P Q (suc n) =
+    ap (λ (b : Bool). b && (P n && Q n)) (every-both P Q n) ∙ swap (every P n) (every Q n) (P n) (Q n)
+  where
+    swap : (a b c d : Bool) → ((a && b) && (c && d)) ≡ ((a && c) && (b && d))
+    swap true true c d = refl
+    swap true false true d = refl
+    swap true false false d = refl
+    swap false b c d = refl
+
+pub clear-none : (n : ℕ) → clearPast n (replicate 16 0) ≡ true
+clear-none n = every-all (λ i. ltb (pastAt n (replicate 16 0) i) 1) 16 (λ i l. none i l)
+  where
+    none : (i : ℕ) → i < 16 → ltb (pastAt n (replicate 16 0) i) 1 ≡ true
+    none i l =
+        ap (λ (v : ℕ). ltb (v * bit (leb n i)) 1) (getD-replicate 16 i 0 0 l)
+        ∙ lt-ltb (0 * bit (leb n i)) 1 (omega arith)
+
+pub clear-joined : (n : ℕ) {a b c : List ℕ} → Joined a b c → clearPast n c ≡ (clearPast n a && clearPast n b)
+clear-joined n {a} {b} {c} j =
+    every-cong (λ i. ltb (pastAt n c i) 1) (λ i. ltb (pastAt n a i) 1 && ltb (pastAt n b i) 1) 16
+    (λ i l.
+    ap (λ (v : ℕ). ltb (v * bit (leb n i)) 1) (j .at i l) ∙ past-joined (getD a i 0) (getD b i 0) (leb n i))
+    ∙ every-both (λ i. ltb (pastAt n a i) 1) (λ i. ltb (pastAt n b i) 1) 16

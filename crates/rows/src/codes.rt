@@ -23,17 +23,13 @@ const HIGH_CODES: u64 = NO_CODES
     - (2 << (4 * (LOCATIONS[6] - 26)))
     - (1 << (4 * (LOCATIONS[7] - 26)));
 
-// The code of a location, its place among the eight; 8 for a number that is no location.
+// The code of a location, its place among the eight. What is no location is not asked for here, so
+// that it need not be compared with 10 and 40.
 pub fn code_of(location: u16) -> u16
+    requires { ⌜ codeOf location < 8 ⌝ }
     ensures { λ c. ⌜ c ≡ codeOf location ⌝ }
 {
-    if location < 10 {
-        return 8;
-    }
     let at = location - 10;
-    if 32 <= at {
-        return 8;
-    }
     let codes = if at < 16 { LOW_CODES } else { HIGH_CODES };
     ((codes >> (4 * (at % 16))) % 16) as u16
 }

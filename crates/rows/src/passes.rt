@@ -5,7 +5,7 @@ ghost use mathlib.Core.Path.{_≡_};
 ghost use mathlib.Core.Bool.{true};
 ghost use Prim.Native.Nat.{_≤_, _<_};
 ghost use Rattle.machine.specs.Steps.{raised, raisable};
-ghost use Rattle.rows.specs.Passes.{Product, Limited, Clear};
+ghost use Rattle.rows.specs.Passes.{Product, Limited, Clear, Either, Joined};
 
 // A number, or 0 where `on` is 0.
 fn only(v: u16, on: u16) -> u16
@@ -23,8 +23,28 @@ fn at_limit(v: u16, on: u16) -> u16
     (v / machine::COUNT_LIMIT) * on
 }
 
+// Two numbers joined: 0 where both are.
+fn either(v: u16, w: u16) -> u16
+    ensures { λ x. ⌜ Either v w x ⌝ }
+{
+    v | w
+}
+
+// The counts of two rows joined, one by one.
+pub fn joined(a: [u16; 16], b: [u16; 16]) -> [u16; 16]
+    ensures { λ c. ⌜ Joined a b c ⌝ }
+{
+    let mut c = [0u16; 16];
+    let mut i = 0;
+    while i < 16 {
+        c[i] = either(a[i], b[i]);
+        i += 1;
+    }
+    c
+}
+
 // Whether the counts over processes that are not below n are 0.
-pub(crate) fn rest_clear(n: u16, a: [u16; 16]) -> bool
+pub fn rest_clear(n: u16, a: [u16; 16]) -> bool
     requires { ⌜ n ≤ 16 ⌝ }
     ensures { λ b. ⌜ Clear n a b ⌝ }
 {

@@ -1,19 +1,16 @@
 -- The moves of a table in the forms that the code has. Assumes nothing.
 use Prim.Native.Nat.{ℕ}
 use mathlib.Core.Path.{_≡_, refl, sym, ap, _∙_}
-use mathlib.Core.Bool.{true, and-eq-true-iff}
-use mathlib.Core.Logic.{⊎-elim}
+use mathlib.Core.Bool.{true, false, _&&_, or-true}
 use mathlib.Core.List.{List, [], _∷_}
 use lib.Dec.{eqb}
 use lib.ListN.{length, set}
-use borrow.Author.Tests.{eqb-true}
+use borrow.Author.Tests.{ne-eqb}
 use Rattle.machine.specs.Rows.{withLocation, withAct}
 use Rattle.machine.specs.Tables.{Table, row, oneOf, competitors}
 use Rattle.machine.specs.Words.{STAY, COME, FLICKER, GO, LOOK, CANCEL}
 use Rattle.machine.specs.Steps.{entered, started, reconsidered, pushed, turned, looked, flickered, gone, moved, allowed}
 use Rattle.machine.specs.declared.Row.{Row}
-use Rattle.counting.proofs.TestLaws.{or-cases}
-use Rattle.machine.proofs.OneOfLaws.{Cases, by-one}
 use Rattle.machine.proofs.Forms.{gone-20, gone-21, gone-23, gone-24, gone-40}
 use Rattle.cells.specs.View.{rowsOf, Becomes}
 use Rattle.cells.proofs.ViewLaws.{rows-length}
@@ -63,34 +60,31 @@ module _ (x : List (List ℕ)) (p : ℕ) (r s : Row) (own : r ≡ row (rowsOf x)
 
 -- ---- where GO is allowed
 
-pub by-place : (r : Row) {M : Type 0} → Cases (r .location) (20 ∷ 21 ∷ 22 ∷ 23 ∷ 24 ∷ 30 ∷ 40 ∷ []) M
-    → allowed GO r ≡ true
-    → M
-unfolding allowed
-by-place r (at-20, (at-21, (at-22, others))) h =
-    ⊎-elim
-    (by-one (r .location) (20 ∷ 21 ∷ 23 ∷ 24 ∷ 30 ∷ 40 ∷ []) (at-20, (at-21, others)))
-    (λ k. at-22 (eqb-true _ _ (and-eq-true-iff (eqb (r .location) 22) (eqb (r .lis) 0) .0 k .0)))
-    (or-cases (oneOf (r .location) (20 ∷ 21 ∷ 23 ∷ 24 ∷ 30 ∷ 40 ∷ [])) _ h)
-
 -- l is none of vs, as a `match` has it: N is what it knows before
 abbrev Off : Type 0 → ℕ → List ℕ → Type 0
 Off N l [] = N
 Off N l (v ∷ vs) = Off (N × (l ≡ v → ⊥)) l vs
 
--- what is left of the locations of GO
-abbrev pub Last : ℕ → Type 0
-Last l = Off (Unit {0}) l (20 ∷ 21 ∷ 22 ∷ 23 ∷ 24 ∷ 30 ∷ [])
+-- at six locations it is, at 22 where lis is empty, and nowhere else
+abbrev goPlaces : List ℕ
+goPlaces = 20 ∷ 21 ∷ 23 ∷ 24 ∷ 30 ∷ 40 ∷ []
 
-pub last-place : (r : Row) → allowed GO r ≡ true → Last (r .location) → r .location ≡ 40
-last-place r h (((((((_, a), b), c), d), e), f)) =
-    by-place r (
-      (λ i. absurd (a i)),
-      (
-        (λ i. absurd (b i)),
-        ((λ i. absurd (c i)), ((λ i. absurd (d i)), ((λ i. absurd (e i)), ((λ i. absurd (f i)), ((λ i. i), tt))))),
-      ),
-    ) h
+abbrev pub Left : ℕ → Type 0
+Left l = Off (Unit {0}) l goPlaces
+
+pub place-may : (r : Row) (l : ℕ) → r .location ≡ l → oneOf l goPlaces ≡ true → allowed GO r ≡ true
+unfolding allowed
+place-may r l e h = rw (e, h) refl
+
+pub scan-may : (r : Row) → (eqb (r .location) 22 && eqb (r .lis) 0) ≡ true → allowed GO r ≡ true
+unfolding allowed
+scan-may r h = rw h (or-true (oneOf (r .location) goPlaces))
+
+pub left-not : (r : Row) → Left (r .location) → (eqb (r .location) 22 && eqb (r .lis) 0) ≡ false → allowed GO r ≡ false
+unfolding allowed
+left-not r (((((((_, a), b), c), d), e), f)) h =
+    let l = r .location in
+    rw (ne-eqb l 20 a, ne-eqb l 21 b, ne-eqb l 23 c, ne-eqb l 24 d, ne-eqb l 30 e, ne-eqb l 40 f, h) refl
 
 -- ---- the kinds
 

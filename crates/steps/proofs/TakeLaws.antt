@@ -1,8 +1,7 @@
 -- A kind with an argument at cells: refused and nothing moved, or taken. Assumes nothing.
 use Prim.Native.Nat.{ℕ, _≤_}
 use mathlib.Core.Path.{_≡_, refl, sym, ap, _∙_, subst}
-use mathlib.Core.Bool.{Bool, true, false, cond, _&&_, not, and-eq-true-iff}
-use mathlib.Core.Logic.{_⊎_, inl, inr, ⊎-elim}
+use mathlib.Core.Bool.{Bool, true, false, cond, _&&_, not, and-eq-true-iff, true≢false}
 use mathlib.Core.List.{List}
 use native.Mathlib.Omega.{arith}
 use lib.Dec.{eqb}
@@ -27,24 +26,24 @@ use Rattle.steps.proofs.MoveLaws.{becomes-as}
 pub formed-kind : (w : ℕ) → formed w ≡ true → isKind (kindOf w) ≡ true
 formed-kind w f = and-eq-true-iff (isKind (kindOf w)) (spareClear w) .0 f .0
 
-pub jump-kind : (k : ℕ) → (k ≡ STAY) ⊎ (k ≡ COME) ⊎ (k ≡ CANCEL) → isKind k ≡ true
-jump-kind k = ⊎-elim (λ e. rw e refl) (⊎-elim (λ e. rw e refl) (λ e. rw e refl))
-
 -- a kind that is none of the others
-pub last-kinds : (k : ℕ)
+pub last-kind : (k : ℕ)
     → isKind k ≡ true
     → (k ≡ LOOK → ⊥)
     → (k ≡ GO → ⊥)
+    → (k ≡ STAY → ⊥)
     → (k ≡ FLICKER → ⊥)
-    → (k ≡ STAY) ⊎ (k ≡ COME) ⊎ (k ≡ CANCEL)
-last-kinds =
-    by-kind (λ k. (k ≡ LOOK → ⊥) → (k ≡ GO → ⊥) → (k ≡ FLICKER → ⊥) → (k ≡ STAY) ⊎ (k ≡ COME) ⊎ (k ≡ CANCEL))
-    (λ _ _ _. inl refl)
-    (λ _ _ _. inr (inl refl))
-    (λ _ _ f. absurd (f refl))
-    (λ _ g _. absurd (g refl))
-    (λ l _ _. absurd (l refl))
-    (λ _ _ _. inr (inr refl))
+    → (k ≡ COME → ⊥)
+    → k ≡ CANCEL
+last-kind =
+    by-kind
+    (λ k. (k ≡ LOOK → ⊥) → (k ≡ GO → ⊥) → (k ≡ STAY → ⊥) → (k ≡ FLICKER → ⊥) → (k ≡ COME → ⊥) → k ≡ CANCEL)
+    (λ _ _ n _ _. absurd (n refl))
+    (λ _ _ _ _ n. absurd (n refl))
+    (λ _ _ _ n _. absurd (n refl))
+    (λ _ n _ _ _. absurd (n refl))
+    (λ n _ _ _ _. absurd (n refl))
+    (λ _ _ _ _ _. refl)
 
 -- ---- what refuses, in the code's order
 
@@ -88,6 +87,15 @@ module _ (t : Table) (k p a : ℕ) where
 
   pub refused-late : rowRefusal t k p a ≡ 0 → refusalAt t k p a ≡ cond (overflows t k p) passesFull accepted
   refused-late z = rw (allowed-there z, argument-fits z) refl
+
+  -- both tests at once
+  pub row-accepts : (allowed k (row t p) && argumentFits (length t) k (row t p) a) ≡ true → rowRefusal t k p a ≡ 0
+  row-accepts h =
+      let both = and-eq-true-iff (allowed k (row t p)) (argumentFits (length t) k (row t p) a) .0 h in
+      refused-not (both .0) (both .1)
+
+  pub row-refuses : (allowed k (row t p) && argumentFits (length t) k (row t p) a) ≡ false → rowRefusal t k p a ≡ 0 → ⊥
+  row-refuses h z = true≢false (sym (rw (allowed-there z, argument-fits z) refl) ∙ h)
 
 -- ---- what is not refused, from the number v that the check found, may be done
 
@@ -154,11 +162,6 @@ pub others-fit : (t : Table) (k p : ℕ) → (k ≡ GO → ⊥) → overflows t 
 unfolding overflows
 others-fit t k p ne = rw (ne-eqb k GO ne)
 
-pub jump-fits : (t : Table) (k p : ℕ) → (k ≡ STAY) ⊎ (k ≡ COME) ⊎ (k ≡ CANCEL) → overflows t k p ≡ false
-jump-fits t k p =
-    ⊎-elim (λ e. others-fit t k p (omega (arith, e)))
-    (⊎-elim (λ e. others-fit t k p (omega (arith, e))) (λ e. others-fit t k p (omega (arith, e))))
-
 -- GO where it is allowed, away from 20
 pub goes-on : {x y : List (List ℕ)} {p : ℕ} {s : Told} (l : ℕ)
     → row (rowsOf x) p .location ≡ l
@@ -196,10 +199,12 @@ module _ (x : List (List ℕ)) (p : ℕ) (there : row (rowsOf x) p .location ≡
   enters-moved e m = takes-moved (sym enters-may) refl (enters-counts true e) m
 
 -- GO is taken with no other argument than 0
-pub go-argument : {x y : List (List ℕ)} {p a : ℕ} {s : Stepped} (m : Settings)
-    → rowRefusal (rowsOf x) GO p a ≡ 0
+pub go-argument : (t : Table) (p a : ℕ) → rowRefusal t GO p a ≡ 0 → a ≡ 0
+unfolding argumentFits
+go-argument t p a z = eqb-true a 0 (argument-fits t GO p a z)
+
+pub go-zero : {x y : List (List ℕ)} {p a : ℕ} {s : Stepped} (m : Settings)
+    → a ≡ 0
     → TakesUnder m x GO p 0 y s
     → TakesUnder m x GO p a y s
-unfolding argumentFits
-go-argument {x} {y} {p} {a} {s} m z h =
-    subst (λ (b : ℕ). TakesUnder m x GO p b y s) (sym (eqb-true a 0 (argument-fits (rowsOf x) GO p a z))) h
+go-zero {x} {y} {p} {s = s} m e h = subst (λ (b : ℕ). TakesUnder m x GO p b y s) (sym e) h

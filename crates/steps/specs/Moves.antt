@@ -8,7 +8,6 @@
 --   Free x k p        <=>  it can, and kind k is allowed where it is.
 --   Sees x p q        <=>  it can, and q is a process.
 --   Asked x k p       <=>  it can, and k is a kind.
---   Jumping x k p     <=>  it can, and k is STAY, COME or CANCEL, which change no cell but the location.
 --   Moves x k p a y s <=>  kind k with argument a made y of the cells x and tells s, where it is allowed.
 --   Goes x p y s      <=>  so did GO.
 --   TakesBy n x k p a y s  <=>  kind k with argument a made y of the cells x and answered s, by the refusal n, or 0.
@@ -19,13 +18,12 @@
 use Prim.Native.Nat.{ℕ, _^_, _≤_, _<_}
 use mathlib.Core.Path.{_≡_}
 use mathlib.Core.Bool.{true, cond, _&&_, not}
-use mathlib.Core.Logic.{_⊎_}
 use mathlib.Core.List.{List}
 use lib.Dec.{eqb}
 use lib.ListN.{length}
 use Rattle.machine.specs.Refusals.{accepted, notAllowed, badArgument}
 use Rattle.machine.specs.Tables.{Table, row}
-use Rattle.machine.specs.Words.{STAY, COME, GO, CANCEL, isKind}
+use Rattle.machine.specs.Words.{COME, GO, isKind}
 use Rattle.machine.specs.Shared.{cellAt}
 use Rattle.machine.specs.Steps.{moved, allowed, argumentFits, refusalAt}
 use Rattle.machine.specs.Settings.{forbiddenBy, before15}
@@ -80,10 +78,6 @@ pub record Sees (x : List (List ℕ)) (p q : ℕ) : Type 0 where
 pub record Asked (x : List (List ℕ)) (k p : ℕ) : Type 0 where
   pub ready : Ready x p
   pub kind : isKind k ≡ true
-
-pub record Jumping (x : List (List ℕ)) (k p : ℕ) : Type 0 where
-  pub ready : Ready x p
-  pub kind : (k ≡ STAY) ⊎ (k ≡ COME) ⊎ (k ≡ CANCEL)
 
 -- ---- what the functions ensure
 

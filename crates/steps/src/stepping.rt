@@ -1,8 +1,10 @@
 // The step: the check of the table, of the settings and of the word, and the move.
+use crate::taking::take_cancel;
+use crate::taking::take_come;
 use crate::taking::take_flicker;
 use crate::taking::take_go;
-use crate::taking::take_jump;
 use crate::taking::take_look;
+use crate::taking::take_stay;
 use cells::checks::check;
 use machine::Settings;
 use machine::Stepped;
@@ -13,34 +15,44 @@ ghost use Rattle.machine.specs.Settings.{settingsFit};
 ghost use Rattle.cells.specs.View.{rowsOf};
 ghost use Rattle.steps.specs.Stepping.{Steps, StepsUnder};
 
-// The step of a word under settings, at a table that is known to be sound and with settings that are
-// known to fit, which are not checked again: what it tells of an accepted word; else the number of the
-// refusal, and no row is changed. The frequent kinds come first.
+// The step of a word under settings, at a table that is known to be sound and with settings that
+// are known to fit, which are not checked again: what it tells of an accepted word; else the
+// number of the refusal, and no row is changed. The frequent kinds come first, each by one
+// comparison of the word. Not all six do: five cases in a row become a jump through a table, which
+// is slower.
 pub fn advance_under(cells: &mut [[u16; 24]], word: u32, settings: Settings) -> Stepped
     requires { ⌜ tableRefusal (rowsOf (now cells)) ≡ 0 ⌝ }
     requires { ⌜ settingsFit settings ≡ true ⌝ }
     ensures { λ s. ⌜ StepsUnder settings (now (cells .entry)) word (now (cells .exit)) s ⌝ }
 {
     let p = words::process_of(word);
-    let well_formed = words::formed(word);
-    if !well_formed {
-        return Stepped::Refused(machine::BAD_KIND);
-    }
     if cells.len() <= p as usize {
+        if !words::formed(word) {
+            return Stepped::Refused(machine::BAD_KIND);
+        }
         return Stepped::Refused(machine::NO_PROCESS);
     }
-    let kind = words::kind_of(word);
     let a = words::argument_of(word);
-    if kind == machine::LOOK {
+    if words::is_of(word, machine::LOOK) {
         return take_look(cells, p, a);
     }
-    if kind == machine::GO {
+    if words::is_of(word, machine::GO) {
         return take_go(cells, p, a, settings);
     }
+    if words::is_of(word, machine::STAY) {
+        return take_stay(cells, p, a);
+    }
+    if !words::formed(word) {
+        return Stepped::Refused(machine::BAD_KIND);
+    }
+    let kind = words::kind_of(word);
     if kind == machine::FLICKER {
         return take_flicker(cells, p, a, settings);
     }
-    take_jump(cells, kind, p, a)
+    if kind == machine::COME {
+        return take_come(cells, p, a);
+    }
+    take_cancel(cells, p, a)
 }
 
 // The same under settings that forbid nothing.

@@ -3,6 +3,8 @@ use machine::Apart;
 use machine::Parts;
 use machine::Together;
 ghost use mathlib.Core.Path.{_≡_};
+ghost use mathlib.Core.Bool.{true, _&&_};
+ghost use lib.Dec.{eqb};
 ghost use Rattle.machine.specs.Words.{isKind, kindOf, processOf, argumentOf, formed, apart, together};
 
 // Whether a number is one of the kinds of word.
@@ -38,6 +40,16 @@ pub fn formed(w: u32) -> bool
     ensures { λ b. ⌜ b ≡ formed w ⌝ }
 {
     is_kind(w >> 28) & (((w >> 24) % 16 == 0) & ((w >> 8) % 256 == 0))
+}
+
+// Whether a word is of this kind and its spare bits are 0: what is left of it without process and
+// argument is compared once.
+pub fn is_of(w: u32, kind: u16) -> bool
+    requires { ⌜ isKind kind ≡ true ⌝ }
+    ensures { λ b. ⌜ b ≡ (formed w && eqb (kindOf w) kind) ⌝ }
+{
+    let head = w - w % 256 - (w >> 16) % 256 * 65536;
+    head == (kind as u32) * 268435456
 }
 
 // The parts of a word; or 8 where it is not formed, then 9 for a process over 15.

@@ -1,12 +1,13 @@
 -- `sweeps::competitors` meets its contract: the set of the rows passed, at each turn of the loop. Assumes nothing.
 use Prim.Native.Nat.{ℕ, _+_, _*_, _^_, _%_, _≤_, _<_, _-_}
 use mathlib.Core.Path.{_≡_, ap, sym, subst, _∙_}
-use mathlib.Core.Logic.{⊎-elim}
 use native.Mathlib.Omega.{arith}
 use lib.ListN.{length}
 use borrow.Author.Needs.{needs}
+use Rattle.counting.specs.Sums.{bit}
 use Rattle.counting.specs.Sets.{setOf}
-use Rattle.counting.proofs.BitLaws.{gather-fits, gather-in, gather-out}
+use Rattle.counting.proofs.CountLaws.{bit-le-one}
+use Rattle.counting.proofs.BitLaws.{gather-fits-digit, gather-digit}
 use Rattle.machine.specs.Tables.{row, competes, competitors}
 use Rattle.cells.specs.View.{rowsOf}
 use Rattle.cells.proofs.ViewLaws.{rows-length}
@@ -32,14 +33,28 @@ competes-requires c κs = search needs
 cast-s : tie.Need-cast-s Inv-loop μ-loop
 cast-s c = search needs
 
+cast-s-2 : tie.Need-cast-s-2 Inv-loop μ-loop
+cast-s-2 c = search needs
+
 shl-s : tie.Need-shl-s Inv-loop μ-loop
 shl-s c = search needs
 
+-- what is added at row q
+digit-is : (c : tie.After-competes Inv-loop μ-loop)
+    → let l = c .before .before .before in
+    bit (c .competes .result) ≡ bit (competes (row (rowsOf (l .before .args .cells .now)) (l .loop .q)))
+digit-is c = ap bit (c .competes .ensures ∙ ap competes (c .before .row-at .ensures))
+
 add-s : tie.Need-add-s Inv-loop μ-loop
 add-s c =
-    let q = c .before .before .before .before .loop .q in
-    let v = c .before .before .before .before .loop .inv .2 in
-    record { fits = subst (λ (s : ℕ). s + 1 * 2 ^ q % 65536 < 65536) (sym v) (gather-fits _ q (omega arith)) }
+    let q = c .before .before .before .loop .q in
+    let v = c .before .before .before .loop .inv .2 in
+    let d = bit (c .competes .result) in
+    record {
+      fits =
+          subst (λ (s : ℕ). s + d * 2 ^ q % 65536 < 65536) (sym v)
+          (gather-fits-digit _ q (omega arith) d (omega (arith, bit-le-one (c .competes .result))));
+    }
 
 add-q : tie.Need-add-q Inv-loop μ-loop
 add-q c = search needs
@@ -49,14 +64,11 @@ loop-less c = search needs
 
 loop-again : tie.Need-loop-again Inv-loop μ-loop
 loop-again c =
-    let q = c .before .before .before .before .loop .q in
-    let v = c .before .before .before .before .loop .inv .2 in
-    let e = sym (ap competes (c .before .before .row-at .ensures)) ∙ sym (c .before .competes .ensures) in
-    let plus = ap (λ (s : ℕ). s + 1 * 2 ^ q % 65536) v in
-    ⊎-elim
-    (λ w. (search needs, search needs, w .1 ∙ plus ∙ gather-in _ q (omega arith) (e ∙ w .0 .taken)))
-    (λ w. (search needs, search needs, w .1 ∙ v ∙ gather-out _ q (omega arith) (e ∙ w .0 .left)))
-    (c .if1 .came)
+    let q = c .before .before .before .loop .q in
+    let v = c .before .before .before .loop .inv .2 in
+    let d = bit (c .competes .result) in
+    let plus = ap (λ (s : ℕ). s + d * 2 ^ q % 65536) v in
+    (search needs, search needs, plus ∙ gather-digit _ q (omega arith) d (digit-is c))
 
 returns : tie.Need-returns Inv-loop μ-loop
 unfolding competitors
@@ -75,6 +87,7 @@ competitors-spec =
     row-at-requires
     competes-requires
     cast-s
+    cast-s-2
     shl-s
     add-s
     add-q
