@@ -4,19 +4,24 @@
 --   passes-within               the words of a process stand within the image
 --   image-mono, image-low, either-low    which is not long
 --   counts-start, counts-on, counts-stop, counts-end     the loop over processes: what is left decides
+--   counts-none                 no word is refused where none of any process is
 --   passes-start, passes-on, passes-stop, passes-end     the loop over the words of one process
---   fit-is         no word of a process is refused just where each has its upper half, and that over itself is 0
+--   upper-joined   no digit of the upper half stands in one of two words alone just where the halves are equal
+--   fit-none       no word of a process is refused where each has its upper half, and that over itself is 0
+--   fit-start, fit-next                whether the words of the rows so far fit
 --   read-count, read-all, read-bare    the counts that are read, put place by place
 --   length-passWords, pass-word        the words that are written
 --
 -- Assumes nothing.
-use Prim.Native.Nat.{ℕ, suc, _+_, _-_, _*_, _/_, _%_, _≤_, _<_}
+use Prim.Native.Nat.{ℕ, zero, suc, _+_, _-_, _*_, _/_, _%_, _≤_, _<_}
 use mathlib.Core.Path.{_≡_, refl, sym, ap, ap₂, _∙_}
 use mathlib.Core.Bool.{Bool, true, false, cond, _&&_, and-eq-true-iff}
 use mathlib.Core.List.{List, [], _∷_, _++_}
-use native.Mathlib.Nat.{mul-zero, mul-suc, mul-le-mul, mul-le-mul-left}
+use mathlib.Core.Logic.{inl, inr}
+use native.Mathlib.Nat.{mul-zero, mul-suc, mul-le-mul, mul-le-mul-left, eq-or-lt-of-le}
 use native.Mathlib.Numerals.{add-one}
 use native.Mathlib.Omega.{arith}
+use lib.Bits.{bitOr, bitXor, and-le-l, and-le-r, or-add-and, xor-add-and, xor-self, or-shr, xor-shr}
 use lib.Dec.{eqb, ltb}
 use lib.ListN.{length, getD, take, drop, replicate, length-drop, length-replicate, getD-replicate, take-append-drop}
 use lib.Seq.{getD-drop, ext-getD, length-take-le}
@@ -24,17 +29,15 @@ use borrow.Author.Tests.{eqb-true, eq-eqb, lt-ltb, le-ltb}
 use Rattle.counting.specs.Ranges.{upTo, every}
 use Rattle.counting.proofs.TestLaws.{same-test, implies, cond-same, cond-le}
 use Rattle.counting.proofs.PlacingLaws.{placed-padded}
-use Rattle.counting.proofs.RangeLaws.{upTo-length, upTo-at, every-at, every-all, filled}
+use Rattle.counting.proofs.RangeLaws.{upTo-length, upTo-at, every-at, filled}
 use Rattle.machine.specs.Images.{Slot, passSlot, PASSES, passRow, passSlots, bareLength, imageLength, passPlace}
 use Rattle.machine.specs.Images.{countIn, slotRefusal, firstRefusal, passesIn}
 use Rattle.machine.specs.declared.Found.{Found}
 use Rattle.image_theorems.proofs.Slots.{noSlot, length-passRow, count-at}
-use Rattle.image_theorems.proofs.WordChecks.{passes}
-use Rattle.image_theorems.proofs.Fields.{own-kept}
 use Rattle.image_theorems.proofs.RowWords.{readAt}
-use Rattle.image_theorems.proofs.Reading.{each-passes, none-refused}
+use Rattle.image_theorems.proofs.Reading.{none-refused}
 use Rattle.image_theorems.proofs.RoundTrip.{bare-count}
-use Rattle.images.specs.Inner.{Long, Counted, Sized, passesRefusal, passWord, passWords}
+use Rattle.images.specs.Inner.{Long, Counted, Sized, Fits, AllFit, passesRefusal, passWord, passWords}
 use Rattle.images.proofs.SlotLaws.{count-slot}
 use Rattle.images.proofs.WalkLaws.{groups-on, groups-stop, groups-end, run-on, run-stop, run-end}
 
@@ -110,6 +113,16 @@ module _ (n : ℕ) (ws : List ℕ) where
         groups-on n ws passesAt onePasses (passSlots n) no-passes first-passes q l
         (omega (arith, length-passRow q 0 n, next)) (omega (arith, next, passes-within n q l))
 
+  pub counts-none : imageLength n ≤ length ws
+      → ((q : ℕ) → q < n → passesRefusal ws n q .refusal ≡ 0)
+      → firstRefusal n (bareLength n) (passSlots n 0 n) (drop (bareLength n) ws) ≡ record { refusal = 0; place = 0 }
+  counts-none long each = counts-start ∙ to n (omega arith) ∙ counts-end
+    where
+      to : (k : ℕ) → k ≤ n → fromPasses 0 ≡ fromPasses k
+      to zero h = refl
+      to (suc k) h =
+          to k (omega arith) ∙ counts-on k (omega arith) long (each k (omega arith)) ∙ ap fromPasses (add-one k)
+
 -- ---- the loop over the passes of one process
 
 module _ (n : ℕ) (ws : List ℕ) (q : ℕ) where
@@ -146,6 +159,30 @@ module _ (n : ℕ) (ws : List ℕ) (q : ℕ) where
 
 -- ---- whether none of them is refused
 
+joined-none : (odd x y : ℕ) → eqb (bitOr odd (bitXor x y)) 0 ≡ (eqb odd 0 && eqb x y)
+joined-none odd x y =
+    let d : ℕ = bitXor x y in
+    same-test (eqb (bitOr odd d) 0) (eqb odd 0 && eqb x y)
+    (λ h.
+    let none = eqb-true (bitOr odd d) 0 h in
+    let sum = or-add-and odd d in
+    and-eq-true-iff (eqb odd 0) (eqb x y) .1 (
+      eq-eqb odd 0 (omega (arith, none, sum, and-le-r odd d)),
+      eq-eqb x y (omega (arith, none, sum, and-le-l odd d, xor-add-and x y, and-le-l x y, and-le-r x y)),
+    ))
+    (λ h.
+    let both = and-eq-true-iff (eqb odd 0) (eqb x y) .0 h in
+    let same = ap (λ (z : ℕ). bitXor z y) (eqb-true x y (both .1)) ∙ xor-self y in
+    eq-eqb _ 0 (ap₂ bitOr (eqb-true odd 0 (both .0)) same))
+
+pub upper-joined : (odd w u : ℕ)
+    → eqb (bitOr odd (bitXor w (u * 65536)) / 65536) 0 ≡ (eqb (odd / 65536) 0 && eqb (w / 65536) u)
+upper-joined odd w u =
+    let back : u * 65536 / 65536 ≡ u = omega arith in
+    let half = xor-shr w (u * 65536) 16 ∙ ap (bitXor (w / 65536)) back in
+    ap (λ (x : ℕ). eqb x 0) (or-shr odd (bitXor w (u * 65536)) 16 ∙ ap (bitOr (odd / 65536)) half)
+    ∙ joined-none (odd / 65536) (w / 65536) u
+
 module _ (n : ℕ) (ws : List ℕ) (q : ℕ) (few : n ≤ 16) (l : q < n) (long : imageLength n ≤ length ws)
     (at u : ℕ) (here : at ≡ passPlace n q 0) (upper : u ≡ PASSES * 4096 + q * 256) where
   -- the word over r, whether it has its upper half, and whether that over q is 0
@@ -176,16 +213,9 @@ module _ (n : ℕ) (ws : List ℕ) (q : ℕ) (few : n ≤ 16) (l : q < n) (long 
       (λ e. ap (λ (j : ℕ). eqb (word j % 65536) 0) (sym (eqb-true q r e)) ∙ own) in
       count-slot n q r (word r) (u + r) (omega arith) (omega arith) (omega (arith, upper)) ∙ rw (up, off)
 
-  upper-at : (r : ℕ) → r < n → slotRefusal n (passSlot q r) (word r) ≡ 0 → hasUpper r ≡ true
-  upper-at r h z =
-      let p = passes n (passSlot q r) (word r) z .parts in
-      eq-eqb (word r / 65536) (u + r) (omega (arith, upper, p .kind-is, p .passer-is, p .number-is))
-
-  pub fit-is : (every hasUpper n && ownNone) ≡ eqb (passesRefusal ws n q .refusal) 0
+  pub fit-none : (every hasUpper n && ownNone) ≡ true → passesRefusal ws n q .refusal ≡ 0
   unfolding passesRefusal
-  fit-is =
-      same-test (every hasUpper n && ownNone) (eqb (passesRefusal ws n q .refusal) 0)
-      (λ h.
+  fit-none h =
       let both = and-eq-true-iff (every hasUpper n) ownNone .0 h in
       let at-each = every-at hasUpper n (both .0) in
       let fine =
@@ -193,16 +223,26 @@ module _ (n : ℕ) (ws : List ℕ) (q : ℕ) (few : n ≤ 16) (l : q < n) (long 
       (λ r k.
       let low : r < n = omega (arith, length-passRow q 0 n) in
       same-slot r low ∙ none-at r low (at-each r low) (both .1)) in
-      eq-eqb _ 0 (ap (λ (f : Found). f .refusal) fine))
-      (λ h.
-      let each =
-      each-passes n (passPlace n q 0) (passRow q 0 n) (drop (passPlace n q 0) ws) enough (eqb-true _ 0 h) in
-      let fine : (r : ℕ) → r < n → slotRefusal n (passSlot q r) (word r) ≡ 0 =
-      λ r k. sym (same-slot r k) ∙ each r (omega (arith, length-passRow q 0 n)) in
-      and-eq-true-iff (every hasUpper n) ownNone .1 (
-        every-all hasUpper n (λ r k. upper-at r k (fine r k)),
-        eq-eqb _ 0 (own-kept n q (word q) (passes n (passSlot q q) (word q) (fine q l))),
-      ))
+      ap (λ (f : Found). f .refusal) fine
+
+-- ---- whether those of the rows so far fit
+
+pub fit-start : (ws : List ℕ) (n : ℕ) (b f : Bool) → AllFit ws n 0 b f
+fit-start ws n b f = record { none = λ t h q l. absurd (omega arith) }
+
+pub fit-next : (ws : List ℕ) (n q : ℕ) (b f g : Bool) → AllFit ws n q b f → Fits ws n q b g
+    → AllFit ws n (q + 1) b (f && g)
+fit-next ws n q b f g all one =
+    record {
+      none =
+          λ t h j l.
+          let both = and-eq-true-iff f g .0 h in
+          let up : j ≤ q = omega arith in
+          elim (eq-or-lt-of-le up) [
+            | inl e ↦ ap (λ (k : ℕ). passesRefusal ws n k .refusal) e ∙ one .none t (both .1)
+            | inr k ↦ all .none t (both .0) j k
+          ];
+    }
 
 -- ---- the counts that are read
 

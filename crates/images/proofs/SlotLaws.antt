@@ -5,19 +5,23 @@
 --   none-found, stop-at, pass-at       the first refusal of several words, by that of the first of them
 --
 -- Assumes nothing.
-use Prim.Native.Nat.{ℕ, suc, _+_, _*_, _/_, _%_, _^_, _<_}
+use Prim.Native.Nat.{ℕ, suc, _+_, _*_, _/_, _%_, _^_, _≤_, _<_}
 use mathlib.Core.Path.{_≡_, refl, sym, ap, _∙_}
 use mathlib.Core.Bool.{Bool, true, false, cond, _&&_, _||_, not, and-eq-true-iff}
 use mathlib.Core.List.{List, _∷_}
 use native.Mathlib.Omega.{arith}
 use lib.Dec.{eqb, leb, ltb, leb·suc-suc}
-use borrow.Author.Tests.{eqb-true, eq-eqb, ne-eqb}
+use lib.Bits.{bitOr, or-add-and, and-le-l, and-le-r}
+use borrow.Author.Tests.{eqb-true, eq-eqb, ne-eqb, leb-true, le-leb}
 use Rattle.counting.proofs.TestLaws.{same-test}
 use Rattle.machine.specs.Images.{
   Slot,
   slot,
   passSlot,
   STATE,
+  EST,
+  LIS,
+  AHEAD,
   TURN,
   PASSES,
   codeIn,
@@ -32,7 +36,7 @@ use Rattle.machine.specs.Images.{
 use Rattle.machine.specs.Tables.{levelFits}
 use Rattle.image_theorems.proofs.Reading.{first-next, first-stop}
 use Rattle.machine.specs.declared.Found.{Found}
-use Rattle.images.specs.Inner.{SetKind}
+use Rattle.images.specs.Inner.{SetKind, SetsFit}
 
 -- ---- the upper half
 
@@ -127,6 +131,62 @@ set-slot n k q w full kind is low =
     let fits = and-true _ (spareBody k w) (t .no-spare) ∙ upper in
     let level = ap (λ (b : Bool). b && not (levelFits (locationIn w) (levelIn w))) (t .no-level) in
     λ i. byTests (fits i) (t .range-is i) (level i)
+
+-- a member of a set is in its union with another
+or-above-l : (a b : ℕ) → a ≤ bitOr a b
+or-above-l a b = omega (arith, or-add-and a b, and-le-r a b)
+
+or-above-r : (a b : ℕ) → b ≤ bitOr a b
+or-above-r a b = omega (arith, or-add-and a b, and-le-l a b)
+
+-- three sets by one comparison of their union
+module _ (n q b c d full : ℕ) (is : full + 1 ≡ 2 ^ n) (low : q < 16) where
+  abbrev upperIs : ℕ → ℕ → Bool
+  upperIs k w = eqb (w / 65536) (k * 4096 + q)
+
+  abbrev twoSets : ℕ
+  twoSets = bitOr (b % 65536) (c % 65536)
+
+  abbrev threeSets : ℕ
+  threeSets = bitOr twoSets (d % 65536)
+
+  passes : (k w : ℕ) → SetKind k → upperIs k w ≡ true → w % 65536 ≤ full → slotRefusal n (slot k q) w ≡ 0
+  passes k w kind u l = set-slot n k q w full kind is low ∙ rw (u, le-leb (w % 65536) full l) refl
+
+  pub sets-fit : SetsFit n q b c d (upperIs EST b && upperIs LIS c && upperIs AHEAD d && leb threeSets full)
+  sets-fit =
+      record {
+        est = λ h. passes EST b kind-est (tests h .0) (omega (
+          arith,
+          or-above-l (b % 65536) (c % 65536),
+          or-above-l twoSets (d % 65536),
+          tests h .3,
+        ));
+        lis = λ h. passes LIS c kind-lis (tests h .1) (omega (
+          arith,
+          or-above-r (b % 65536) (c % 65536),
+          or-above-l twoSets (d % 65536),
+          tests h .3,
+        ));
+        ahead = λ h. passes AHEAD d kind-ahead (tests h .2) (omega (arith, or-above-r twoSets (d % 65536), tests h .3));
+      }
+    where
+      kind-est : SetKind EST
+      kind-est = record { from = omega arith; to = omega arith }
+
+      kind-lis : SetKind LIS
+      kind-lis = record { from = omega arith; to = omega arith }
+
+      kind-ahead : SetKind AHEAD
+      kind-ahead = record { from = omega arith; to = omega arith }
+
+      tests : (upperIs EST b && upperIs LIS c && upperIs AHEAD d && leb threeSets full) ≡ true
+          → (upperIs EST b ≡ true) × (upperIs LIS c ≡ true) × (upperIs AHEAD d ≡ true) × (threeSets ≤ full)
+      tests h =
+          let last = and-eq-true-iff (upperIs EST b && upperIs LIS c && upperIs AHEAD d) (leb threeSets full) .0 h in
+          let third = and-eq-true-iff (upperIs EST b && upperIs LIS c) (upperIs AHEAD d) .0 (last .0) in
+          let both = and-eq-true-iff (upperIs EST b) (upperIs LIS c) .0 (third .0) in
+          (both .0, both .1, third .1, leb-true threeSets full (last .1))
 
 pub count-slot : (n q r w u : ℕ) → q < 16 → r < 16 → u ≡ PASSES * 4096 + q * 256 + r
     → slotRefusal n (passSlot q r) w ≡ byTests (eqb (w / 65536) u) (not (eqb q r) || eqb (w % 65536) 0) false

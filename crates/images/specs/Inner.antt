@@ -2,11 +2,14 @@
 --
 --   Numbered n q      <=>  q is one of n processes, at most 16.
 --   SetKind k         <=>  the words of kind k hold a set: EST, LIS, AHEAD.
+--   SetsFit n q ..    <=>  where r is true, the three words of process q that hold sets pass.
 --   Long ws n         <=>  at least as many words as a bare image of n processes has.
 --   Counted ws n      <=>  at least as many as an image has.
 --   Sized ws n b      <=>  as many as an image has, which is bare where b is false.
 --   rowOfWords ..     ==   the row that four words, a turn cell and passes hold; turnOfWords ws n q is that cell.
 --   passesRefusal ..  ==   the first refusal of the words with the passes of process q.
+--   Fits ws n q b f   <=>  where f is true, no word with passes of process q is refused, unless b is false.
+--   AllFit ws n m b f <=>  likewise of the first m processes.
 --   RowRead, WordsRead   what reading a row, and the words of all rows or all words, does to the cells.
 --   Packable r        <=>  the fields of a row fit the word with location, act, bb and level.
 --   rowWords q r      ==   the four words of process q.
@@ -17,13 +20,14 @@
 -- Assumes nothing.
 use Prim.Native.Nat.{ℕ, _+_, _-_, _*_, _^_, _≤_, _<_}
 use mathlib.Core.Path.{_≡_}
-use mathlib.Core.Bool.{Bool, cond}
+use mathlib.Core.Bool.{Bool, true, cond}
 use mathlib.Core.List.{List, [], _∷_, map}
 use lib.Dec.{eqb}
 use lib.ListN.{length, getD, take, drop, set}
 use Rattle.counting.specs.Ranges.{upTo}
 use Rattle.machine.specs.Images.{
   Slot,
+  slot,
   STATE,
   EST,
   LIS,
@@ -47,6 +51,7 @@ use Rattle.machine.specs.Images.{
   turnIn,
   bodyOf,
   wordIn,
+  slotRefusal,
   firstRefusal,
   rowIn,
   rowsIn,
@@ -65,6 +70,11 @@ pub record Numbered (n q : ℕ) : Type 0 where
 pub record SetKind (k : ℕ) : Type 0 where
   pub from : EST ≤ k
   pub to : k ≤ AHEAD
+
+pub record SetsFit (n q b c d : ℕ) (r : Bool) : Type 0 where
+  pub est : r ≡ true → slotRefusal n (slot EST q) b ≡ 0
+  pub lis : r ≡ true → slotRefusal n (slot LIS q) c ≡ 0
+  pub ahead : r ≡ true → slotRefusal n (slot AHEAD q) d ≡ 0
 
 -- ---- reading
 
@@ -102,6 +112,12 @@ rowOfWords a b c d v l =
 
 unfoldable pub passesRefusal : List ℕ → ℕ → ℕ → Found
 passesRefusal ws n q = firstRefusal n (passPlace n q 0) (passRow q 0 n) (drop (passPlace n q 0) ws)
+
+pub record Fits (ws : List ℕ) (n q : ℕ) (b f : Bool) : Type 0 where
+  pub none : b ≡ true → f ≡ true → passesRefusal ws n q .refusal ≡ 0
+
+pub record AllFit (ws : List ℕ) (n m : ℕ) (b f : Bool) : Type 0 where
+  pub none : b ≡ true → f ≡ true → (q : ℕ) → q < m → passesRefusal ws n q .refusal ≡ 0
 
 -- the words of process q were checked, and where they pass its cells stand for the row that they hold
 pub record RowRead (ws : List ℕ) (n q : ℕ) (x y : List (List ℕ)) (f : Found) : Type 0 where

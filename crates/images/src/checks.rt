@@ -11,7 +11,7 @@ ghost use mathlib.Core.List.{[], _∷_};
 ghost use Rattle.machine.specs.Images.{slot, STATE, TURN, rowPlace, rowSlots};
 ghost use Rattle.machine.specs.Images.{slotRefusal, firstRefusal};
 ghost use Rattle.rows.specs.Bounds.{Full};
-ghost use Rattle.images.specs.Inner.{Numbered, SetKind};
+ghost use Rattle.images.specs.Inner.{Numbered, SetKind, SetsFit};
 
 // The upper half of a word of kind STATE and of kind TURN, less its number.
 const STATE_UPPER: u32 = 0x9000;
@@ -53,6 +53,20 @@ fn set_refusal(n: u16, full: u16, kind: u16, q: u16, w: u32) -> u16
     0
 }
 
+// Where this is true, the three words of process q that hold sets pass. Most do. Otherwise
+// `set_refusal` is asked of one after the other.
+fn sets_fit(n: u16, full: u16, q: u16, b: u32, c: u32, d: u32) -> bool
+    requires { ⌜ Full n full ⌝ }
+    requires { ⌜ Numbered n q ⌝ }
+    ensures { λ r. ⌜ SetsFit n q b c d r ⌝ }
+{
+    let members = (b % 65536) | (c % 65536) | (d % 65536);
+    (b >> 16 == (crate::EST as u32) * 4096 + q as u32)
+        & (c >> 16 == (crate::LIS as u32) * 4096 + q as u32)
+        & (d >> 16 == (crate::AHEAD as u32) * 4096 + q as u32)
+        & (members <= full as u32)
+}
+
 // The refusal of a word that holds turn[k], or 0.
 pub(crate) fn turn_refusal(n: u16, k: u16, w: u32) -> u16
     requires { ⌜ Numbered n k ⌝ }
@@ -79,6 +93,12 @@ pub(crate) fn row_refusal(n: u16, full: u16, q: u16, a: u32, b: u32, c: u32, d: 
         return Found {
             refusal: first,
             place: at,
+        };
+    }
+    if sets_fit(n, full, q, b, c, d) {
+        return Found {
+            refusal: 0,
+            place: 0,
         };
     }
     let second = set_refusal(n, full, crate::EST, q, b);

@@ -6,14 +6,13 @@ use machine::MALFORMED;
 use machine::OUT_OF_RANGE;
 ghost use mathlib.Core.Path.{_≡_};
 ghost use Prim.Native.Nat.{_+_, _*_, _^_, _≤_, _<_};
-ghost use lib.Dec.{eqb};
 ghost use lib.ListN.{length, drop};
 ghost use Rattle.counting.specs.Placing.{placed};
 ghost use Rattle.machine.specs.Images.{passSlot, PASSES, bareLength, passPlace, passSlots};
 ghost use Rattle.machine.specs.Images.{slotRefusal, firstRefusal, passesIn};
 ghost use Rattle.cells.specs.View.{rowsOf};
 ghost use Rattle.images.specs.Answers.{Room};
-ghost use Rattle.images.specs.Inner.{Numbered, Sized, Counted, passesRefusal};
+ghost use Rattle.images.specs.Inner.{Numbered, Sized, Counted, Fits, passesRefusal};
 ghost use Rattle.images.specs.Inner.{passWords, passesPart};
 
 // The upper half of a word with passes of q, less the process that they are over.
@@ -64,26 +63,6 @@ fn passes_refusal(words: &[u32], n: u16, q: u16) -> Found
     }
 }
 
-// Whether none of them is refused: a loop without a branch, which the compiler turns into vector
-// code.
-fn passes_fit(words: &[u32], n: u16, q: u16) -> bool
-    requires { ⌜ Counted (now words) n ⌝ }
-    requires { ⌜ q < n ⌝ }
-    ensures { λ b. ⌜ b ≡ eqb (passesRefusal (now (words .entry)) n q .refusal) 0 ⌝ }
-{
-    let m = n as usize;
-    let at = pass_place(m, q as usize);
-    let upper = upper_half(q);
-    let mut fit = true;
-    let mut r = 0;
-    while r < m {
-        fit = fit & (words[at + r] >> 16 == upper + r as u32);
-        r += 1;
-    }
-    let own = at + q as usize;
-    fit & (words[own] % 65536 == 0)
-}
-
 // All words with passes in order, up to the first refusal.
 pub(crate) fn check_counts(words: &[u32], n: u16) -> Found
     requires { ⌜ Counted (now words) n ⌝ }
@@ -94,8 +73,9 @@ pub(crate) fn check_counts(words: &[u32], n: u16) -> Found
 {
     let mut q: u16 = 0;
     while q < n {
-        if !passes_fit(words, n, q) {
-            return passes_refusal(words, n, q);
+        let f = passes_refusal(words, n, q);
+        if f.refusal != 0 {
+            return f;
         }
         q += 1;
     }
@@ -105,24 +85,40 @@ pub(crate) fn check_counts(words: &[u32], n: u16) -> Found
     }
 }
 
-// The passes of process q by their words; none in a bare image, which has no such words.
-pub(crate) fn passes_of(words: &[u32], n: u16, counted: bool, q: u16) -> [u16; 16]
+// The passes of a process, and whether their words fit: where they do, none of them is refused.
+pub(crate) struct Passes {
+    pub(crate) list: [u16; 16],
+    pub(crate) fit: bool,
+}
+
+// The passes of process q by their words; none in a bare image, which has no such words. The loop
+// has no branch, and the compiler turns it into vector code. It collects the bits in which a word
+// differs from the word for a count of 0, `blank`.
+pub(crate) fn passes_of(words: &[u32], n: u16, counted: bool, q: u16) -> Passes
     requires { ⌜ Sized (now words) n counted ⌝ }
     requires { ⌜ q < n ⌝ }
-    ensures { λ l. ⌜ l ≡ passesIn n (now (words .entry)) q ⌝ }
+    ensures { λ p. ⌜ p .list ≡ passesIn n (now (words .entry)) q ⌝ }
+    ensures { λ p. ⌜ Fits (now (words .entry)) n q counted (p .fit) ⌝ }
 {
-    let mut passes = [0u16; 16];
+    let mut list = [0u16; 16];
     if !counted {
-        return passes;
+        return Passes { list, fit: true };
     }
     let m = n as usize;
     let at = pass_place(m, q as usize);
+    let mut odd: u32 = 0;
+    let mut blank = upper_half(q) * 65536;
     let mut r = 0;
     while r < m {
-        passes[r] = (words[at + r] % 65536) as u16;
+        let w = words[at + r];
+        list[r] = (w % 65536) as u16;
+        odd = odd | (w ^ blank);
+        blank += 65536;
         r += 1;
     }
-    passes
+    let own = at + q as usize;
+    let fit = (odd >> 16 == 0) & (words[own] % 65536 == 0);
+    Passes { list, fit }
 }
 
 // The word of an upper and a lower half.

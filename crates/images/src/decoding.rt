@@ -22,7 +22,7 @@ ghost use Rattle.machine.specs.Images.{codeIn, isHeader, sizeIn, firstRefusal};
 ghost use Rattle.rows.specs.Bounds.{Full};
 ghost use Rattle.images.specs.Answers.{ReadInto};
 ghost use Rattle.images.specs.Inner.{Long, Sized, rowOfWords, turnOfWords};
-ghost use Rattle.images.specs.Inner.{RowRead, WordsRead};
+ghost use Rattle.images.specs.Inner.{RowRead, WordsRead, Fits, AllFit};
 
 // The row that the four words of a process, its turn cell and its passes hold.
 fn row_of(a: u32, b: u32, c: u32, d: u32, turn: u16, passes: [u16; 16]) -> Row
@@ -55,6 +55,12 @@ fn turn_of(words: &[u32], n: u16, q: u16) -> u16
     (words[i] % 256) as u16
 }
 
+// What was found of the words of rows, and whether the words with their passes fit.
+struct RowsFound {
+    found: Found,
+    fit: bool,
+}
+
 // The words of process q are checked, and where they pass its cells become the row that they hold.
 fn read_row(
     words: &[u32],
@@ -63,48 +69,61 @@ fn read_row(
     full: u16,
     counted: bool,
     q: u16,
-) -> Found
+) -> RowsFound
     requires { ⌜ Full n full ⌝ }
     requires { ⌜ Sized (now words) n counted ⌝ }
     requires { ⌜ q < n ⌝ }
     requires { ⌜ n ≤ length (now cells) ⌝ }
-    ensures { λ f. ⌜ RowRead (now (words .entry)) n q (now (cells .entry)) (now (cells .exit)) f ⌝ }
+    ensures { λ f. ⌜
+        RowRead (now (words .entry)) n q (now (cells .entry)) (now (cells .exit)) (f .found)
+        ⌝ }
+    ensures { λ f. ⌜ Fits (now (words .entry)) n q counted (f .fit) ⌝ }
 {
     let i = row_place(q as usize);
     let a = words[i];
     let b = words[i + 1];
     let c = words[i + 2];
     let d = words[i + 3];
-    let f = row_refusal(n, full, q, a, b, c, d);
-    if f.refusal != 0 {
-        return f;
+    let found = row_refusal(n, full, q, a, b, c, d);
+    if found.refusal != 0 {
+        return RowsFound { found, fit: false };
     }
     let turn = turn_of(words, n, q);
     let passes = passes_of(words, n, counted, q);
-    cells::access::put_row(cells, q as usize, row_of(a, b, c, d, turn, passes));
-    f
+    let list = passes.list;
+    let fit = passes.fit;
+    cells::access::put_row(cells, q as usize, row_of(a, b, c, d, turn, list));
+    RowsFound { found, fit }
 }
 
 // All rows in order, up to the first refusal.
-fn read_rows(words: &[u32], cells: &mut [[u16; 24]], n: u16, counted: bool) -> Found
+fn read_rows(words: &[u32], cells: &mut [[u16; 24]], n: u16, counted: bool) -> RowsFound
     requires { ⌜ Sized (now words) n counted ⌝ }
     requires { ⌜ n ≤ length (now cells) ⌝ }
     ensures { λ f. ⌜
-        WordsRead (rowSlots 0 n) (now (words .entry)) n (now (cells .entry)) (now (cells .exit)) f
+        WordsRead (rowSlots 0 n) (now (words .entry)) n (now (cells .entry)) (now (cells .exit))
+        (f .found)
         ⌝ }
+    ensures { λ f. ⌜ AllFit (now (words .entry)) n n counted (f .fit) ⌝ }
 {
     let full = rows::sound::full_set(n);
+    let mut fit = true;
     let mut q: u16 = 0;
     while q < n {
         let f = read_row(words, cells, n, full, counted, q);
-        if f.refusal != 0 {
-            return f;
+        let found = f.found;
+        if found.refusal != 0 {
+            return RowsFound { found, fit: false };
         }
+        fit = fit & f.fit;
         q += 1;
     }
-    Found {
-        refusal: 0,
-        place: 0,
+    RowsFound {
+        found: Found {
+            refusal: 0,
+            place: 0,
+        },
+        fit,
     }
 }
 
@@ -143,7 +162,9 @@ fn read_words(words: &[u32], cells: &mut [[u16; 24]], n: u16, counted: bool) -> 
         (now (cells .entry)) (now (cells .exit)) f
         ⌝ }
 {
-    let f = read_rows(words, cells, n, counted);
+    let rows = read_rows(words, cells, n, counted);
+    let fit = rows.fit;
+    let f = rows.found;
     if f.refusal != 0 {
         return f;
     }
@@ -153,6 +174,12 @@ fn read_words(words: &[u32], cells: &mut [[u16; 24]], n: u16, counted: bool) -> 
     }
     if !counted {
         return g;
+    }
+    if fit {
+        return Found {
+            refusal: 0,
+            place: 0,
+        };
     }
     check_counts(words, n)
 }

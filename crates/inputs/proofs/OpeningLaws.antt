@@ -1,21 +1,24 @@
 -- What an input holds by its cases, and what the answers say of it. Assumes nothing.
 use mathlib.Core.Path.{_≡_, refl, sym, ap, _∙_}
+use mathlib.Core.Bool.{Bool, true, false}
 use mathlib.Core.List.{List, [], _∷_}
-use Prim.Native.Nat.{ℕ, zero, suc, _+_, _-_, _≤_, _<_}
+use Prim.Native.Nat.{ℕ, zero, suc, _-_, _≤_, _<_}
 use native.Mathlib.Omega.{arith}
-use lib.ListN.{length, take, drop, length-drop, length-take}
-use lib.Seq.{take-all, take-take}
-use Rattle.machine.specs.Refusals.{accepted}
+use lib.ListN.{length, getD, take, drop, length-drop, length-take}
+use lib.Seq.{take-all}
+use Rattle.machine.specs.Refusals.{accepted, noHeader}
 use Rattle.machine.specs.Runs.{limit}
-use Rattle.machine.specs.Images.{imageRefusal, tableIn}
+use Rattle.machine.specs.Images.{saysPasses, sizeIn, isHeader, imageLength, lengthIn, imageRefusal, tableIn}
 use Rattle.machine.specs.Inputs.{imagePart, eventPart, Input, wordsHold}
+use Rattle.machine.specs.declared.Found.{Found}
 use Rattle.machine.specs.declared.Reading.{Reading}
 use Rattle.machine.proofs.InputLaws.{words-bad-image, words-too-many, words-ready}
+use Rattle.image_theorems.proofs.Headers.{header-facts}
+use Rattle.image_theorems.proofs.Reading.{refused-header}
 use Rattle.images.specs.Answers.{readingOf}
+use Rattle.images.proofs.CountLaws.{either-low}
 use Rattle.inputs.specs.Splitting.{Splits}
-use Rattle.inputs.specs.Opening.{part, tableOf, Tabled, ShowsMany, ShowsReady, Shows}
-use Rattle.inputs.specs.declared.Opened.{Opened}
-use Rattle.inputs.specs.declared.Opened.the-variants.{BadBytes, BadImage, TooMany, Ready}
+use Rattle.inputs.specs.Opening.{part, tableOf, Tabled, ShowsMany, ShowsReady}
 use Rattle.images.proofs.ReadingLaws.{Loaded, refused-some, refused-number, refused-place}
 
 -- ---- the words of an input, of which the first m are its image
@@ -53,47 +56,55 @@ module _ (ws : List ℕ) (m : ℕ) (split : Splits ws m) where
     tabled : n ≤ length y → Tabled y n
     tabled h = record { sound = read .sound; few = read .few; within = h }
 
-    pub shows-many : n ≤ length y → limit < length ws - m → ShowsMany (wordsHold ws) y n
-    shows-many h many =
+    pub shows-many : (last : ℕ) → last ≡ length ws → n ≤ length y → limit < last - m → ShowsMany (wordsHold ws) y n
+    shows-many last is h many =
         record {
           holds =
-              words-too-many ws image-read (omega (arith, events-count)) ∙ ap Input.TooMany table-is;
+              words-too-many ws image-read (omega (arith, events-count, is)) ∙ ap Input.TooMany table-is;
           table = tabled h;
         }
 
-    pub shows-ready : n ≤ length y → length ws - m ≤ limit → ShowsReady (wordsHold ws) ws y n m (length ws)
-    shows-ready h few =
+    pub shows-ready : (last : ℕ) → last ≡ length ws → n ≤ length y → last - m ≤ limit
+        → ShowsReady (wordsHold ws) ws y n m last
+    shows-ready last is h few =
         record {
           holds =
-              words-ready ws image-read (omega (arith, events-count))
-              ∙ (λ x. Input.Ready (table-is x) (sym events-past x));
+              words-ready ws image-read (omega (arith, events-count, is))
+              ∙ (λ x. Input.Ready (table-is x) ((sym events-past ∙ ap (part ws m) (sym is)) x));
           table = tabled h;
-          ordered = split .within;
-          ends = omega arith;
+          ordered = omega (arith, split .within, is);
+          ends = omega (arith, is);
           few = few;
         }
 
--- ---- an answer about the first words says the same about all
+-- ---- more words than the longest image has
 
-take-drop-take : (x a k : ℕ) (ws : List ℕ) → x + a ≤ k → take x (drop a (take k ws)) ≡ take x (drop a ws)
-take-drop-take x zero k ws h = take-take x k ws (omega arith)
-take-drop-take x (suc a) zero ws h = absurd (omega arith)
-take-drop-take x (suc a) (suc k) [] h = refl
-take-drop-take x (suc a) (suc k) (w ∷ ws) h = take-drop-take x a k ws (omega arith)
+head-of : (k : ℕ) (ws : List ℕ) → 0 < length (take k ws) → getD (take k ws) 0 0 ≡ getD ws 0 0
+head-of zero ws h = absurd (omega arith)
+head-of (suc k) [] h = refl
+head-of (suc k) (w ∷ ws) h = refl
 
-pub shows-of-start : (i : Input) (k : ℕ) (ws : List ℕ) (y : List (List ℕ)) (r : Opened)
-    → Shows i (take k ws) y r → Shows i ws y r
-shows-of-start i k ws y BadBytes t = t
-shows-of-start i k ws y (BadImage place number) t = t
-shows-of-start i k ws y (TooMany n) t = t
-shows-of-start i k ws y (Ready n a b) t =
-    let e = length-take k ws in
-    record {
-      holds =
-          t .holds
-          ∙ ap (Input.Ready (tableOf y n)) (take-drop-take (b - a) a k ws (omega (arith, t .ordered, t .ends, e)));
-      table = t .table;
-      ordered = t .ordered;
-      ends = omega (arith, t .ends, e);
-      few = t .few;
-    }
+module _ (ws : List ℕ) (long : imageLength 16 < length (imagePart ws)) where
+  abbrev head : ℕ
+  head = getD ws 0 0
+
+  no-header : isHeader head ≡ false
+  no-header = go (isHeader head) refl
+    where
+      go : (b : Bool) → isHeader head ≡ b → b ≡ false
+      go false e = refl
+      go true e =
+          absurd
+          (omega (
+            arith,
+            long,
+            either-low (saysPasses head) (sizeIn head) (header-facts head e .few),
+            length-take (lengthIn head) ws,
+          ))
+
+  pub holds-longer : wordsHold ws ≡ Input.BadImage 0 noHeader
+  holds-longer =
+      let first = ap isHeader (head-of (lengthIn head) ws (omega (arith, long))) ∙ no-header in
+      let refused = refused-header (imagePart ws) first in
+      words-bad-image ws (λ z. absurd (omega (arith, sym (ap (λ (f : Found). f .refusal) refused) ∙ z)))
+      ∙ ap (λ (f : Found). Input.BadImage (f .place) (f .refusal)) refused

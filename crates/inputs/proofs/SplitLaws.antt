@@ -4,8 +4,9 @@ use mathlib.Core.List.{List}
 use Prim.Native.Nat.{ℕ, _≤_}
 use native.Mathlib.Omega.{arith}
 use lib.ListN.{length, getD, take, drop, drop-of-length-le}
-use lib.Seq.{take-all}
+use lib.Seq.{take-all, length-take-le}
 use Rattle.machine.specs.Images.{lengthIn}
+use Rattle.machine.specs.Inputs.{imagePart}
 use Rattle.inputs.specs.Splitting.{Splits}
 
 module _ (ws : List ℕ) where
@@ -29,3 +30,7 @@ module _ (ws : List ℕ) where
         image-is = take-all m ws (omega arith) ∙ sym (take-all all ws h);
         events-are = drop-of-length-le ws {i = m} (omega arith) ∙ sym (drop-of-length-le ws h);
       }
+
+-- how many words the image has
+pub split-count : (ws : List ℕ) (m : ℕ) → Splits ws m → m ≡ length (imagePart ws)
+split-count ws m s = sym (length-take-le m ws (s .within)) ∙ ap length (s .image-is)

@@ -4,20 +4,20 @@
 --   part ws a b         ==   the words of ws from place a up to place b.
 --   Tabled y n          <=>  that table is a sound one.
 --   Shows i ws y r      <=>  the answer r, with the words ws and the cells y, shows what an input i holds.
---   Roomy bs ws         <=>  ws has room for the words of the bytes bs, where these fit.
+--   Roomy bs ws         <=>  ws has room for the words of the image in the bytes bs, unless it is longer than any is.
 --   Openable bs ws x    <=>  so it has, and the cells x have room for every table.
---   Opens bs ws y r     <=>  the answer r shows what the bytes bs hold.
+--   Opens bs ws y r     <=>  the answer r shows what the bytes bs hold, whose words are ws.
 --
 -- Assumes nothing.
-use Prim.Native.Nat.{ℕ, _-_, _*_, _≤_}
+use Prim.Native.Nat.{ℕ, _-_, _≤_}
 use mathlib.Core.Path.{_≡_}
-use mathlib.Core.Bool.{true}
 use mathlib.Core.List.{List}
 use lib.ListN.{length, take, drop}
 use Rattle.machine.specs.Tables.{Table, tableRefusal}
 use Rattle.machine.specs.Runs.{limit}
-use Rattle.machine.specs.Bytes.{bytesFit}
-use Rattle.machine.specs.Inputs.{Input, inputOf}
+use Rattle.machine.specs.Images.{imageLength}
+use Rattle.machine.specs.Bytes.{wordsIn}
+use Rattle.machine.specs.Inputs.{imagePart, Input, inputOf}
 use Rattle.cells.specs.View.{rowsOf}
 use Rattle.inputs.specs.declared.Opened.{Opened}
 use Rattle.inputs.specs.declared.Opened.the-variants.{BadBytes, BadImage, TooMany, Ready}
@@ -55,7 +55,7 @@ Shows i ws y (Ready n a b) = ShowsReady i ws y n a b
 -- ---- contracts
 
 abbrev pub Roomy : List ℕ → List ℕ → Type 0
-Roomy bs ws = bytesFit bs ≡ true → length bs ≤ 4 * length ws
+Roomy bs ws = length (imagePart (wordsIn bs)) ≤ imageLength 16 → length (imagePart (wordsIn bs)) ≤ length ws
 
 pub record Openable (bs ws : List ℕ) (x : List (List ℕ)) : Type 0 where
   pub room : Roomy bs ws

@@ -1,16 +1,13 @@
 -- Words and bytes undo each other; lengths; one word of a list. Assumes nothing.
-use mathlib.Core.Bool.{true, and-eq-true-iff}
 use mathlib.Core.Path.{_≡_, refl, sym, ap, _∙_}
 use mathlib.Core.List.{List, [], _∷_, _++_}
-use Prim.Native.Nat.{ℕ, zero, suc, _+_, _*_, _/_, _%_, _^_, _<_, _≤_}
+use Prim.Native.Nat.{ℕ, zero, suc, _+_, _-_, _*_, _/_, _%_, _^_, _<_, _≤_}
 use native.Mathlib.Omega.{arith}
-use lib.Dec.{eqb, leb}
-use lib.ListN.{length, getD, take}
-use borrow.Author.Tests.{eqb-true, leb-true}
+use lib.ListN.{length, getD, take, drop}
 use lib.Pow.{recompose, mod-pow-add}
-use Rattle.machine.specs.Bytes.{wordsIn, bytesOf, bytesFit, bytesLimit}
+use Rattle.machine.specs.Bytes.{wordsIn, bytesOf}
 use Rattle.counting.specs.Placing.{placed}
-use Rattle.octets.specs.Words.{wordOf, Whole}
+use Rattle.octets.specs.Words.{wordOf}
 use Rattle.counting.proofs.PlacingLaws.{take-first}
 
 -- four times i, as the bytes are counted
@@ -52,6 +49,48 @@ getD-wordsIn i (a ∷ b ∷ []) h = absurd (omega arith)
 getD-wordsIn i (a ∷ b ∷ c ∷ []) h = absurd (omega arith)
 getD-wordsIn zero (a ∷ b ∷ c ∷ d ∷ bs) h = refl
 getD-wordsIn (suc i) (a ∷ b ∷ c ∷ d ∷ bs) h = getD-wordsIn i bs (omega arith)
+
+-- the word that the code reads is word i of the bytes
+pub read-is : (bytes : List ℕ) (i : ℕ) → i < length bytes / 4
+    → wordOf (getD bytes (4 * i) 0) (getD bytes (4 * i + 1) 0) (getD bytes (4 * i + 2) 0) (getD bytes (4 * i + 3) 0)
+    ≡ getD (wordsIn bytes) i 0
+read-is bytes i h =
+    let first : 4 * i ≡ fours i = sym (fours-is i) in
+    let second : fours i + 1 ≡ suc (fours i) = omega arith in
+    let third : fours i + 2 ≡ suc (suc (fours i)) = omega arith in
+    let fourth : fours i + 3 ≡ suc (suc (suc (fours i))) = omega arith in
+    rw (first, second, third, fourth) (sym (getD-wordsIn i bytes (omega (arith, length-wordsIn bytes))))
+
+-- ---- the words of a part of the bytes
+
+take-fours : (m : ℕ) (bs : List ℕ) → wordsIn (take (fours m) bs) ≡ take m (wordsIn bs)
+unfolding wordsIn fours
+take-fours zero bs = refl
+take-fours (suc m) [] = refl
+take-fours (suc m) (a ∷ []) = refl
+take-fours (suc m) (a ∷ b ∷ []) = refl
+take-fours (suc m) (a ∷ b ∷ c ∷ []) = refl
+take-fours (suc m) (a ∷ b ∷ c ∷ d ∷ bs) = ap (λ (ws : List ℕ). wordOf a b c d ∷ ws) (take-fours m bs)
+
+drop-fours : (m : ℕ) (bs : List ℕ) → wordsIn (drop (fours m) bs) ≡ drop m (wordsIn bs)
+unfolding wordsIn fours
+drop-fours zero bs = refl
+drop-fours (suc m) [] = refl
+drop-fours (suc m) (a ∷ []) = refl
+drop-fours (suc m) (a ∷ b ∷ []) = refl
+drop-fours (suc m) (a ∷ b ∷ c ∷ []) = refl
+drop-fours (suc m) (a ∷ b ∷ c ∷ d ∷ bs) = drop-fours m bs
+
+pub words-first : (m : ℕ) (bs : List ℕ) → wordsIn (take (4 * m) bs) ≡ take m (wordsIn bs)
+words-first m bs = ap (λ (k : ℕ). wordsIn (take k bs)) (sym (fours-is m)) ∙ take-fours m bs
+
+pub words-part : (a b : ℕ) (bs : List ℕ) → a ≤ b
+    → wordsIn (take (4 * b - 4 * a) (drop (4 * a) bs)) ≡ take (b - a) (drop a (wordsIn bs))
+words-part a b bs h =
+    let four : 4 * b - 4 * a ≡ 4 * (b - a) = omega arith in
+    ap (λ (k : ℕ). wordsIn (take k (drop (4 * a) bs))) four
+    ∙ words-first (b - a) (drop (4 * a) bs)
+    ∙ ap (take (b - a)) (ap (λ (k : ℕ). wordsIn (drop k bs)) (sym (fours-is a)) ∙ drop-fours a bs)
 
 pub bytesOf-append : (vs ws : List ℕ) → bytesOf (vs ++ ws) ≡ bytesOf vs ++ bytesOf ws
 unfolding bytesOf
@@ -95,17 +134,6 @@ bytesOf-wordsIn (a ∷ b ∷ c ∷ d ∷ bs) h z =
     rw (ea, eb, ec, ed, bytesOf-wordsIn bs (λ i l. h (suc (suc (suc (suc i)))) (omega arith)) (omega arith))
 
 -- ---- the words of an input
-
--- bytes that fit can be unpacked where there is room for their words
-pub whole-in : (bs ws : List ℕ) → bytesFit bs ≡ true → length bs ≤ 4 * length ws → Whole bs ws
-whole-in bs ws fit room =
-    let four = and-eq-true-iff (eqb (length bs % 4) 0) (leb (length bs) bytesLimit) .0 fit .0 in
-    record { whole = eqb-true (length bs % 4) 0 four; room = room }
-
--- and they are no more than the longest input has
-pub fits-few : (bs : List ℕ) → bytesFit bs ≡ true → length bs ≤ bytesLimit
-fits-few bs fit =
-    leb-true (length bs) bytesLimit (and-eq-true-iff (eqb (length bs % 4) 0) (leb (length bs) bytesLimit) .0 fit .1)
 
 module _ (bs ws y : List ℕ) (m : ℕ) (count : m ≡ length bs / 4) (placed-so : y ≡ placed ws 0 (wordsIn bs)) where
   -- as many words as were unpacked are the words of the bytes

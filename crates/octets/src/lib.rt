@@ -1,8 +1,8 @@
 // Words as bytes, lowest byte first (machine/specs/Bytes.antt says what they mean).
 ghost use mathlib.Core.Path.{_≡_};
 ghost use mathlib.Core.List.{_∷_, []};
-ghost use Prim.Native.Nat.{_≤_, _+_, _*_, _/_};
-ghost use lib.ListN.{length};
+ghost use Prim.Native.Nat.{_≤_, _<_, _+_, _*_, _/_};
+ghost use lib.ListN.{length, getD};
 ghost use Rattle.machine.specs.Bytes.{wordsIn, bytesOf, bytesFit};
 ghost use Rattle.counting.specs.Placing.{placed};
 ghost use Rattle.octets.specs.Words.{wordOf, Whole};
@@ -29,6 +29,15 @@ fn word_of(a: u8, b: u8, c: u8, d: u8) -> u32
     wide(a) + wide(b) * 256 + wide(c) * 65536 + wide(d) * 16777216
 }
 
+// Word i of those that `bytes` hold.
+pub fn word_at(bytes: &[u8], i: usize) -> u32
+    requires { ⌜ i < length (now bytes) / 4 ⌝ }
+    ensures { λ r. ⌜ r ≡ getD (wordsIn (now (bytes .entry))) i 0 ⌝ }
+{
+    let at = 4 * i;
+    word_of(bytes[at], bytes[at + 1], bytes[at + 2], bytes[at + 3])
+}
+
 // The words that `bytes` hold, put at the start of `words`; answers how many they are.
 pub fn unpack(bytes: &[u8], words: &mut [u32]) -> usize
     requires { ⌜ Whole (now bytes) (now words) ⌝ }
@@ -38,8 +47,7 @@ pub fn unpack(bytes: &[u8], words: &mut [u32]) -> usize
     let count = bytes.len() / 4;
     let mut i = 0;
     while i < count {
-        let at = 4 * i;
-        words[i] = word_of(bytes[at], bytes[at + 1], bytes[at + 2], bytes[at + 3]);
+        words[i] = word_at(bytes, i);
         i += 1;
     }
     count

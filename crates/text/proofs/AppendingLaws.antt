@@ -25,6 +25,10 @@ appended-as {d} {at = at} same a =
       end-is = a .end-is ∙ ap (λ (l : List ℕ). at + length l) same;
     }
 
+-- the same end by another name
+pub appended-to : {d s y : List ℕ} {at e f : ℕ} → e ≡ f → Appended d at s y e → Appended d at s y f
+appended-to same a = record { bytes-are = a .bytes-are; end-is = sym same ∙ a .end-is }
+
 -- the composition law
 pub appended-then : {d s u y z : List ℕ} {at e f : ℕ} → at ≤ length d
     → Appended d at s y e → Appended y e u z f → Appended d at (s ++ u) z f

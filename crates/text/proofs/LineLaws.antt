@@ -10,7 +10,7 @@ use borrow.Author.Tests.{eq-eqb, ne-eqb}
 use Rattle.machine.specs.Shared.{READ, ACT}
 use Rattle.machine.specs.Text.{decimal, spaced, line, cellText}
 use Rattle.machine.specs.declared.SharedCell.{SharedCell}
-use Rattle.text.specs.Appending.{gap, lineWith, takenLine}
+use Rattle.text.specs.Appending.{Appended, gap, lineWith, takenLine}
 use Rattle.text.proofs.DigitLaws.{length-digits}
 
 -- ---- one number more
@@ -109,6 +109,66 @@ pub length-takenLine : (ns : List ℕ) (c : SharedCell)
     → length (takenLine ns c) ≡ length (spaced ns) + (length (cellText c) + 2)
 length-takenLine ns c =
     omega (arith, length-append (spaced ns) (32 ∷ cellText c ++ (10 ∷ [])), length-append (cellText c) (10 ∷ []))
+
+-- ---- the line of a taken word, field by field
+
+-- a number and the space after it
+abbrev pub field : ℕ → List ℕ
+field n = decimal n ++ (32 ∷ [])
+
+pub field-end : {d y : List ℕ} {at e : ℕ} (n : ℕ) → Appended d at (field n) y e → e ≡ at + (length (decimal n) + 1)
+field-end n a = omega (arith, a .end-is, length-append (decimal n) (32 ∷ []))
+
+field-then : (n : ℕ) (s : List ℕ) → field n ++ s ≡ decimal n ++ (32 ∷ s)
+field-then n s = append-assoc (decimal n) (32 ∷ []) s
+
+module _ (a b c d e : ℕ) (cell : SharedCell) where
+  abbrev fields : List ℕ
+  fields = a ∷ b ∷ c ∷ d ∷ e ∷ []
+
+  abbrev rest : List ℕ
+  rest = cellText cell ++ (10 ∷ [])
+
+  -- the numbers, with what stands after them drawn in
+  spaced-then : spaced fields ++ (32 ∷ rest)
+      ≡ decimal a ++ (32 ∷ decimal b ++ (32 ∷ decimal c ++ (32 ∷ decimal d ++ (32 ∷ decimal e ++ (32 ∷ rest)))))
+  unfolding spaced
+  spaced-then =
+      append-assoc (decimal a) (32 ∷ spaced (b ∷ c ∷ d ∷ e ∷ [])) (32 ∷ rest)
+      ∙ ap (λ (l : List ℕ). decimal a ++ (32 ∷ l))
+      (append-assoc (decimal b) (32 ∷ spaced (c ∷ d ∷ e ∷ [])) (32 ∷ rest)
+      ∙ ap (λ (l : List ℕ). decimal b ++ (32 ∷ l))
+      (append-assoc (decimal c) (32 ∷ spaced (d ∷ e ∷ [])) (32 ∷ rest)
+      ∙ ap (λ (l : List ℕ). decimal c ++ (32 ∷ l)) (append-assoc (decimal d) (32 ∷ decimal e) (32 ∷ rest))))
+
+  pub taken-fields : field a ++ (field b ++ (field c ++ (field d ++ (field e ++ rest)))) ≡ takenLine fields cell
+  taken-fields =
+      field-then a (field b ++ (field c ++ (field d ++ (field e ++ rest))))
+      ∙ ap (λ (l : List ℕ). decimal a ++ (32 ∷ l))
+      (field-then b (field c ++ (field d ++ (field e ++ rest)))
+      ∙ ap (λ (l : List ℕ). decimal b ++ (32 ∷ l))
+      (field-then c (field d ++ (field e ++ rest))
+      ∙ ap (λ (l : List ℕ). decimal c ++ (32 ∷ l))
+      (field-then d (field e ++ rest) ∙ ap (λ (l : List ℕ). decimal d ++ (32 ∷ l)) (field-then e rest))))
+      ∙ sym spaced-then
+
+  pub length-taken : length (takenLine fields cell)
+      ≡ (length (decimal a) + 1)
+      + ((length (decimal b) + 1)
+      + ((length (decimal c) + 1)
+      + ((length (decimal d) + 1) + ((length (decimal e) + 1) + (length (cellText cell) + 1)))))
+  length-taken =
+      omega (
+        arith,
+        ap length spaced-then,
+        length-append (decimal a)
+            (32 ∷ decimal b ++ (32 ∷ decimal c ++ (32 ∷ decimal d ++ (32 ∷ decimal e ++ (32 ∷ rest))))),
+        length-append (decimal b) (32 ∷ decimal c ++ (32 ∷ decimal d ++ (32 ∷ decimal e ++ (32 ∷ rest)))),
+        length-append (decimal c) (32 ∷ decimal d ++ (32 ∷ decimal e ++ (32 ∷ rest))),
+        length-append (decimal d) (32 ∷ decimal e ++ (32 ∷ rest)),
+        length-append (decimal e) (32 ∷ rest),
+        length-append (cellText cell) (10 ∷ []),
+      )
 
 pub length-line : (s : List ℕ) {ns : List ℕ} {m : ℕ} → Within ns m → length (line s ns) ≤ length s + m
 length-line s {ns} fits = omega (arith, length-lineWith s ns (10 ∷ []), length-spaced fits)

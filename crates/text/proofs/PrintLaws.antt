@@ -3,7 +3,7 @@ use mathlib.Core.Path.{_≡_, refl, sym, ap, _∙_, subst}
 use mathlib.Core.Bool.{Bool, true, false}
 use mathlib.Core.Logic.{inl, inr}
 use mathlib.Core.List.{List, [], _∷_, _++_, append-nil}
-use Prim.Native.Nat.{ℕ, _+_, _-_, _≤_, _<_}
+use Prim.Native.Nat.{ℕ, _+_, _-_, _*_, _≤_, _<_}
 use native.Mathlib.Nat.{zero-add}
 use native.Mathlib.Omega.{arith}
 use lib.ListN.{length, take, drop, length-append, length-take}
@@ -14,10 +14,12 @@ use denote.Enum.Declared.{tagOf}
 use Rattle.counting.specs.Placing.{placed}
 use Rattle.machine.specs.Refusals.{tooManyWords}
 use Rattle.machine.specs.Runs.{limit}
+use Rattle.machine.specs.Bytes.{wordsIn}
 use Rattle.machine.specs.Inputs.{Input, inputOf}
 use Rattle.machine.specs.Text.{postsText, line, postsLine, stopLine, runLines, textOf, printed}
 use Rattle.machine.specs.Exports.{printedIn}
 use Rattle.cells.proofs.ViewLaws.{rows-length}
+use Rattle.octets.proofs.ByteLaws.{length-wordsIn, words-part}
 use Rattle.inputs.specs.Opening.{tableOf, part, Shows, ShowsReady}
 use Rattle.inputs.specs.declared.Opened.{Opened}
 use Rattle.inputs.specs.declared.Opened.the-variants.{BadBytes, BadImage, TooMany, Ready}
@@ -86,16 +88,30 @@ module _ (ws : List ℕ) (y : List (List ℕ)) where
     pub head-fits : length (headOf r) ≤ headRoom
     head-fits = head-of (inputOf (a .input)) r (input-bounded (a .input)) (a .opens)
 
-    -- an answer with a run
-    module _ (n f l : ℕ) (is : r ≡ Opened.Ready n f l) where
-      pub shows-run : ShowsReady (inputOf (a .input)) ws y n f l
-      shows-run = subst (λ (v : Opened). Shows (inputOf (a .input)) ws y v) is (a .opens)
+-- ---- an answer with a run, for the bytes bs
 
-      pub words-few : length (part ws f l) ≤ limit
-      words-few = omega (arith, shows-run .few, length-take (l - f) (drop f ws))
+module _ (bs : List ℕ) (y : List (List ℕ)) (r : Opened) (a : Answers r (wordsIn bs) y) (n f l : ℕ)
+    (is : r ≡ Opened.Ready n f l) where
+  pub shows-run : ShowsReady (inputOf (a .input)) (wordsIn bs) y n f l
+  shows-run = subst (λ (v : Opened). Shows (inputOf (a .input)) (wordsIn bs) y v) is (a .opens)
 
-      pub lines-are : runLines (tableOf y n) 0 (part ws f l) ≡ linesOf r ws y
-      lines-are = sym (ap (λ (v : Opened). linesOf v ws y) is)
+  -- the bytes of its event words: up to where, and what they hold
+  pub events-end : 4 * l ≤ length bs
+  events-end = omega (arith, shows-run .ends, length-wordsIn bs)
+
+  abbrev events : List ℕ
+  events = take (4 * l - 4 * f) (drop (4 * f) bs)
+
+  events-are : wordsIn events ≡ part (wordsIn bs) f l
+  events-are = words-part f l bs (shows-run .ordered)
+
+  pub events-few : length (wordsIn events) ≤ limit
+  events-few =
+      omega (arith, shows-run .few, ap length events-are, length-take (l - f) (drop f (wordsIn bs)))
+
+  pub lines-are : runLines (tableOf y n) 0 (wordsIn events) ≡ linesOf r (wordsIn bs) y
+  lines-are =
+      ap (runLines (tableOf y n) 0) events-are ∙ sym (ap (λ (v : Opened). linesOf v (wordsIn bs) y) is)
 
 -- ---- the buffer
 

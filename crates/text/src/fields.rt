@@ -3,14 +3,14 @@
 use machine::SharedCell;
 ghost use mathlib.Core.Path.{_≡_};
 ghost use mathlib.Core.Bool.{cond};
-ghost use mathlib.Core.List.{_∷_, []};
+ghost use mathlib.Core.List.{_∷_, [], _++_};
 ghost use Prim.Native.Nat.{_+_, _<_, _≤_};
 ghost use lib.ListN.{length};
 ghost use Rattle.machine.specs.Text.{decimal, cellText};
 ghost use Rattle.text.specs.Appending.{Appended, PairReady, ShortReady, LongReady, pair, gap};
 
 // One byte.
-fn put_byte(out: &mut [u8], at: usize, b: u8) -> usize
+pub(crate) fn put_byte(out: &mut [u8], at: usize, b: u8) -> usize
     requires { ⌜ at < length (now out) ⌝ }
     ensures { λ r. ⌜ Appended (now (out .entry)) at (b ∷ []) (now (out .exit)) r ⌝ }
 {
@@ -92,6 +92,15 @@ pub(crate) fn put_number(out: &mut [u8], at: usize, n: u32) -> usize
         return put_short(out, at, n);
     }
     put_long(out, at, n)
+}
+
+// A number and the space after it.
+pub(crate) fn put_field(out: &mut [u8], at: usize, n: u32) -> usize
+    requires { ⌜ at + (length (decimal n) + 1) ≤ length (now out) ⌝ }
+    ensures { λ r. ⌜ Appended (now (out .entry)) at (decimal n ++ (32 ∷ [])) (now (out .exit)) r ⌝ }
+{
+    let end = put_number(out, at, n);
+    put_byte(out, end, 32)
 }
 
 // One of two letters.

@@ -17,14 +17,14 @@ pub fn print_run(input: &[u8], out: &mut [u8]) -> usize
     ensures { λ r. ⌜ (r ≡ printedIn (now (input .entry)) (now (out .entry)) .number)
         × (now (out .exit) ≡ printedIn (now (input .entry)) (now (out .entry)) .lent) ⌝ }
 {
-    let mut words = [0u32; machine::INPUT_WORDS];
+    let mut words = [0u32; machine::IMAGE_WORDS];
     let mut cells = [[0u16; 24]; machine::MOST_PROCESSES];
     let opened = inputs::open_input(input, &mut words, &mut cells);
     if out.len() < machine::TEXT_BYTES {
-        let length = text_length(opened, &words, cells);
+        let length = text_length(opened, input, cells);
         if out.len() < length {
             return length;
         }
     }
-    put_opened(out, opened, &words, &mut cells)
+    put_opened(out, opened, input, &mut cells)
 }

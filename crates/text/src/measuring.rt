@@ -9,6 +9,7 @@ use inputs::Opened;
 ghost use mathlib.Core.Path.{_≡_};
 ghost use Prim.Native.Nat.{_+_};
 ghost use lib.ListN.{length};
+ghost use Rattle.machine.specs.Bytes.{wordsIn};
 ghost use Rattle.machine.specs.Text.{runLines};
 ghost use Rattle.cells.specs.View.{rowsOf};
 ghost use Rattle.text.specs.Running.{LinesReady};
@@ -19,19 +20,21 @@ const LINE_BYTES: usize = 22;
 
 const HEAD_BYTES: usize = 22;
 
-// Where the lines of a run that start at place `at` end.
-fn run_end(at: usize, cells: &mut [[u16; 24]], words: &[u32]) -> usize
-    requires { ⌜ LinesReady (now cells) at (now words) ⌝ }
+// Where the lines of a run over the words of `events` end, if they start at place `at`.
+fn run_end(at: usize, cells: &mut [[u16; 24]], events: &[u8]) -> usize
+    requires { ⌜ LinesReady (now cells) at (wordsIn (now events)) ⌝ }
     ensures { λ r. ⌜
-        r ≡ at + length (runLines (rowsOf (now (cells .entry))) 0 (now (words .entry)))
+        r ≡ at + length (runLines (rowsOf (now (cells .entry))) 0 (wordsIn (now (events .entry))))
         ⌝ }
 {
+    let n = events.len() / 4;
     let mut line = [0u8; LINE_BYTES];
     let mut end = at;
     let mut inside = count_critical(cells);
     let mut i = 0;
-    while i < words.len() {
-        match put_word(&mut line, 0, cells, inside, i as u32, words[i]) {
+    while i < n {
+        let word = octets::word_at(events, i);
+        match put_word(&mut line, 0, cells, inside, i as u32, word) {
             Line::Taken {
                 end: length,
                 inside: next_inside,
@@ -51,18 +54,18 @@ fn run_end(at: usize, cells: &mut [[u16; 24]], words: &[u32]) -> usize
 // How long the text for an opened input is. The run changes a copy of the cells.
 pub(crate) fn text_length(
     opened: Opened,
-    words: &[u32],
+    input: &[u8],
     cells: [[u16; 24]; machine::MOST_PROCESSES],
 ) -> usize
-    requires { ⌜ Answers opened (now words) cells ⌝ }
-    ensures { λ r. ⌜ r ≡ length (openedText opened (now (words .entry)) cells) ⌝ }
+    requires { ⌜ Answers opened (wordsIn (now input)) cells ⌝ }
+    ensures { λ r. ⌜ r ≡ length (openedText opened (wordsIn (now (input .entry))) cells) ⌝ }
 {
     let mut head = [0u8; HEAD_BYTES];
     let at = put_head(&mut head, opened);
     let mut copy = cells;
     match opened {
         Opened::Ready { size, first, last } => {
-            run_end(at, &mut copy[..size], &words[first..last])
+            run_end(at, &mut copy[..size], &input[4 * first..4 * last])
         }
         _ => at,
     }

@@ -6,6 +6,7 @@ use crate::lines::put_posts;
 use crate::lines::put_stop;
 use crate::running::put_run;
 use inputs::Opened;
+ghost use Rattle.machine.specs.Bytes.{wordsIn};
 ghost use Rattle.text.specs.Appending.{Appended};
 ghost use Rattle.text.specs.Printing.{HeadReady, TextReady, headOf, openedText};
 
@@ -33,19 +34,20 @@ pub(crate) fn put_head(out: &mut [u8], opened: Opened) -> usize
 pub(crate) fn put_opened(
     out: &mut [u8],
     opened: Opened,
-    words: &[u32],
+    input: &[u8],
     cells: &mut [[u16; 24]],
 ) -> usize
-    requires { ⌜ TextReady opened (now words) (now cells) (now out) ⌝ }
+    requires { ⌜ TextReady opened (wordsIn (now input)) (now cells) (now out) ⌝ }
     ensures { λ r. ⌜
-        Appended (now (out .entry)) 0 (openedText opened (now (words .entry)) (now (cells .entry)))
+        Appended (now (out .entry)) 0
+        (openedText opened (wordsIn (now (input .entry))) (now (cells .entry)))
         (now (out .exit)) r
         ⌝ }
 {
     let at = put_head(out, opened);
     match opened {
         Opened::Ready { size, first, last } => {
-            put_run(out, at, &mut cells[..size], &words[first..last])
+            put_run(out, at, &mut cells[..size], &input[4 * first..4 * last])
         }
         _ => at,
     }

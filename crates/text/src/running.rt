@@ -12,6 +12,7 @@ ghost use lib.ListN.{length};
 ghost use Rattle.machine.specs.Tables.{row};
 ghost use Rattle.machine.specs.Census.{critical};
 ghost use Rattle.machine.specs.Runs.{carried};
+ghost use Rattle.machine.specs.Bytes.{wordsIn};
 ghost use Rattle.machine.specs.Text.{runLines};
 ghost use Rattle.cells.specs.View.{rowsOf};
 ghost use Rattle.text.specs.Appending.{Appended};
@@ -77,9 +78,8 @@ pub(crate) fn put_word(
             let event = told.event;
             let now_inside = carried(event, inside);
             let process = p as u32;
-            let fields = [place, process, before, after, now_inside];
             let cell = told.cell;
-            let end = put_taken(out, at, &fields, cell);
+            let end = put_taken(out, at, place, process, before, after, now_inside, cell);
             Line::Taken {
                 end: end,
                 inside: now_inside,
@@ -89,19 +89,22 @@ pub(crate) fn put_word(
     }
 }
 
-// A line for each word up to the first that is refused, and the last line.
-pub(crate) fn put_run(out: &mut [u8], at: usize, cells: &mut [[u16; 24]], words: &[u32]) -> usize
-    requires { ⌜ RunReady (now cells) (now out) at (now words) ⌝ }
+// A line for each word that `events` hold up to the first that is refused, and the last line.
+pub(crate) fn put_run(out: &mut [u8], at: usize, cells: &mut [[u16; 24]], events: &[u8]) -> usize
+    requires { ⌜ RunReady (now cells) (now out) at (wordsIn (now events)) ⌝ }
     ensures { λ r. ⌜
-        Appended (now (out .entry)) at (runLines (rowsOf (now (cells .entry))) 0 (now (words .entry)))
+        Appended (now (out .entry)) at
+        (runLines (rowsOf (now (cells .entry))) 0 (wordsIn (now (events .entry))))
         (now (out .exit)) r
         ⌝ }
 {
+    let n = events.len() / 4;
     let mut end = at;
     let mut inside = count_critical(cells);
     let mut i = 0;
-    while i < words.len() {
-        match put_word(out, end, cells, inside, i as u32, words[i]) {
+    while i < n {
+        let word = octets::word_at(events, i);
+        match put_word(out, end, cells, inside, i as u32, word) {
             Line::Taken {
                 end: next,
                 inside: next_inside,

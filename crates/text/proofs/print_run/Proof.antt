@@ -3,12 +3,11 @@ use native.Mathlib.Omega.{arith}
 use mathlib.Core.Path.{_≡_, ap}
 use mathlib.Core.Logic.{⊎-elim}
 use mathlib.Core.List.{List}
-use Prim.Native.Nat.{ℕ, _+_, _≤_}
+use Prim.Native.Nat.{ℕ, _≤_}
 use lib.ListN.{length, length-replicate}
-use Rattle.machine.specs.Runs.{limit}
+use Rattle.machine.specs.Bytes.{wordsIn}
 use Rattle.machine.specs.Images.{imageLength}
 use Rattle.machine.specs.Text.{printed}
-use Rattle.octets.proofs.ByteLaws.{fits-few}
 use Rattle.text.specs.Printing.{openedText, Answers}
 use Rattle.text.proofs.TextFits.{text-fits}
 use Rattle.text.proofs.PrintLaws.{text-is, short-print, whole-print}
@@ -24,9 +23,8 @@ slice-aggregate-open-input-2 c = search needs
 
 open-input-requires : tie.Need-open-input-requires
 open-input-requires c κs =
-    let bs = c .before .before .before .before .args .input .now in
     record {
-      room = λ fit. omega (arith, fits-few bs fit, length-replicate {A = ℕ} (imageLength 16 + limit) 0);
+      room = λ short. omega (arith, short, length-replicate {A = ℕ} (imageLength 16) 0);
       cells = search needs;
     }
 
@@ -42,28 +40,25 @@ abbrev buffer : tie.After-open-input → List ℕ
 buffer o = start o .args .out .now
 
 abbrev answers : (o : tie.After-open-input)
-    → Answers (o .open-input .result) (o .open-input .last .1 .0) (o .open-input .last .1 .1 .0)
+    → Answers (o .open-input .result) (wordsIn (input o)) (o .open-input .last .1 .1 .0)
 answers o = record { input = input o; opens = o .open-input .ensures }
 
 -- its text
 abbrev text : tie.After-open-input → List ℕ
-text o = openedText (o .open-input .result) (o .open-input .last .1 .0) (o .open-input .last .1 .1 .0)
+text o = openedText (o .open-input .result) (wordsIn (input o)) (o .open-input .last .1 .1 .0)
 
 printed-is : (o : tie.After-open-input) → printed (input o) ≡ text o
-printed-is o = text-is (o .open-input .last .1 .0) (o .open-input .last .1 .1 .0) (o .open-input .result) (answers o)
+printed-is o = text-is (wordsIn (input o)) (o .open-input .last .1 .1 .0) (o .open-input .result) (answers o)
 
 -- ---- a buffer that may be too short
 
-slice-aggregate-text-length : tie.Need-slice-aggregate-text-length
-slice-aggregate-text-length c = search needs
-
 text-length-requires : tie.Need-text-length-requires
-text-length-requires c κs = answers (c .before .before .before .before)
+text-length-requires c κs = answers (c .before .before .before)
 
 returns : tie.Need-returns
 returns c =
     let measured = c .before .text-length in
-    let o = c .before .before .before .before .before .before in
+    let o = c .before .before .before .before .before in
     short-print (input o) (buffer o) (printed-is o) (measured .ensures) (c .if2 .taken)
 
 -- ---- a buffer with room
@@ -71,21 +66,18 @@ returns c =
 slice-aggregate-put-opened : tie.Need-slice-aggregate-put-opened
 slice-aggregate-put-opened c = search needs
 
-slice-aggregate-put-opened-2 : tie.Need-slice-aggregate-put-opened-2
-slice-aggregate-put-opened-2 c = search needs
-
 -- as was measured, or as every text has
 room : (j : tie.Joined1) → let o = j .before .before .before in length (text o) ≤ length (buffer o)
 room j =
     let o = j .before .before .before in
     ⊎-elim
-    (λ m. omega (arith, m .2 .ensures, m .3 .left))
+    (λ m. omega (arith, m .1 .ensures, m .2 .left))
     (λ e. omega (arith, ap length (printed-is o), text-fits (input o), e .left))
     (j .if1 .came)
 
 put-opened-requires : tie.Need-put-opened-requires
 put-opened-requires c κs =
-    let j = c .before .before .before in
+    let j = c .before .before in
     record { answers = answers (j .before .before .before); room = room j }
 
 same-length : tie.Need-same-length
@@ -93,7 +85,7 @@ same-length c = search needs
 
 returns-2 : tie.Need-returns-2
 returns-2 c =
-    let j = c .before .before .before .before .before .before .before in
+    let j = c .before .before .before .before .before .before in
     let o = j .before .before .before in
     whole-print (input o) (buffer o) (printed-is o) (room j) (c .before .before .before .put-opened .ensures)
 
@@ -104,11 +96,9 @@ print-run-spec =
     slice-aggregate-open-input
     slice-aggregate-open-input-2
     open-input-requires
-    slice-aggregate-text-length
     text-length-requires
     returns
     slice-aggregate-put-opened
-    slice-aggregate-put-opened-2
     put-opened-requires
     same-length
     returns-2)

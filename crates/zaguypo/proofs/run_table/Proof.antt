@@ -6,8 +6,8 @@ use Prim.Native.Nat.{_≤_}
 use lib.ListN.{length}
 use Rattle.machine.specs.Settings.{settingsFit}
 use Rattle.machine.specs.Images.{imageLength}
+use Rattle.machine.specs.Bytes.{wordsIn}
 use Rattle.machine.proofs.SoundRows.{sound-rows}
-use Rattle.machine.specs.declared.Ran.{Ran}
 use Rattle.cells.specs.View.{rowsOf}
 use Rattle.cells.proofs.ViewLaws.{rows-length}
 use Rattle.images.proofs.CountLaws.{image-low}
@@ -30,7 +30,7 @@ cast-result c = search needs
 returns : tie.Need-returns
 returns c =
     let a = c .before .before .before .before .args in
-    calls-unfit (a .settings) (rowsOf (a .cells .now)) (a .words .now) (a .image .now)
+    calls-unfit (a .settings) (rowsOf (a .cells .now)) (wordsIn (a .events .now)) (a .image .now)
     (sym (c .before .settings-fit .ensures) ∙ not-true _ (c .if1 .taken))
 
 -- ---- where the settings fit
@@ -53,26 +53,26 @@ returns-2 c =
     let i = c .before in
     let f = i .before in
     let a = f .before .before .before .before .args in
-    calls-short (a .settings) (rowsOf (a .cells .now)) (a .words .now) (a .image .now) (fit f)
+    calls-short (a .settings) (rowsOf (a .cells .now)) (wordsIn (a .events .now)) (a .image .now) (fit f)
     (omega (arith, ap imageLength (rows-length (a .cells .now)), i .image-words .ensures, c .if2 .taken))
 
-run-words-requires : tie.Need-run-words-requires
-run-words-requires c κs =
+run-events-requires : tie.Need-run-events-requires
+run-events-requires c κs =
     let f = c .before .before .before in
     let p = f .before .before .before .before .pre in
     record { table-sound = p .table-sound; settings-fit = fit f; words-few = p .words-few }
 
 write-image-requires : tie.Need-write-image-requires
 write-image-requires c κs =
-    let w = c .before .before .before .before in
+    let w = c .before .before .before in
     let e = w .before .before in
     record {
-      sound = w .run-words .ensures .sound-after;
+      sound = w .run-events .ensures .sound-after;
       room =
           omega (
             arith,
-            ap imageLength (rows-length (w .run-words .last .0)),
-            ap imageLength (w .run-words .kept .0),
+            ap imageLength (rows-length (w .run-events .last .0)),
+            ap imageLength (w .run-events .kept .0),
             e .if2 .left,
             e .before .image-words .ensures,
           );
@@ -90,19 +90,18 @@ same-length-2 c = search needs
 returns-3 : tie.Need-returns-3
 returns-3 c =
     let put = c .before .before .before .write-image in
-    let w = c .before .before .before .before .before .before .before .before in
+    let w = c .before .before .before .before .before .before .before in
     let e = w .before .before in
     let i = e .before in
     let f = i .before in
     let a = f .before .before .before .before .args in
-    let run = w .run-words in
-    let ran = run .ensures .runs .ran-is in
-    calls-ran (a .settings) (rowsOf (a .cells .now)) (a .words .now) (a .image .now) (fit f)
+    let run = w .run-events in
+    calls-ran (a .settings) (rowsOf (a .cells .now)) (wordsIn (a .events .now)) (a .image .now) (fit f)
     (omega (arith, ap imageLength (rows-length (a .cells .now)), i .image-words .ensures, e .if2 .left))
     (rowsOf (run .last .0)) (put .last .1 .0) _ _ (c .number-of .result)
-    (run .ensures .runs .becomes .rows-are)
-    (ap (λ (r : Ran). r .taken) ran)
-    (ap (λ (r : Ran). r .refusal) ran)
+    (run .ensures .becomes .rows-are)
+    (run .ensures .taken-is)
+    (run .ensures .refusal-is)
     (c .number-of .ensures)
     (put .ensures)
 
@@ -117,7 +116,7 @@ run-table-spec =
     mul-if2
     cast-result-2
     returns-2
-    run-words-requires
+    run-events-requires
     write-image-requires
     number-of-requires
     same-length

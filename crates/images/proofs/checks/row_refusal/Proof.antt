@@ -1,7 +1,7 @@
 -- `images::checks::row_refusal` meets its contract: the first word that does not pass stops, and one that passes leaves
 -- the refusal to the words after it. Assumes nothing.
 use Prim.Native.Nat.{suc}
-use mathlib.Core.Path.{_≡_, sym, _∙_}
+use mathlib.Core.Path.{_≡_, refl, sym, _∙_}
 use mathlib.Core.List.{[], _∷_}
 use native.Mathlib.Omega.{arith}
 use Rattle.machine.specs.Images.{slot, EST, LIS, AHEAD, rowPlace, rowSlots, firstRefusal}
@@ -38,20 +38,41 @@ to-est : (c : tie.Else1) → fromState (c .before .before .before) ≡ fromEst (
 unfolding rowSlots
 to-est c = pass-at _ _ _ _ _ _ _ (c .before .state-refusal .ensures) (c .if1 .left)
 
-to-lis : (c : tie.Else2)
+-- the three sets at once
+lis-next : (c : tie.Then2)
     → let s = c .before .before .before .before .before in
     fromState s ≡ fromLis s
-to-lis c = to-est (c .before .before) ∙ pass-at _ _ _ _ _ _ _ (c .before .set-refusal .ensures) (c .if2 .left)
+lis-next c =
+    to-est (c .before .before) ∙ pass-at _ _ 0 _ _ _ _ (sym (c .before .sets-fit .ensures .est (c .if2 .taken))) refl
 
-to-ahead : (c : tie.Else3)
-    → let s = c .before .before .before .before .before .before .before in
+ahead-next : (c : tie.Then2)
+    → let s = c .before .before .before .before .before in
     fromState s ≡ fromAhead s
-to-ahead c = to-lis (c .before .before) ∙ pass-at _ _ _ _ _ _ _ (c .before .set-refusal2 .ensures) (c .if3 .left)
+ahead-next c =
+    lis-next c ∙ pass-at _ _ 0 _ _ _ _ (sym (c .before .sets-fit .ensures .lis (c .if2 .taken))) refl
 
-to-end : (c : tie.Else4)
-    → let s = c .before .before .before .before .before .before .before .before .before in
+none-next : (c : tie.Then2)
+    → let s = c .before .before .before .before .before in
     fromState s ≡ firstRefusal (s .args .n) (suc (suc (suc (suc (rowPlace (s .args .q)))))) [] []
-to-end c = to-ahead (c .before .before) ∙ pass-at _ _ _ _ _ _ _ (c .before .set-refusal3 .ensures) (c .if4 .left)
+none-next c =
+    ahead-next c ∙ pass-at _ _ 0 _ _ _ _ (sym (c .before .sets-fit .ensures .ahead (c .if2 .taken))) refl
+
+to-lis : (c : tie.Else3)
+    → let s = c .before .before .before .before .before .before .before in
+    fromState s ≡ fromLis s
+to-lis c =
+    to-est (c .before .before .before .before)
+    ∙ pass-at _ _ _ _ _ _ _ (c .before .set-refusal .ensures) (c .if3 .left)
+
+to-ahead : (c : tie.Else4)
+    → let s = c .before .before .before .before .before .before .before .before .before in
+    fromState s ≡ fromAhead s
+to-ahead c = to-lis (c .before .before) ∙ pass-at _ _ _ _ _ _ _ (c .before .set-refusal2 .ensures) (c .if4 .left)
+
+to-end : (c : tie.Else5)
+    → let s = c .before .before .before .before .before .before .before .before .before .before .before in
+    fromState s ≡ firstRefusal (s .args .n) (suc (suc (suc (suc (rowPlace (s .args .q)))))) [] []
+to-end c = to-ahead (c .before .before) ∙ pass-at _ _ _ _ _ _ _ (c .before .set-refusal3 .ensures) (c .if5 .left)
 
 -- ---- the needs
 
@@ -68,45 +89,52 @@ returns : tie.Need-returns
 unfolding rowSlots
 returns c = sym (stop-at _ _ _ _ _ _ _ _ (omega arith) (c .before .state-refusal .ensures) (c .if1 .taken))
 
+sets-fit-requires : tie.Need-sets-fit-requires
+sets-fit-requires c κs = search needs
+
+returns-2 : tie.Need-returns-2
+unfolding firstRefusal
+returns-2 c = sym (none-next c)
+
 set-refusal-requires : tie.Need-set-refusal-requires
 set-refusal-requires c κs = search needs
 
-add-t16 : tie.Need-add-t16
+add-t16 : tie.Need-add-t17
 add-t16 c = search needs
-
-returns-2 : tie.Need-returns-2
-returns-2 c =
-    sym
-    (to-est (c .before .before)
-    ∙ stop-at _ _ _ _ _ _ _ _ (omega arith) (c .before .set-refusal .ensures) (c .if2 .taken))
-
-set-refusal-requires-2 : tie.Need-set-refusal-requires-2
-set-refusal-requires-2 c κs = search needs
-
-add-t17 : tie.Need-add-t17
-add-t17 c = search needs
 
 returns-3 : tie.Need-returns-3
 returns-3 c =
     sym
-    (to-lis (c .before .before)
-    ∙ stop-at _ _ _ _ _ _ _ _ (omega arith) (c .before .set-refusal2 .ensures) (c .if3 .taken))
+    (to-est (c .before .before .before .before)
+    ∙ stop-at _ _ _ _ _ _ _ _ (omega arith) (c .before .set-refusal .ensures) (c .if3 .taken))
 
-set-refusal-requires-3 : tie.Need-set-refusal-requires-3
-set-refusal-requires-3 c κs = search needs
+set-refusal-requires-2 : tie.Need-set-refusal-requires-2
+set-refusal-requires-2 c κs = search needs
 
-add-t18 : tie.Need-add-t18
-add-t18 c = search needs
+add-t17 : tie.Need-add-t18
+add-t17 c = search needs
 
 returns-4 : tie.Need-returns-4
 returns-4 c =
     sym
-    (to-ahead (c .before .before)
-    ∙ stop-at _ _ _ _ _ _ _ _ (omega arith) (c .before .set-refusal3 .ensures) (c .if4 .taken))
+    (to-lis (c .before .before)
+    ∙ stop-at _ _ _ _ _ _ _ _ (omega arith) (c .before .set-refusal2 .ensures) (c .if4 .taken))
+
+set-refusal-requires-3 : tie.Need-set-refusal-requires-3
+set-refusal-requires-3 c κs = search needs
+
+add-t18 : tie.Need-add-t19
+add-t18 c = search needs
 
 returns-5 : tie.Need-returns-5
+returns-5 c =
+    sym
+    (to-ahead (c .before .before)
+    ∙ stop-at _ _ _ _ _ _ _ _ (omega arith) (c .before .set-refusal3 .ensures) (c .if5 .taken))
+
+returns-6 : tie.Need-returns-6
 unfolding firstRefusal
-returns-5 c = sym (to-end c)
+returns-6 c = sym (to-end c)
 
 pub row-refusal-spec : {M : Type 1} → statement M
 row-refusal-spec =
@@ -116,13 +144,15 @@ row-refusal-spec =
     cast-at
     state-refusal-requires
     returns
+    sets-fit-requires
+    returns-2
     set-refusal-requires
     add-t16
-    returns-2
+    returns-3
     set-refusal-requires-2
     add-t17
-    returns-3
+    returns-4
     set-refusal-requires-3
     add-t18
-    returns-4
-    returns-5)
+    returns-5
+    returns-6)

@@ -4,8 +4,8 @@ use Prim.Native.Nat.{_-_, _≤_}
 use mathlib.Core.Path.{_≡_, sym, ap, _∙_}
 use native.Mathlib.Omega.{arith}
 use lib.ListN.{drop}
-use borrow.Author.Tests.{eqb-true, eqb-false, not-true, not-false}
 use Rattle.machine.specs.Images.{bareLength, passSlots, firstRefusal}
+use Rattle.images.proofs.SlotLaws.{none-found}
 use Rattle.images.proofs.CountLaws.{fromPasses, counts-start, counts-stop, counts-on, counts-end}
 use borrow.Author.Needs.{needs}
 use Rattle.images.proofs.counts.check_counts.Statement.{statement}
@@ -23,22 +23,19 @@ loop-holds c =
     let a = c .before .args in
     (search needs, counts-start (a .n) (a .words .now))
 
-passes-fit-requires : tie.Need-passes-fit-requires Inv-loop μ-loop
-passes-fit-requires c κs = (c .before .before .before .pre, c .loop-test .taken)
-
 passes-refusal-requires : tie.Need-passes-refusal-requires Inv-loop μ-loop
-passes-refusal-requires c κs = search needs
+passes-refusal-requires c κs = (c .before .before .before .pre, c .loop-test .taken)
 
 returns : tie.Need-returns Inv-loop μ-loop
 returns c =
-    let t = c .before in
-    let f = t .before in
+    let f = c .before .before in
     let l = f .before in
     let a = l .before .before .before .args in
-    let some = eqb-false _ _ (sym (f .passes-fit .ensures) ∙ not-true _ (t .if1 .taken)) in
-    c .passes-refusal .ensures
+    let is = f .passes-refusal .ensures in
+    is
     ∙ sym (l .before .loop .inv .1
-    ∙ counts-stop (a .n) (a .words .now) (l .before .loop .q) (l .loop-test .taken) some)
+    ∙ counts-stop (a .n) (a .words .now) (l .before .loop .q) (l .loop-test .taken)
+    (λ z. c .if1 .taken (none-found (sym is) z)))
 
 add-q : tie.Need-add-q Inv-loop μ-loop
 add-q c = search needs
@@ -48,11 +45,11 @@ loop-less c = search needs
 
 loop-again : tie.Need-loop-again Inv-loop μ-loop
 loop-again c =
-    let f = c .before in
+    let f = c .before .before in
     let l = f .before in
     let s = l .before .before .before in
     let a = s .args in
-    let none = eqb-true _ _ (sym (f .passes-fit .ensures) ∙ not-false _ (c .if1 .left)) in
+    let none = none-found (f .passes-refusal .ensures) (c .if1 .left) in
     let on =
     counts-on (a .n) (a .words .now) (l .before .loop .q) (l .loop-test .taken) (s .pre .long) none in
     (search needs, l .before .loop .inv .1 ∙ on)
@@ -71,7 +68,6 @@ check-counts-spec =
     Inv-loop
     μ-loop
     loop-holds
-    passes-fit-requires
     passes-refusal-requires
     returns
     add-q

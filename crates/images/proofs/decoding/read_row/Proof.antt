@@ -1,6 +1,7 @@
 -- `images::decoding::read_row` meets its contract. Assumes nothing.
 use Prim.Native.Nat.{_+_, _≤_}
 use mathlib.Core.Path.{_≡_, refl, ap, _∙_}
+use mathlib.Core.Bool.{false≢true}
 use native.Mathlib.Omega.{arith}
 use lib.ListN.{length, getD, set, drop}
 use Rattle.machine.specs.Images.{rowPlace, rowSlots, firstRefusal}
@@ -81,7 +82,10 @@ found c =
     c .row-refusal .ensures ∙ row-found (a .n) (a .words .now) (a .q) (at .result) (at .ensures) (within (start c))
 
 returns : tie.Need-returns
-returns c = record { found-is = found (c .before .before); rows-are = λ z. absurd (c .if1 .taken z); size-is = refl }
+returns c = (
+  record { found-is = found (c .before .before); rows-are = λ z. absurd (c .if1 .taken z); size-is = refl },
+  record { none = λ t f. absurd (false≢true f) },
+)
 
 turn-of-requires : tie.Need-turn-of-requires
 turn-of-requires c κs =
@@ -93,15 +97,15 @@ passes-of-requires c κs = search needs
 
 row-of-requires : tie.Need-row-of-requires
 row-of-requires c κs =
-    let r = c .before .before .before .before .before in
+    let r = c .before .before .before .before .before .before in
     let a = start r .args in
     let at = r .before .before .before .before .before .row-place in
     row-passes (a .n) (a .words .now) (a .q) (at .result) (at .ensures) (within (start r))
-    (none-found (r .row-refusal .ensures) (c .before .before .before .if1 .left))
+    (none-found (r .row-refusal .ensures) (c .before .before .before .before .if1 .left))
 
 put-row-requires : tie.Need-put-row-requires
 put-row-requires c κs =
-    let s = start (c .before .before .before .before .before .before) in
+    let s = start (c .before .before .before .before .before .before .before) in
     omega (arith, s .pre .1 .1 .0, s .pre .1 .1 .1)
 
 same-length : tie.Need-same-length
@@ -109,21 +113,24 @@ same-length c = search needs
 
 returns-2 : tie.Need-returns-2
 returns-2 c =
-    let t = c .before .before .before .before .before in
+    let t = c .before .before .before .before .before .before in
     let r = t .before .before .before in
     let a = start r .args in
     let ws = a .words .now in
     let here = r .before .before .before .before .before .row-place .ensures in
     let turn = t .turn-of .ensures in
-    let passes = c .before .before .before .before .passes-of .ensures in
+    let read = c .before .before .before .before .before .passes-of .ensures in
+    let passes = read .0 in
     let row-is = c .before .before .row-of .ensures ∙ (λ k. rowOfWords (getD ws (here k) 0) (getD ws (here k + 1) 0)
     (getD ws (here k + 2) 0) (getD ws (here k + 3) 0) (turn k) (passes k)) in
-    let put = c .before .put-row .ensures in
-    record {
-      found-is = found r;
-      rows-are = λ z. put .rows-are ∙ ap (set (rowsOf (a .cells .now)) (a .q)) row-is;
-      size-is = put .size-is;
-    }
+    let put = c .before .put-row .ensures in (
+      record {
+        found-is = found r;
+        rows-are = λ z. put .rows-are ∙ ap (set (rowsOf (a .cells .now)) (a .q)) row-is;
+        size-is = put .size-is;
+      },
+      read .1,
+    )
 
 pub read-row-spec : {M : Type 1} → statement M
 read-row-spec =

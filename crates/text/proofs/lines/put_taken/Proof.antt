@@ -1,65 +1,116 @@
--- `text::lines::put_taken` meets its contract: the numbers and a space, the cell, the line feed. Assumes nothing.
+-- `text::lines::put_taken` meets its contract: five numbers, each with a space after it, the cell, the line feed.
+-- Assumes nothing.
 use native.Mathlib.Omega.{arith}
 use borrow.Author.Needs.{needs}
-use mathlib.Core.Path.{_≡_}
-use mathlib.Core.List.{[], _∷_, _++_, append-assoc}
-use Prim.Native.Nat.{_+_}
+use Prim.Native.Nat.{ℕ, _+_, _≤_}
 use lib.ListN.{length}
-use Rattle.machine.specs.Text.{spaced, cellText}
-use Rattle.text.specs.Appending.{takenLine}
+use Rattle.machine.specs.Text.{decimal, cellText}
 use Rattle.text.proofs.AppendingLaws.{appended-as, appended-then}
-use Rattle.text.proofs.LineLaws.{length-lineWith, length-takenLine}
+use Rattle.text.proofs.LineLaws.{field-end, length-taken, taken-fields}
 use Rattle.text.proofs.lines.put_taken.Statement.{statement}
 use Rattle.text.proofs.lines.put_taken.Tie as tie
 
-slice-aggregate-put-line : tie.Need-slice-aggregate-put-line
-slice-aggregate-put-line c = search needs
+-- ---- the room that is left after each number
 
-slice-aggregate-put-line-2 : tie.Need-slice-aggregate-put-line-2
-slice-aggregate-put-line-2 c = search needs
+-- how many bytes a number and its space take
+abbrev wide : ℕ → ℕ
+wide n = length (decimal n) + 1
 
--- how long the line is
-long : (s : tie.Start)
+room-0 : (s : tie.Start)
     → let a = s .args in
-    length (takenLine (a .numbers .now) (a .cell))
-    ≡ length (spaced (a .numbers .now)) + (length (cellText (a .cell)) + 2)
-long s = length-takenLine (s .args .numbers .now) (s .args .cell)
+    a .at
+    + (wide (a .place) + (wide (a .process) + (wide (a .from) + (wide (a .to) + (wide (a .inside)
+    + (length (cellText (a .cell)) + 1))))))
+    ≤ length (a .out .now)
+room-0 s =
+    let a = s .args in
+    omega (arith, length-taken (a .place) (a .process) (a .from) (a .to) (a .inside) (a .cell), s .pre)
 
-put-line-requires : tie.Need-put-line-requires
-put-line-requires c κs =
-    let s = c .before .before .before .before .before in
-    omega (arith, long s, length-lineWith [] (s .args .numbers .now) (32 ∷ []), s .pre)
+room-1 : (c : tie.After-put-field)
+    → let a = c .before .before .before .args in
+    c .put-field .result
+    + (wide (a .process) + (wide (a .from) + (wide (a .to) + (wide (a .inside) + (length (cellText (a .cell)) + 1)))))
+    ≤ length (c .put-field .last .0)
+room-1 c =
+    let s = c .before .before .before in
+    omega (arith, room-0 s, field-end (s .args .place) (c .put-field .ensures), c .put-field .kept .0)
 
-put-cell-requires : tie.Need-put-cell-requires
-put-cell-requires c κs =
-    let l = c .before .before .before in
-    let s = l .before .before .before .before .before .before in
+room-2 : (c : tie.After-put-field2)
+    → let a = c .before .before .before .before .before .before .before .args in
+    c .put-field2 .result
+    + (wide (a .from) + (wide (a .to) + (wide (a .inside) + (length (cellText (a .cell)) + 1))))
+    ≤ length (c .put-field2 .last .0)
+room-2 c =
+    let b = c .before .before .before .before in
+    let s = b .before .before .before in
+    omega (arith, room-1 b, field-end (s .args .process) (c .put-field2 .ensures), c .put-field2 .kept .0)
+
+room-3 : (c : tie.After-put-field3)
+    → let a = c .before .before .before .before .before .before .before .before .before .before .before .args in
+    c .put-field3 .result + (wide (a .to) + (wide (a .inside) + (length (cellText (a .cell)) + 1)))
+    ≤ length (c .put-field3 .last .0)
+room-3 c =
+    let b = c .before .before .before .before in
+    let s = b .before .before .before .before .before .before .before in
+    omega (arith, room-2 b, field-end (s .args .from) (c .put-field3 .ensures), c .put-field3 .kept .0)
+
+abbrev start-4 : tie.After-put-field4 → tie.Start
+start-4 c =
+    c .before .before .before .before .before .before .before .before .before .before .before .before .before .before
+    .before
+
+room-4 : (c : tie.After-put-field4)
+    → let a = start-4 c .args in
+    c .put-field4 .result + (wide (a .inside) + (length (cellText (a .cell)) + 1)) ≤ length (c .put-field4 .last .0)
+room-4 c =
     omega (
       arith,
-      long s,
-      length-lineWith [] (s .args .numbers .now) (32 ∷ []),
-      l .put-line .ensures .end-is,
-      l .put-line .kept .0,
-      s .pre,
+      room-3 (c .before .before .before .before),
+      field-end (start-4 c .args .to) (c .put-field4 .ensures),
+      c .put-field4 .kept .0,
     )
 
-slice-aggregate-put-text : tie.Need-slice-aggregate-put-text
-slice-aggregate-put-text c = search needs
+abbrev start-5 : tie.After-put-field5 → tie.Start
+start-5 c = start-4 (c .before .before .before .before)
 
-put-text-requires : tie.Need-put-text-requires
-put-text-requires c κs =
-    let d = c .before .before .before .before in
-    let l = d .before .before .before .before in
-    let s = l .before .before .before .before .before .before in
+room-5 : (c : tie.After-put-field5)
+    → c .put-field5 .result + (length (cellText (start-5 c .args .cell)) + 1) ≤ length (c .put-field5 .last .0)
+room-5 c =
     omega (
       arith,
-      long s,
-      length-lineWith [] (s .args .numbers .now) (32 ∷ []),
-      l .put-line .ensures .end-is,
-      l .put-line .kept .0,
-      d .put-cell .ensures .end-is,
-      d .put-cell .kept .0,
-      s .pre,
+      room-4 (c .before .before .before .before),
+      field-end (start-5 c .args .inside) (c .put-field5 .ensures),
+      c .put-field5 .kept .0,
+    )
+
+-- ---- the needs
+
+put-field-requires : tie.Need-put-field-requires
+put-field-requires c κs = omega (arith, room-0 (c .before .before))
+
+put-field-requires-2 : tie.Need-put-field-requires-2
+put-field-requires-2 c κs = omega (arith, room-1 (c .before .before .before))
+
+put-field-requires-3 : tie.Need-put-field-requires-3
+put-field-requires-3 c κs = omega (arith, room-2 (c .before .before .before))
+
+put-field-requires-4 : tie.Need-put-field-requires-4
+put-field-requires-4 c κs = omega (arith, room-3 (c .before .before .before))
+
+put-field-requires-5 : tie.Need-put-field-requires-5
+put-field-requires-5 c κs = omega (arith, room-4 (c .before .before .before))
+
+put-cell-requires : tie.Need-put-cell-requires
+put-cell-requires c κs = omega (arith, room-5 (c .before .before .before))
+
+put-byte-requires : tie.Need-put-byte-requires
+put-byte-requires c κs =
+    let p = c .before .before .before in
+    omega (
+      arith,
+      room-5 (p .before .before .before .before),
+      p .put-cell .ensures .end-is,
+      p .put-cell .kept .0,
     )
 
 same-length : tie.Need-same-length
@@ -67,28 +118,33 @@ same-length c = search needs
 
 returns : tie.Need-returns
 returns c =
-    let e = c .before .before in
-    let d = e .before .before .before .before .before in
-    let l = d .before .before .before .before in
-    let s = l .before .before .before .before .before .before in
-    let ns = s .args .numbers .now in
-    let cell = cellText (s .args .cell) in
-    let first = l .put-line .ensures in
-    appended-as (append-assoc (spaced ns) (32 ∷ []) (cell ++ (10 ∷ [])))
-    (appended-then (omega (arith, long s, s .pre)) first
-    (appended-then
-    (omega (arith, long s, length-lineWith [] ns (32 ∷ []), first .end-is, l .put-line .kept .0, s .pre))
-    (d .put-cell .ensures) (e .put-text .ensures)))
+    let b = c .before .before in
+    let p = b .before .before .before .before in
+    let c5 = p .before .before .before .before in
+    let c4 = c5 .before .before .before .before in
+    let c3 = c4 .before .before .before .before in
+    let c2 = c3 .before .before .before .before in
+    let c1 = c2 .before .before .before .before in
+    let s = c1 .before .before .before in
+    let a = s .args in
+    appended-as (taken-fields (a .place) (a .process) (a .from) (a .to) (a .inside) (a .cell))
+    (appended-then (omega (arith, room-0 s)) (c1 .put-field .ensures)
+    (appended-then (omega (arith, room-1 c1)) (c2 .put-field2 .ensures)
+    (appended-then (omega (arith, room-2 c2)) (c3 .put-field3 .ensures)
+    (appended-then (omega (arith, room-3 c3)) (c4 .put-field4 .ensures)
+    (appended-then (omega (arith, room-4 c4)) (c5 .put-field5 .ensures)
+    (appended-then (omega (arith, room-5 c5)) (p .put-cell .ensures) (b .put-byte .ensures)))))))
 
 pub put-taken-spec : {M : Type 1} → statement M
 put-taken-spec =
     tie.close
     (tie.spec
-    slice-aggregate-put-line
-    slice-aggregate-put-line-2
-    put-line-requires
+    put-field-requires
+    put-field-requires-2
+    put-field-requires-3
+    put-field-requires-4
+    put-field-requires-5
     put-cell-requires
-    slice-aggregate-put-text
-    put-text-requires
+    put-byte-requires
     same-length
     returns)

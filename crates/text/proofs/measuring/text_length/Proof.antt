@@ -3,9 +3,10 @@
 use native.Mathlib.Omega.{arith}
 use borrow.Author.Needs.{needs}
 use mathlib.Core.Path.{_≡_, sym, ap}
-use Prim.Native.Nat.{_+_, _≤_}
+use Prim.Native.Nat.{_+_, _*_, _≤_}
 use lib.ListN.{length}
 use lib.Seq.{length-take-le}
+use Rattle.machine.specs.Bytes.{wordsIn}
 use Rattle.machine.specs.Inputs.{inputOf}
 use Rattle.inputs.specs.Opening.{ShowsReady}
 use Rattle.text.specs.Running.{headRoom}
@@ -16,7 +17,8 @@ use Rattle.text.proofs.PrintLaws.{
   length-opened,
   no-lines,
   shows-run,
-  words-few,
+  events-end,
+  events-few,
   lines-are,
 }
 use Rattle.text.proofs.measuring.text_length.Statement.{statement}
@@ -24,13 +26,14 @@ use Rattle.text.proofs.measuring.text_length.Tie as tie
 
 -- how long the head is, and the text
 head : (s : tie.Start) → length (headOf (s .args .opened)) ≤ headRoom
-head s = head-fits (s .args .words .now) (s .args .cells) (s .args .opened) (s .pre)
+head s = head-fits (wordsIn (s .args .input .now)) (s .args .cells) (s .args .opened) (s .pre)
 
 long : (s : tie.Start)
     → let a = s .args in
     let r = a .opened in
-    length (openedText r (a .words .now) (a .cells)) ≡ length (headOf r) + length (linesOf r (a .words .now) (a .cells))
-long s = length-opened (s .args .words .now) (s .args .cells) (s .args .opened)
+    let ws = wordsIn (a .input .now) in
+    length (openedText r ws (a .cells)) ≡ length (headOf r) + length (linesOf r ws (a .cells))
+long s = length-opened (wordsIn (s .args .input .now)) (s .args .cells) (s .args .opened)
 
 slice-aggregate-put-head : tie.Need-slice-aggregate-put-head
 slice-aggregate-put-head c = search needs
@@ -39,7 +42,7 @@ put-head-requires : tie.Need-put-head-requires
 put-head-requires c κs =
     let s = c .before .before in
     record {
-      few = few-processes (s .args .words .now) (s .args .cells) (s .args .opened) (s .pre);
+      few = few-processes (wordsIn (s .args .input .now)) (s .args .cells) (s .args .opened) (s .pre);
       room = omega (arith, head s);
     }
 
@@ -54,10 +57,16 @@ start c = c .before .before .before .before .before .before
 shown : (c : tie.After-opened)
     → let s = start c in
     let g = c .opened .given .0 in
-    ShowsReady (inputOf (s .pre .input)) (s .args .words .now) (s .args .cells) (g .0) (g .1 .0) (g .1 .1 .0)
+    ShowsReady (inputOf (s .pre .input)) (wordsIn (s .args .input .now)) (s .args .cells) (g .0) (g .1 .0) (g .1 .1 .0)
 shown c =
     let s = start c in
-    shows-run (s .args .words .now) (s .args .cells) (s .args .opened) (s .pre) _ _ _ (c .opened .given .1)
+    shows-run (s .args .input .now) (s .args .cells) (s .args .opened) (s .pre) _ _ _ (c .opened .given .1)
+
+-- the bytes of the event words are among those of the input
+among : (c : tie.After-opened) → 4 * c .opened .given .0 .1 .1 .0 ≤ length (start c .args .input .now)
+among c =
+    let s = start c in
+    events-end (s .args .input .now) (s .args .cells) (s .args .opened) (s .pre) _ _ _ (c .opened .given .1)
 
 array-borrow-prefix-copy : tie.Need-array-borrow-prefix-copy
 array-borrow-prefix-copy c = shown (c .before) .table .within
@@ -68,16 +77,19 @@ slice-aggregate-run-end c =
     sym (length-take-le (z .opened .given .0 .0) (start z .args .cells) (shown z .table .within))
 
 mul-run-end : tie.Need-mul-run-end
-mul-run-end c = let r = shown (c .before .before) in omega (arith, r .ordered, r .ends)
+mul-run-end c = let z = c .before .before in omega (arith, shown z .ordered, among z)
+
+mul-run-end-2 : tie.Need-mul-run-end-2
+mul-run-end-2 c = omega (arith, among (c .before .before))
 
 sub-run-end : tie.Need-sub-run-end
-sub-run-end c = let r = shown (c .before .before) in omega (arith, r .ordered, r .ends)
+sub-run-end c = omega (arith, shown (c .before .before) .ordered)
 
 part-run-end-start : tie.Need-part-run-end-start
-part-run-end-start c = let r = shown (c .before .before) in omega (arith, r .ordered, r .ends)
+part-run-end-start c = let z = c .before .before in omega (arith, shown z .ordered, among z)
 
 part-run-end-end : tie.Need-part-run-end-end
-part-run-end-end c = let r = shown (c .before .before) in omega (arith, r .ordered, r .ends)
+part-run-end-end c = let z = c .before .before in omega (arith, shown z .ordered, among z)
 
 run-end-requires : tie.Need-run-end-requires
 run-end-requires c κs =
@@ -86,7 +98,7 @@ run-end-requires c κs =
     let a = s .args in
     record {
       sound = shown z .table .sound;
-      few = words-few (a .words .now) (a .cells) (a .opened) (s .pre) _ _ _ (z .opened .given .1);
+      few = events-few (a .input .now) (a .cells) (a .opened) (s .pre) _ _ _ (z .opened .given .1);
       start = omega (arith, head s, z .before .before .before .put-head .ensures .end-is);
     }
 
@@ -97,7 +109,7 @@ returns c =
     let z = c .before .before .before .before .before in
     let s = start z in
     let a = s .args in
-    let lines = lines-are (a .words .now) (a .cells) (a .opened) (s .pre) _ _ _ (z .opened .given .1) in
+    let lines = lines-are (a .input .now) (a .cells) (a .opened) (s .pre) _ _ _ (z .opened .given .1) in
     omega (
       arith,
       long s,
@@ -110,7 +122,7 @@ returns-2 : tie.Need-returns-2
 returns-2 c =
     let s = c .before .before .before .before .before in
     let a = s .args in
-    let none = no-lines (a .words .now) (a .cells) (a .opened) (c .match .keys2) in
+    let none = no-lines (wordsIn (a .input .now)) (a .cells) (a .opened) (c .match .keys2) in
     omega (arith, long s, ap length none, c .before .before .put-head .ensures .end-is)
 
 pub text-length-spec : {M : Type 1} → statement M
@@ -123,6 +135,7 @@ text-length-spec =
     array-borrow-prefix-copy
     slice-aggregate-run-end
     mul-run-end
+    mul-run-end-2
     sub-run-end
     part-run-end-start
     part-run-end-end

@@ -73,9 +73,6 @@ carried-requires c κs =
 cast-process : tie.Need-cast-process
 cast-process c = search needs
 
-slice-aggregate-put-taken : tie.Need-slice-aggregate-put-taken
-slice-aggregate-put-taken c = search needs
-
 -- its five numbers and its cell are its line
 printed : (c : tie.After-cell)
     → let d = c .before in
@@ -106,7 +103,7 @@ printed c =
 
 put-taken-requires : tie.Need-put-taken-requires
 put-taken-requires c κs =
-    let put = c .before .before in
+    let put = c .before in
     let told = put .before .before .before .before .before in
     let s = start (stepped told) in
     let is = lineOf-taken (rowsOf (s .args .cells .now)) (s .args .place) (s .args .word) (taken told) in
@@ -154,7 +151,7 @@ same-length-2 c = search needs
 
 returns : tie.Need-returns
 returns c =
-    let put = c .before .before .before .before .before in
+    let put = c .before .before .before .before in
     let told = put .before .before .before .before .before in
     let step = stepped told in
     let s = start step in
@@ -195,7 +192,6 @@ put-word-spec =
     location-at-requires-2
     carried-requires
     cast-process
-    slice-aggregate-put-taken
     put-taken-requires
     enum-known-why
     put-stop-requires
