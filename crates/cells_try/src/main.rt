@@ -1,5 +1,7 @@
 // Sets, and fresh tables by value (MANUAL, "The functions of the crates"): what each answers, a line
 // each.
+#![tactic(auto)]
+
 use cells::making::fresh;
 use libc::STDOUT_FILENO;
 use machine::Row;

@@ -1,5 +1,7 @@
 // The census of a table in place (machine/specs/Census.antt). One pass over the rows counts for all
 // k: a process counts in every figure past its threshold (specs/Series.antt).
+#![tactic(auto)]
+
 ghost use Rattle.std.specs.Prelude.{◌≡◌, ◌≤◌, leb, length};
 ghost use Rattle.counting.specs.Sums.{bit};
 ghost use Rattle.machine.specs.Tables.{table_refusal};

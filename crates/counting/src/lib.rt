@@ -1,1 +1,2 @@
 // Sums, counts and sets of process numbers: definitions in specs/, laws in proofs/. No code.
+#![tactic(auto)]

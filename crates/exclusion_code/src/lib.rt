@@ -1,4 +1,6 @@
 // Mutual exclusion of the code that runs (demand 3): a whole list of words handed to the step.
+#![tactic(auto)]
+
 ghost use Rattle.exclusion_code.specs.Lists.{Listed};
 
 use cells::checks::check;

@@ -1,6 +1,8 @@
 // What C calls beside step, run, census, rounds and the call on bytes: event words, fresh tables, images,
 // the printed run (include/zaguypo.h). Each is a thin function over the one that does the work. A row is
 // 24 numbers, which have the layout of the row struct that the header declares.
+#![tactic(auto)]
+
 ghost use Rattle.std.specs.Prelude.{◌≡◌, ◌≤◌, length};
 ghost use Rattle.counting.specs.Placing.{placed};
 ghost use Rattle.machine.specs.Exports.{parts_answer_of, word_answer_of, fresh_in, read_in, loaded, printed_in};

@@ -81,7 +81,7 @@ pub(crate) fn check_counts(words: &[u32], n: u16) -> Found
 }
 
 // The passes of a process, and whether their words fit: where they do, none of them is refused.
-#[derive(Drop)]
+#[derive(Clone, Copy)]
 pub(crate) struct Passes {
     pub(crate) list: [u16; 16],
     pub(crate) fit: bool,

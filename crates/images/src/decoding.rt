@@ -46,7 +46,7 @@ fn turn_of(words: &[u32], n: u16, q: u16) -> u16
 }
 
 // What was found of the words of rows, and whether the words with their passes fit.
-#[derive(Drop)]
+#[derive(Clone, Copy)]
 struct RowsFound {
     found: Found,
     fit: bool,

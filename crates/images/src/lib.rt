@@ -1,4 +1,6 @@
 // Images: a table as 32-bit words, read and written. machine/specs/Images.antt says what each means.
+#![tactic(auto)]
+
 pub mod checks; // the check of one word, of the words of a row
 pub mod counts; // the words with passes
 pub mod decoding; // words into cells

@@ -1,6 +1,8 @@
 // Tries images both ways on examples (MANUAL, "Images"), and on each refusal at its place. A line
 // shows what was read with refusal, place and number of processes, or what was written with the
 // refusal, or a count of words.
+#![tactic(auto)]
+
 ghost use Rattle.std.specs.Prelude.{◌≤◌, ◌<◌, length};
 
 use images::decoding::read_cells;

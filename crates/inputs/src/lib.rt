@@ -1,5 +1,7 @@
 // An input is opened here and nowhere else: the words of its image into cells
 // (machine/specs/Inputs.antt).
+#![tactic(auto)]
+
 ghost use Rattle.machine.specs.Bytes.{words_in};
 ghost use Rattle.inputs.specs.Splitting.{Splits};
 ghost use Rattle.inputs.specs.Opening.{Openable, Opens};
@@ -10,7 +12,7 @@ use machine::Reading;
 
 // What an input holds. Its table is that of the first `size` cells; its event words are its words
 // from `first` up to `last`.
-#[derive(Drop)]
+#[derive(Clone, Copy)]
 pub enum Opened {
     BadBytes,
     BadImage {

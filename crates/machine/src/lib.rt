@@ -1,5 +1,7 @@
 // The declared types and constants of the engine, and setters of what a step tells. What they mean
 // is said in specs/.
+#![tactic(auto)]
+
 ghost use Rattle.std.specs.Prelude.{◌≡◌};
 ghost use Rattle.machine.specs.Shared.{act_read, act_written, turn_read, turn_written};
 ghost use Rattle.machine.specs.Steps.{quiet, with_event, with_cell};
@@ -9,7 +11,7 @@ ghost use Rattle.machine.specs.Steps.{quiet, with_event, with_cell};
 // counts a[q, r] of section 4.1 of the paper in the row of process q: how often q entered while r
 // competed.
 #[repr(C)]
-#[derive(Drop)]
+#[derive(Clone, Copy)]
 pub struct Row {
     pub location: u16,
     pub act: u16,
@@ -134,7 +136,7 @@ pub const SECOND_WRITER: u16 = 17;
 pub const BAD_SETTINGS: u16 = 18;
 
 // The memory settings of a step or of a run: what act and turn do while they are written.
-#[derive(Drop)]
+#[derive(Clone, Copy)]
 pub struct Settings {
     pub act: u32,
     pub turn: u32,
@@ -153,7 +155,7 @@ impl Settings {
 }
 
 // The parts of an event word.
-#[derive(Drop)]
+#[derive(Clone, Copy)]
 pub struct Parts {
     pub kind: u16,
     pub process: u16,
@@ -161,35 +163,35 @@ pub struct Parts {
 }
 
 // A word taken apart: its parts, or the number of the refusal.
-#[derive(Drop)]
+#[derive(Clone, Copy)]
 pub enum Apart {
     Word(Parts),
     Refused(u16),
 }
 
 // Parts put together: the word, or the number of the refusal.
-#[derive(Drop)]
+#[derive(Clone, Copy)]
 pub enum Together {
     Word(u32),
     Refused(u16),
 }
 
 // A refusal and the place of the word of an image that it is about; refusal 0 is none.
-#[derive(Drop)]
+#[derive(Clone, Copy)]
 pub struct Found {
     pub refusal: u16,
     pub place: u16,
 }
 
 // The answer to an image: how many processes its table has, or the refusal.
-#[derive(Drop)]
+#[derive(Clone, Copy)]
 pub enum Reading {
     Table(u16),
     Refused { number: u16, place: u16 },
 }
 
 // The event of an accepted word: a COME, an arrival at 30, a departure from 30, or none of these.
-#[derive(Drop)]
+#[derive(Clone, Copy)]
 pub enum Event {
     Quiet,
     Come,
@@ -200,7 +202,7 @@ pub enum Event {
 // The shared cell that a step used: whether it was read or written, whether it is an act or a turn
 // cell, and its index; all 0 where it used none.
 #[repr(C)]
-#[derive(Drop)]
+#[derive(Clone, Copy)]
 pub struct SharedCell {
     pub access: u16,
     pub variable: u16,
@@ -225,7 +227,7 @@ impl SharedCell {
 }
 
 // What a step tells of an accepted word.
-#[derive(Drop)]
+#[derive(Clone, Copy)]
 pub struct Told {
     pub event: Event,
     pub cell: SharedCell,
@@ -301,7 +303,7 @@ impl Told {
 }
 
 // The answer of a step: what it tells of an accepted word, or the number of the refusal.
-#[derive(Drop)]
+#[derive(Clone, Copy)]
 pub enum Stepped {
     Moved(Told),
     Refused(u16),
@@ -309,7 +311,7 @@ pub enum Stepped {
 
 // The tally of a run, its counters: words taken, COMEs, arrivals at 30.
 #[repr(C)]
-#[derive(Drop)]
+#[derive(Clone, Copy)]
 pub struct Tally {
     pub words: u32,
     pub comes: u32,
@@ -327,7 +329,7 @@ impl Tally {
 // The answer of a run: how many words were taken, the refusal or 0, and the shared cell of the last
 // word taken.
 #[repr(C)]
-#[derive(Drop)]
+#[derive(Clone, Copy)]
 pub struct Ran {
     pub taken: u32,
     pub refusal: u32,
@@ -336,7 +338,7 @@ pub struct Ran {
 
 // The answer of a step to C: the refusal or 0, and the shared cell that the word used.
 #[repr(C)]
-#[derive(Drop)]
+#[derive(Clone, Copy)]
 pub struct StepAnswer {
     pub refusal: u16,
     pub cell: SharedCell,
@@ -345,7 +347,7 @@ pub struct StepAnswer {
 // The answer of rounds: the refusal or 0, how many rounds were done, and whether some process is at 30
 // in the table as left: 1, or 0 where none is.
 #[repr(C)]
-#[derive(Drop)]
+#[derive(Clone, Copy)]
 pub struct RoundsAnswer {
     pub refusal: u16,
     pub rounds: u16,
@@ -355,7 +357,7 @@ pub struct RoundsAnswer {
 // The answer of taking a word apart to C: the refusal or 0, and the parts; these are 0 where the word
 // is refused.
 #[repr(C)]
-#[derive(Drop)]
+#[derive(Clone, Copy)]
 pub struct PartsAnswer {
     pub refusal: u16,
     pub kind: u16,
@@ -366,7 +368,7 @@ pub struct PartsAnswer {
 // The answer of putting a word together to C: the refusal or 0, and the word, which is 0 where there
 // is none.
 #[repr(C)]
-#[derive(Drop)]
+#[derive(Clone, Copy)]
 pub struct WordAnswer {
     pub refusal: u32,
     pub word: u32,
@@ -375,7 +377,7 @@ pub struct WordAnswer {
 // The answer of reading an image into lent rows to C: the refusal or 0, the place of the word that it
 // is about, and how many rows are the table; 0 where it is refused.
 #[repr(C)]
-#[derive(Drop)]
+#[derive(Clone, Copy)]
 pub struct ReadAnswer {
     pub refusal: u16,
     pub place: u16,
@@ -385,7 +387,7 @@ pub struct ReadAnswer {
 // The census, the counts of a table, for each k from 0 to N; what stands past N is 0. Where the table is
 // refused there are no figures: all are 0.
 #[repr(C)]
-#[derive(Drop)]
+#[derive(Clone, Copy)]
 pub struct Census {
     pub refusal: u16,
     pub critical: u16,
@@ -396,7 +398,7 @@ pub struct Census {
 
 // A whole new table handed back: its rows are the first `size` of `rows`. A refusal, with the
 // place of the word that it is about, hands back no table: the size is 0.
-#[derive(Drop)]
+#[derive(Clone, Copy)]
 pub struct NewTable {
     pub refusal: u16,
     pub place: u16,

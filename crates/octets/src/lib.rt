@@ -1,4 +1,6 @@
 // Words as bytes, lowest byte first (machine/specs/Bytes.antt says what they mean).
+#![tactic(auto)]
+
 ghost use Rattle.std.specs.Prelude.{◌≡◌, ◌∷◌, [], ◌≤◌, ◌<◌, ◌+◌, ◌*◌, ◌/◌, length, get_or};
 ghost use Rattle.machine.specs.Bytes.{words_in, bytes_of, bytes_fit};
 ghost use Rattle.counting.specs.Placing.{placed};

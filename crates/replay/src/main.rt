@@ -1,6 +1,8 @@
 // The printing program: standard input is an image and event words, and their run is printed on
 // standard output. Where the input cannot be read to its end nothing is printed; that, and an output
 // that cannot be written whole, is said in a line on standard error. A program has no exit status.
+#![tactic(auto)]
+
 mod reading;
 
 use libc::{STDERR_FILENO, STDIN_FILENO, STDOUT_FILENO};

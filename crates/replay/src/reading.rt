@@ -5,7 +5,7 @@ ghost use Rattle.replay.specs.Streams.{count_in};
 
 // How many bytes stand at the start of the buffer: all of the stream, or as many as there is room
 // for; or a read failed.
-#[derive(Drop)]
+#[derive(Clone, Copy)]
 pub enum Got {
     Bytes(usize),
     Failed,

@@ -1,5 +1,7 @@
 // Rounds of a table in place, until some process is at 30, the limit is used up or a word is
 // refused (machine/specs/Rounds.antt). specs/Promises.antt says what they ensure.
+#![tactic(auto)]
+
 ghost use Rattle.std.specs.Prelude.{◌≡◌, ◌≤◌, length};
 ghost use Rattle.machine.specs.Tables.{table_refusal};
 ghost use Rattle.machine.specs.Rounds.{round_limit, rounds_from, rounds_of};
@@ -15,7 +17,7 @@ use steps::moving::look;
 
 // What was done: 0, or the refusal of the word that ended it, which changed nothing; and, where it
 // is 0, whether the process of the word, or some process after a round, is at 30.
-#[derive(Drop)]
+#[derive(Clone, Copy)]
 struct Done {
     refusal: u16,
     occupied: bool,

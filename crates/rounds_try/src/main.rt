@@ -1,5 +1,7 @@
 // Rounds (MANUAL, "Rounds"): what they answer, a line each. First the longest silence of each number of
 // processes, then rounds that are not done, refused, used up or broken.
+#![tactic(auto)]
+
 use libc::STDOUT_FILENO;
 use machine::{RoundsAnswer, Settings};
 

@@ -1,4 +1,6 @@
 // What a step does to one row, and what it asks of one: a Row goes in and comes out.
+#![tactic(auto)]
+
 mod masks; // sets of locations
 pub mod passes; // its counts of passes
 pub mod sound; // within its ranges; competing

@@ -1,5 +1,7 @@
 // Runs of a table in place: a list of words in order, up to the first that is refused, with a tally
 // (machine/specs/Runs.antt). specs/Outcomes.antt says what a run ensures.
+#![tactic(auto)]
+
 ghost use Rattle.std.specs.Prelude.{◌≡◌, ◌≤◌, length};
 ghost use Rattle.machine.specs.Shared.{no_cell};
 ghost use Rattle.machine.specs.Runs.{counted, zero_tally, run_from, run_of};
@@ -14,7 +16,7 @@ use steps::stepping::advance_under;
 
 // What a run hands back: how many words it took, the refusal or 0, the shared cell of the last of
 // them, and the tally.
-#[derive(Drop)]
+#[derive(Clone, Copy)]
 pub struct RunAnswer {
     pub ran: Ran,
     pub tally: Tally,
@@ -136,7 +138,7 @@ pub fn run(cells: &mut [[u16; 24]], words: &[u32], settings: Settings) -> RunAns
 
 // Where a run stands: whether it may take another word (going), the event of the word that was just
 // taken, or Quiet, and what the run answers if it ends here.
-#[derive(Drop)]
+#[derive(Clone, Copy)]
 struct Progress {
     going: bool,
     event: Event,

@@ -1,4 +1,6 @@
 // Runs of two processes (MANUAL, "Runs"): what each answers, a line each.
+#![tactic(auto)]
+
 use libc::STDOUT_FILENO;
 use machine::Settings;
 use runs::RunAnswer;

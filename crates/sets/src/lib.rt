@@ -1,13 +1,15 @@
 // Sets of process numbers in the bits of a u16 (counting/specs/Sets.antt says what they mean).
 // `has`, `size`, `lowest_member` and `without` take any arguments. `first_of`, `removed` and `others`
 // are for crates above that know their arguments to be in range, and do not branch.
+#![tactic(auto)]
+
 ghost use Rattle.std.specs.Prelude.{◌≡◌, ◌<◌};
 ghost use Rattle.counting.specs.Sets.{has, size, without, others};
 ghost use Rattle.sets.specs.Answers.{lowest_of};
 ghost use Rattle.sets.specs.Bounds.{Among};
 
 // The lowest member of a set, if it has one.
-#[derive(Drop)]
+#[derive(Clone, Copy)]
 pub enum Lowest {
     Member(u16),
     Empty,

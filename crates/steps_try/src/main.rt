@@ -1,5 +1,7 @@
 // Tries the step on examples that need no image (MANUAL, "Examples"), and on each of its refusals.
 // Words are given in hexadecimal; sets are printed as numbers, bit q for process q.
+#![tactic(auto)]
+
 use cells::access::row_at;
 use cells::making::make_fresh;
 use exclusion_code::step_all;

@@ -1,4 +1,6 @@
 // The printed run, byte for byte (machine/specs/Text.antt says what it is).
+#![tactic(auto)]
+
 pub mod fields; // bytes, numbers and shared cells
 pub mod lines; // a line of fields
 pub mod running; // the lines of a run

@@ -16,7 +16,7 @@ use steps::stepping::advance;
 
 // Where the line of a word ends, and whether the run goes on after it; then also how many processes
 // are at 30.
-#[derive(Drop)]
+#[derive(Clone, Copy)]
 pub enum Line {
     Taken { end: usize, inside: u32 },
     Stopped(usize),

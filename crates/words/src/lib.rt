@@ -1,4 +1,6 @@
 // Event words taken apart and put together, without a table (machine/specs/Words.antt).
+#![tactic(auto)]
+
 ghost use Rattle.std.specs.Prelude.{◌≡◌, true, ◌&&◌, eqb};
 ghost use Rattle.machine.specs.Words.{is_kind, kind_of, process_of, argument_of, formed, apart, together};
 

@@ -1,4 +1,6 @@
 // Words taken apart and put together (MANUAL, "Event words").
+#![tactic(auto)]
+
 ghost use Rattle.std.specs.Prelude.{◌≡◌};
 ghost use Rattle.machine.specs.Words.{apart, together};
 ghost use Rattle.words_try.specs.Answers.{parts, answer};

@@ -1,4 +1,6 @@
 // The run as C calls it: input bytes in, the last image out in lent bytes (include/zaguypo.h).
+#![tactic(auto)]
+
 ghost use Rattle.std.specs.Prelude.{◌≡◌, cond};
 ghost use Rattle.counting.specs.Placing.{placed};
 ghost use Rattle.machine.specs.Refusals.{too_many_words, bad_settings};
@@ -59,7 +61,7 @@ fn number_of(taken: u32, refusal: u32) -> u64
 }
 
 // How a run ended: the words taken, and the refusal or 0.
-#[derive(Drop)]
+#[derive(Clone, Copy)]
 struct Ended {
     taken: u32,
     refusal: u32,

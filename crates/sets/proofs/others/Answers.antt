@@ -7,8 +7,7 @@ use borrow.Author.Rules.{rules}
 use Rattle.counting.specs.Sets.{others}
 use Rattle.counting.proofs.BitLaws.{one_shl, others_is}
 use Rattle.sets.specs.Bounds.{Among}
-use Rattle.sets.proofs.others.Statement.{statement}
-use Rattle.sets.proofs.others.Tie as tie
+use Rattle.sets.proofs.others.Goals as goal
 
 -- the numbers that the code computes
 record Powers (n p : ℕ) : Type 0 where
@@ -28,24 +27,14 @@ powers n p h =
       is = others_is n p one;
     }
 
-shl-result : tie.Need-overflow-shl-result
-shl-result c = search rules
+pub overflow_sub-result : goal.overflow_sub-result
+overflow_sub-result c = let h = powers c.args.n c.args.p c.requires in omega arith
 
-sub-result : tie.Need-overflow-sub-result
-sub-result c = let h = powers c.args.n c.args.p c.requires in omega arith
+pub overflow_sub-result-2 : goal.overflow_sub-result-2
+overflow_sub-result-2 c = let h = powers c.args.n c.args.p c.requires in omega arith
 
-shl-result-2 : tie.Need-overflow-shl-result-2
-shl-result-2 c = search rules
+pub overflow_cast-result-3 : goal.overflow_cast-result-3
+overflow_cast-result-3 c = let h = powers c.args.n c.args.p c.requires in omega arith
 
-sub-result-2 : tie.Need-overflow-sub-result-2
-sub-result-2 c = let h = powers c.args.n c.args.p c.requires in omega arith
-
-cast-result : tie.Need-overflow-cast-result
-cast-result c = let h = powers c.args.n c.args.p c.requires in omega arith
-
-returns : tie.Need-returns
+pub returns : goal.returns
 returns c = let h = powers c.args.n c.args.p c.requires in omega arith
-
-pub others-spec : {M : Type 1} → statement M
-others-spec =
-    tie.close (tie.spec shl-result sub-result shl-result-2 sub-result-2 cast-result returns)

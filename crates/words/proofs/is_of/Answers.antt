@@ -10,8 +10,7 @@ use borrow.Author.Rules.{rules}
 use borrow.Author.Tests.{eqb-true, eq-eqb, leb-true}
 use Rattle.counting.proofs.TestLaws.{same_test}
 use Rattle.machine.specs.Words.{STAY, CANCEL, is_kind, kind_of, spare_clear, formed}
-use Rattle.words.proofs.is_of.Statement.{statement}
-use Rattle.words.proofs.is_of.Tie as tie
+use Rattle.words.proofs.is_of.Goals as goal
 
 -- the word without its argument and its process
 abbrev head : ℕ → ℕ
@@ -61,20 +60,8 @@ module _ (w k : ℕ) (kind : is_kind k ≡ true) where
       let spare = (and-eq-true_iff (eqb (w / 2 ^ 24 % 2 ^ 4) 0) (eqb (w / 2 ^ 8 % 2 ^ 8) 0)).0 form.1 in
       eq-eqb _ _ (parts-head (eqb-true _ _ both.1) (eqb-true _ _ spare.0) (eqb-true _ _ spare.1)))
 
-sub-head : tie.Need-overflow-sub-head
-sub-head c = search rules
+pub overflow_mul-result : goal.overflow_mul-result
+overflow_mul-result c = record { fits = omega (arith, few c.args.w c.args.kind c.requires) }
 
-mul-head : tie.Need-overflow-mul-head
-mul-head c = search rules
-
-sub-head-2 : tie.Need-overflow-sub-head-2
-sub-head-2 c = search rules
-
-mul-result : tie.Need-overflow-mul-result
-mul-result c = record { fits = omega (arith, few c.args.w c.args.kind c.requires) }
-
-returns : tie.Need-returns
+pub returns : goal.returns
 returns c = one-kind c.args.w c.args.kind c.requires
-
-pub is-of-spec : {M : Type 1} → statement M
-is-of-spec = tie.close (tie.spec sub-head mul-head sub-head-2 mul-result returns)
