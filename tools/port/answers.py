@@ -37,8 +37,58 @@ def blocks(text):
     return joined
 
 
+def clauses():
+    """For each function of the sources, by its whole path, the names of its requires and of its ensures."""
+    out = {}
+    for folder, _dirs, files in os.walk("crates"):
+        if "/src" not in folder:
+            continue
+        for name in files:
+            if not name.endswith(".rt"):
+                continue
+            crate = folder.split("/")[1]
+            module = os.path.relpath(os.path.join(folder, name), f"crates/{crate}/src")[:-3].replace("/", "::")
+            head = crate if module in ("lib", "main") else f"{crate}::{module}"
+            now = owner = None
+            for line in open(os.path.join(folder, name)):
+                m = re.match(r"impl (\w+)", line)
+                if m:
+                    owner = m.group(1)
+                if line.startswith("}"):
+                    owner = None
+                m = re.match(r"\s*(?:pub(?:\(crate\))? )?(?:extern \"C\" )?fn (\w+)", line)
+                if m:
+                    now = "::".join([head] + ([owner] if owner else []) + [m.group(1)])
+                    out[now] = ([], [])
+                m = re.match(r"\s+(requires|ensures)\*? (?:(\w+) )?\{", line)
+                if m and now:
+                    out[now][0 if m.group(1) == "requires" else 1].append(m.group(2))
+    return out
+
+
+CLAUSES = {}
+
+
+def named(parts, function):
+    """requires.0 and ensures.1 by name, where the function has several."""
+    for k, kind in ((0, "requires"), (1, "ensures")):
+        if kind in parts:
+            i = parts.index(kind)
+            names = CLAUSES.get(function, ([], []))[k]
+            if len(names) > 1 and i + 1 < len(parts) and parts[i + 1].isdigit():
+                parts[i + 1] = names[int(parts[i + 1])] or parts[i + 1]
+    return parts
+
+
 class Function:
     def __init__(self, crate, path, entry):
+        self.own = f"{crate}::" + path.replace(".+", "::").replace(".", "::").replace("+", "")
+        self.callee = {p[0]: p[3] for p in entry["places"]}
+        self.args = {}
+        for old, new in entry["args"]:
+            m, n = re.match(r"\.args \.(\S+)$", old), re.match(r"\.args \.(\S+)$", new)
+            if m and n:
+                self.args[m.group(1)] = n.group(1)
         self.crate, self.path, self.e = crate, path, entry
         self.parent, self.step, self.sub = {}, {}, {}
         for name, parent, (old, new), _callee, sub in entry["places"]:
@@ -73,42 +123,84 @@ class Function:
             return var + ".before" * n, place
         at = self.find(place, parts[0])
         if at is None:
-            return var + "." + ".".join(parts), None
+            if parts[0] in ("args", "ranges") and len(parts) > 1:
+                parts[1] = self.args.get(parts[1], parts[1])
+            return var + "." + ".".join(named(parts, self.own)), None
         sub = self.sub[at]
         tail = parts[1:]
         if tail and tail[0] in sub:
             tail = [sub[tail[0]]] + tail[1:]
         elif tail and norm(tail[0]) in {norm(k): v for k, v in sub.items()}:
             tail = [{norm(k): v for k, v in sub.items()}[norm(tail[0])]] + tail[1:]
-        return ".".join([var, self.step[at][1]] + tail), None
+        return ".".join([var, self.step[at][1]] + named(tail, self.callee[at])), None
+
+    def kind_of(self, var, place, parts):
+        """What a path ends at: a place, the arguments, a step, or the clauses of a function."""
+        parts = list(parts)
+        while parts and parts[0] == "before":
+            parts.pop(0)
+            place = self.parent[place]
+            if place is None:
+                return None
+        if not parts:
+            return ("place", place)
+        if parts == ["args"]:
+            return ("args", None)
+        at = self.find(place, parts[0])
+        if at is None:
+            if parts[-1:] == ["requires"] and len(parts) == 1:
+                return ("clauses", [self.own, 0])
+            return None
+        if len(parts) == 1:
+            return ("step", at)
+        if parts[1:] == ["ensures"]:
+            return ("clauses", [self.callee[at], 1])
+        return None
 
     def turn(self, text, places):
         """Turns each path of a variable that stands for a place."""
-        places = dict(places)
-
-        def alias(m):
-            name, var, rest = m.group(1), m.group(2), m.group(3)
-            if var in places:
-                _, p = self.path_of(var, places[var], rest[1:]) if rest else ("", places[var])
-                if p is not None:
-                    places[name] = p
-            return m.group(0)
-
-        for m in re.finditer(rf"\blet ({TOKEN}) = ({TOKEN})((?:\.before)*) in\b", text):
-            alias(m)
+        alias = {v: ("place", p) for v, p in places.items()}
+        for m in re.finditer(rf"\blet ({TOKEN}) = ({TOKEN})((?:\.{TOKEN})*) in\b", text):
+            name, var, rest = m.group(1), m.group(2), [x for x in m.group(3).split(".") if x]
+            known = alias.get(var)
+            if known is None:
+                continue
+            if known[0] == "place":
+                k = self.kind_of(var, known[1], rest)
+            elif known[0] == "step" and rest == ["ensures"]:
+                k = ("clauses", [self.callee[known[1]], 1])
+            else:
+                k = None
+            if k:
+                alias[name] = k
 
         def one(m):
             var, rest = m.group(1), m.group(2)
-            if var not in places:
+            known = alias.get(var)
+            if known is None:
                 return m.group(0)
-            new, p = self.path_of(var, places[var], rest[1:])
-            return new
+            parts = rest[1:].split(".")
+            if known[0] == "place":
+                return self.path_of(var, known[1], rest[1:])[0]
+            if known[0] == "args":
+                parts[0] = self.args.get(parts[0], parts[0])
+            elif known[0] == "step":
+                sub = {norm(k): v for k, v in self.sub[known[1]].items()}
+                parts[0] = sub.get(norm(parts[0]), parts[0])
+                parts = named(parts, self.callee[known[1]])
+            else:
+                function, k = known[1]
+                names = CLAUSES.get(function, ([], []))[k]
+                if len(names) > 1 and parts[0].isdigit():
+                    parts[0] = names[int(parts[0])] or parts[0]
+            return ".".join([var] + parts)
 
         return re.sub(rf"(?<![\w.'\-])({TOKEN})((?:\.{TOKEN})+)", one, text)
 
 
 def main():
     names, crate, only = sys.argv[1], sys.argv[2], sys.argv[3:]
+    CLAUSES.update(clauses())
     entries = json.load(open(names))
     root = f"crates/{crate}/proofs"
     for folder, _dirs, files in sorted(os.walk(root)):
@@ -269,10 +361,37 @@ def invariant_file(f, entry, invariants, head, keep, module):
         return None
     out = []
     for name, kind, loop, b in invariants:
-        text = "\n".join(l for l in b)
-        loops = entry["loops"]
-        out.append(text)
-        f.said.append(f"invariant {name}: {kind} {loop}; loops {json.dumps(loops, ensure_ascii=False)}")
+        k = next((k for k, l in enumerate(entry["loops"]) if norm(l[0][0]) == norm(loop)), None)
+        if k is None:
+            f.said.append(f"no loop {loop} in {entry['loops']}")
+            continue
+        new, live = entry["loops"][k][0][1], entry["loops"][k][1]
+        changed = entry["changed"][k]
+        comments = [l for l in b if l.startswith("--")]
+        text = "\n".join(l for l in b if not l.startswith("--"))
+        text = text[text.index("\n") + 1 :]
+        before = ""
+        if text.startswith("unfolding"):
+            before, text = text.split("\n", 1)
+        m = re.match(rf"{re.escape(name)}((?:\s+{TOKEN})*)\s*=", text)
+        if m is None:
+            f.said.append(f"no equation of {name}")
+            continue
+        params = m.group(1).split()
+        want = [("l.initial." if c else "l.") + v for v, c in zip(live, changed)] + ["l." + v for v, c in zip(live, changed) if c]
+        if len(params) != len(want):
+            f.said.append(f"{name}: parameters {params}, live {live}, changed {changed}")
+            continue
+        body = text[m.end() :]
+        var = "l" if not re.search(rf"(?<![\w'\-])l(?![\w'\-])", body) or "l" in params else "at"
+        table = {p: w.replace("l.", var + ".", 1) for p, w in zip(params, want)}
+
+        def one(m):
+            return table.get(m.group(0), m.group(0))
+
+        body = re.sub(rf"(?<![\w'₀-₉.\-]){TOKEN}", one, body)
+        word = f"{kind}-{new}"
+        out.append("\n".join(comments + [f"abbrev pub {word} : goal.{word}"] + ([before] if before else []) + [f"{word} {var} ={body}"]))
     return "\n".join(head + keep + [f"use {module}.Given as goal", ""] + ["\n\n".join(out)]) + "\n"
 
 

@@ -3,15 +3,11 @@ use mathlib.Core.Path.{refl}
 use native.Mathlib.Omega.{arith}
 use borrow.Author.Rules.{rules}
 use Rattle.rows.proofs.PassLaws.{times_low}
-use Rattle.rows.proofs.passes.at_limit.Statement.{statement}
-use Rattle.rows.proofs.passes.at_limit.Tie as tie
+use Rattle.rows.proofs.passes.at_limit.Goals as goal
 
-mul-result : tie.Need-overflow-mul-result
-mul-result c =
+pub overflow_mul-result : goal.overflow_mul-result
+overflow_mul-result c =
     record { fits = times_low _ c.args.on (omega arith) (search rules) }
 
-returns : tie.Need-returns
+pub returns : goal.returns
 returns c = record { is = refl; low = omega arith }
-
-pub at-limit-spec : {M : Type 1} → statement M
-at-limit-spec = tie.close (tie.spec mul-result returns)

@@ -1,0 +1,16 @@
+-- `passes::raisable` meets its contract: a count at its limit shows in what the loop joins. Assumes nothing.
+use Prim.Native.Nat.{ℕ, ◌-◌, ◌≤◌, ◌<◌}
+use mathlib.Core.Path.{◌≡◌, subst}
+use native.Mathlib.Omega.{arith}
+use lib.Dec.{ltb}
+use lib.ListN.{get_or}
+use borrow.Author.Rules.{rules}
+use Rattle.rows.proofs.PassLaws.{noneOf, none_yet, one_more, low_next, full_at, raisable_by}
+use Rattle.rows.proofs.passes.raisable.Given as goal
+
+abbrev pub invariant-loop-i : goal.invariant-loop-i
+invariant-loop-i l =
+    (l.i ≤ 16) × (ltb l.any 1 ≡ noneOf (full_at l.c l.a) l.i) × ((j : ℕ) → j < l.i → get_or l.a j 0 ≤ 65535)
+
+abbrev pub decreases-loop-i : goal.decreases-loop-i
+decreases-loop-i l = 16 - l.i

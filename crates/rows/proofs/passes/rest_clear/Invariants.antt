@@ -1,0 +1,17 @@
+-- `passes::rest_clear` meets its contract: a count that is not 0 shows in what the loop joins. Assumes nothing.
+use Prim.Native.Nat.{ℕ, ◌*◌, ◌-◌, ◌≤◌, ◌<◌}
+use mathlib.Core.Path.{◌≡◌, ap, ◌∙◌, subst}
+use native.Mathlib.Omega.{arith}
+use lib.Dec.{ltb}
+use lib.ListN.{get_or}
+use borrow.Author.Rules.{rules}
+use Rattle.rows.specs.Passes.{past_at}
+use Rattle.rows.proofs.PassLaws.{noneOf, none_yet, one_more, low_next, reaches}
+use Rattle.rows.proofs.passes.rest_clear.Given as goal
+
+abbrev pub invariant-loop-i : goal.invariant-loop-i
+invariant-loop-i l =
+    (l.i ≤ 16) × (ltb l.any 1 ≡ noneOf (past_at l.n l.a) l.i) × ((j : ℕ) → j < l.i → get_or l.a j 0 ≤ 65535)
+
+abbrev pub decreases-loop-i : goal.decreases-loop-i
+decreases-loop-i l = 16 - l.i
