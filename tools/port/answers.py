@@ -12,7 +12,34 @@ TOKEN = r"[A-Za-z_0-9'₀₁₂₃₄₅₆₇₈₉κ\-]+"
 
 
 def norm(name):
-    return name.replace("-", "_").replace("₀", "0")
+    return name.replace("-", "_").replace("₀", "0").lower()
+
+
+def parts_of(body):
+    """The parts of a tuple that is a whole body, or None."""
+    t = body.strip()
+    if not (t.startswith("(") and t.endswith(")")):
+        return None
+    out, depth, now = [], 0, ""
+    for i, ch in enumerate(t):
+        if ch in "([{":
+            depth += 1
+            if depth == 1:
+                continue
+        if ch in ")]}":
+            depth -= 1
+            if depth == 0:
+                if i != len(t) - 1:
+                    return None
+                continue
+        if ch == "," and depth == 1:
+            out.append(now)
+            now = ""
+        else:
+            now += ch
+    if now.strip():
+        out.append(now)
+    return out if len(out) > 1 else None
 
 
 def blocks(text):
@@ -98,6 +125,7 @@ class Function:
         self.newplace = dict(zip([p[0] for p in entry["places"]], entry["places_by_name"]))
         self.loops = {}
         self.said = []
+        self.goal = None
 
     def find(self, place, field):
         """The step that has this old name, at the place or above it."""
@@ -108,6 +136,14 @@ class Function:
             p = self.parent[p]
         return None
 
+    def anywhere(self, field):
+        """The step that has this old name on the way to the goal at hand, or the only one in the function."""
+        at = self.find(self.goal, field) if self.goal else None
+        if at is None:
+            all_ = [p for p in self.step if self.step[p][0] == norm(field)]
+            at = all_[0] if len({self.step[p][1] for p in all_}) == 1 else None
+        return at
+
     def path_of(self, var, place, rest):
         """New text for var.rest, where var is the record at the place; and the place, if it names one."""
         parts = rest.split(".")
@@ -117,11 +153,10 @@ class Function:
             place = self.parent[place]
             n += 1
             if place is None:
-                self.said.append(f"too many befores: {var}.{rest}")
-                return f"{var}.{rest}", None
+                place = "Start"
         if not parts:
             return var + ".before" * n, place
-        at = self.find(place, parts[0])
+        at = self.find(place, parts[0]) or self.anywhere(parts[0])
         if at is None:
             if parts[0] in ("args", "ranges") and len(parts) > 1:
                 parts[1] = self.args.get(parts[1], parts[1])
@@ -141,12 +176,12 @@ class Function:
             parts.pop(0)
             place = self.parent[place]
             if place is None:
-                return None
+                place = "Start"
         if not parts:
             return ("place", place)
         if parts == ["args"]:
             return ("args", None)
-        at = self.find(place, parts[0])
+        at = self.find(place, parts[0]) or self.anywhere(parts[0])
         if at is None:
             if parts[-1:] == ["requires"] and len(parts) == 1:
                 return ("clauses", [self.own, 0])
@@ -173,6 +208,7 @@ class Function:
                 k = None
             if k:
                 alias[name] = k
+        text = re.sub(rf"\blet ({TOKEN}) = ({TOKEN})(?:\.before)+ in\b", r"let \1 = \2 in", text)
 
         def one(m):
             var, rest = m.group(1), m.group(2)
@@ -347,7 +383,28 @@ def answer(f, name, new, b, place):
     var = eq.group(1)
     before, body = text[: eq.start()], text[eq.end() :]
     where = {var: place}
+    f.goal = place
     body = f.turn(body, where)
+    several = None
+    if new.startswith("returns"):
+        several = CLAUSES.get(f.own, ([], []))[1]
+    m = re.match(r"(.*)-requires", new)
+    if m:
+        at = [p for p in f.step if f.step[p][1] == m.group(1)]
+        callee = f.callee[at[0]] if at else None
+        if callee is None:
+            g = re.sub(r"-\d+$", "", m.group(1))
+            called = {c for c in f.callee.values() if c} | {c for c in CLAUSES if c.split("::")[-1] == g}
+            same = [c for c in called if c.split("::")[-1] == g]
+            callee = same[0] if len(same) == 1 else None
+        several = CLAUSES.get(callee, ([], []))[0]
+    if several and len(several) > 1:
+        eq = body.index("=")
+        ps = parts_of(body[eq + 1 :])
+        if ps and len(ps) == len(several):
+            body = body[: eq + 1] + " record {\n" + "\n".join(f"  {n} = {p.strip()};" for n, p in zip(several, ps)) + "\n}"
+        elif "search rules" not in body[eq:eq+16]:
+            f.said.append(f"{new}: several clauses {several}")
     flat = re.sub(r"\s+", " ", body).strip()
     if flat == "= search rules" and not before.strip():
         return None

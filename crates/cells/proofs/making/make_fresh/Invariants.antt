@@ -1,0 +1,22 @@
+-- `making::make_fresh` meets its contract. Assumes nothing.
+use Prim.Native.Nat.{◌+◌, ◌-◌, ◌≤◌}
+use mathlib.Core.Path.{◌≡◌, sym, ◌∙◌}
+use native.Mathlib.Omega.{arith}
+use lib.ListN.{length, set, length-replicate, get_or-replicate}
+use borrow.Author.Rules.{rules}
+use Rattle.counting.proofs.PlacingLaws.{begun, begun_start, begun-next, begun_end, placed_whole}
+use Rattle.machine.specs.Rows.{idle, blank}
+use Rattle.machine.specs.Tables.{fresh_table}
+use Rattle.cells.specs.View.{rows_of}
+use Rattle.cells.proofs.ViewLaws.{rows_length}
+use Rattle.cells.proofs.making.make_fresh.Given as goal
+
+abbrev pub invariant-loop-q : goal.invariant-loop-q
+invariant-loop-q l =
+    (l.q ≤ l.n)
+    × (length l.initial.cells ≡ l.n)
+    × (length l.cells ≡ l.n)
+    × (rows_of l.cells ≡ begun (rows_of l.initial.cells) 0 (fresh_table (length l.initial.cells)) l.q)
+
+abbrev pub decreases-loop-q : goal.decreases-loop-q
+decreases-loop-q l = l.n - l.q

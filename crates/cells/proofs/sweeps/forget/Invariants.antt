@@ -1,0 +1,25 @@
+-- `sweeps::forget` meets its contract: the rows passed have forgotten p, at each turn of the loop. Assumes nothing.
+use Prim.Native.Nat.{◌+◌, ◌-◌, ◌≤◌, ◌<◌}
+use mathlib.Core.Path.{◌≡◌, sym, ◌∙◌}
+use mathlib.Core.List.{map}
+use native.Mathlib.Omega.{arith}
+use lib.ListN.{length, length-map, get_or-map}
+use borrow.Author.Rules.{rules}
+use Rattle.counting.proofs.PlacingLaws.{begun, begun_start, begun-next, begun-rest, begun_end, placed_whole}
+use Rattle.machine.specs.Rows.{blank}
+use Rattle.machine.specs.Tables.{row}
+use Rattle.machine.specs.Steps.{forgets}
+use Rattle.cells.specs.View.{rows_of}
+use Rattle.cells.proofs.ViewLaws.{rows_length}
+use Rattle.cells.proofs.sweeps.forget.Given as goal
+
+abbrev pub invariant-loop-q : goal.invariant-loop-q
+invariant-loop-q l =
+    (l.q ≤ l.n)
+    × (l.p < 16)
+    × (length l.initial.cells ≡ l.n)
+    × (length l.cells ≡ l.n)
+    × (rows_of l.cells ≡ begun (rows_of l.initial.cells) 0 (map (forgets l.p) (rows_of l.initial.cells)) l.q)
+
+abbrev pub decreases-loop-q : goal.decreases-loop-q
+decreases-loop-q l = l.n - l.q
