@@ -12,7 +12,7 @@ TOKEN = r"[A-Za-z_0-9'₀₁₂₃₄₅₆₇₈₉κ\-]+"
 
 
 def norm(name):
-    return name.replace("-", "_").replace("₀", "0").lower()
+    return re.sub(r"_lem$", "", name.replace("-", "_").replace("₀", "0").lower())
 
 
 def parts_of(body):
@@ -167,7 +167,14 @@ class Function:
             tail = [sub[tail[0]]] + tail[1:]
         elif tail and norm(tail[0]) in {norm(k): v for k, v in sub.items()}:
             tail = [{norm(k): v for k, v in sub.items()}[norm(tail[0])]] + tail[1:]
-        return ".".join([var, self.step[at][1]] + named(tail, self.callee[at])), None
+        return ".".join([var, self.step[at][1]] + named(self.live(at, tail), self.callee[at])), None
+
+    def live(self, at, tail):
+        """The names of a loop's variables are those of the source."""
+        for (_old, new), live in self.e["loops"]:
+            if tail and self.step[at][1] == new:
+                tail = [next((v for v in live if norm(v) == norm(tail[0])), tail[0])] + tail[1:]
+        return tail
 
     def kind_of(self, var, place, parts):
         """What a path ends at: a place, the arguments, a step, or the clauses of a function."""
@@ -223,7 +230,7 @@ class Function:
             elif known[0] == "step":
                 sub = {norm(k): v for k, v in self.sub[known[1]].items()}
                 parts[0] = sub.get(norm(parts[0]), parts[0])
-                parts = named(parts, self.callee[known[1]])
+                parts = named(self.live(known[1], parts), self.callee[known[1]])
             else:
                 function, k = known[1]
                 names = CLAUSES.get(function, ([], []))[k]
@@ -309,8 +316,30 @@ def convert(crate, path, folder, entry):
         used[name] = i
     out = []
     k = 0
+    inv_text = "\n".join("\n".join(b) for _n, _k, _l, b in invariants)
+    f.helpers, plain_helpers = [], []
+    for at, b in helpers:
+        h = place_helper(f, b)
+        if h:
+            f.helpers.append(h)
+        else:
+            plain_helpers.append((at, b))
+    # those that the invariants use stand with them
+    f.with_invariants = []
+    grow = True
+    need_text = inv_text
+    while grow:
+        grow = False
+        for at, b in plain_helpers:
+            n = name_of(b)
+            if n and (at, b) not in f.with_invariants and re.search(rf"(?<![\w.'\-]){re.escape(n)}(?![\w'\-])", need_text):
+                f.with_invariants.append((at, b))
+                need_text += "\n" + "\n".join(b)
+                grow = True
+    f.with_invariants.sort(key=lambda x: x[0])
+    plain_helpers = [h for h in plain_helpers if h not in f.with_invariants]
     for n, name in enumerate(order_done + [None]):
-        for at, b in helpers:
+        for at, b in plain_helpers:
             if at == n:
                 out.append("\n".join(helper(f, b)))
         if name is None or name not in used:
@@ -331,12 +360,113 @@ def convert(crate, path, folder, entry):
     if inv:
         open(os.path.join(folder, "Invariants.antt"), "w").write(inv)
     if out:
-        lines = head + keep + [f"use {module}.Goals as goal", ""] + ["\n\n".join(out)]
+        extra = []
+        if f.with_invariants:
+            extra = [f"use {module}.Invariants.{{{', '.join(name_of(b) for _a, b in f.with_invariants)}}}"]
+        lines = head + keep + extra + [f"use {module}.Goals as goal", ""] + ["\n\n".join(out)]
         open(os.path.join(folder, "Answers.antt"), "w").write("\n".join(lines).rstrip() + "\n")
     elif not inv and not os.listdir(folder):
         os.rmdir(folder)
     for s in f.said:
         print(f"{crate}::{path}: {s}")
+
+
+def name_of(b):
+    sig = next((l for l in b if not l.startswith("--")), "")
+    m = re.match(rf"(?:abbrev |unfoldable |record |data |pub )*({TOKEN})", sig)
+    return m.group(1) if m else None
+
+
+def place_helper(f, b):
+    """A helper whose first argument is a place: its name, variable, type, body and the rest, or None."""
+    comments = [l for l in b if l.startswith("--")]
+    text = "\n".join(l for l in b if not l.startswith("--"))
+    m = re.match(rf"(?:abbrev )?({TOKEN}) : ", text)
+    if m is None:
+        return None
+    name, rest = m.group(1), text[m.end() :]
+    a = re.match(rf"\(({TOKEN}) : tie\.({TOKEN})(?: [^()]*)?\)\s*(→)?\s*", rest)
+    if a:
+        place = a.group(2)
+        rest = rest[a.end() :]
+    else:
+        a = re.match(rf"tie\.({TOKEN})(?: [^→(]*)?→\s*", rest)
+        if a is None:
+            return None
+        place = a.group(1)
+        rest = rest[a.end() :]
+    at = next((p for p in f.parent if norm(p) == norm(place)), None)
+    if at is None:
+        f.said.append(f"no place {place} for {name}")
+        return None
+    eqs = list(re.finditer(rf"^{re.escape(name)} ", rest, re.M))
+    if len(eqs) != 1:
+        f.said.append(f"helper {name}: {len(eqs)} equations")
+        return None
+    head, eq = rest[: eqs[0].start()], rest[eqs[0].end() :]
+    un = re.search(r"^unfolding (.*)$", head, re.M)
+    kind = re.sub(r"^unfolding .*$", "", head, flags=re.M).strip()
+    e = re.match(rf"((?:{TOKEN}|_)(?:\s+(?:{TOKEN}|_))*)\s*=(?=\s)", eq)
+    if e is None:
+        f.said.append(f"helper {name}: equation not read")
+        return None
+    params = e.group(1).split()
+    sigvar = re.match(rf"\(({TOKEN}) : tie", text[m.end() :])
+    to = re.match(rf"tie\.({TOKEN})", kind)
+    return {
+        "name": name, "place": at, "var": params[0], "sigvar": sigvar.group(1) if sigvar else params[0], "params": params[1:],
+        "type": kind, "body": eq[e.end() :].strip(), "unfolding": un.group(1).split() if un else [],
+        "to": next((p for p in f.parent if to and norm(p) == norm(to.group(1))), None), "comments": comments,
+    }
+
+
+def word(name):
+    return rf"(?<![\w.'\-]){re.escape(name)}(?![\w'\-])"
+
+
+def with_helpers(f, var, body):
+    """The body with a let for each helper of a place that it uses; and what these unfold."""
+    used, todo = [], [body]
+    while todo:
+        t = todo.pop()
+        for h in f.helpers:
+            if h not in used and not h["to"] and re.search(word(h["name"]), t):
+                used.append(h)
+                todo += [h["body"], h["type"]]
+    used.sort(key=f.helpers.index)
+
+    def calls(t):
+        for h in f.helpers:
+            arg = rf"(?:{TOKEN}(?:\.before)*|\({TOKEN}(?:\.before)*\))(?![\w.'\-])"
+            if h["to"]:
+                t = re.sub(rf"\({word(h['name'])} ({arg})\)", r"\1", t)
+                t = re.sub(rf"{word(h['name'])} ({arg})", r"\1", t)
+                t = re.sub(rf"({TOKEN})\.before+(?![\w.])", r"\1", t) if False else t
+        for h in f.helpers:
+            arg = rf"(?:{TOKEN}(?:\.before)*|\({TOKEN}(?:\.before)*\))(?![\w.'\-])"
+            if not h["to"]:
+                t = re.sub(rf"\({word(h['name'])} {arg}\)", h["name"], t)
+                t = re.sub(rf"{word(h['name'])} {arg}", h["name"], t)
+        return t
+
+    def as_var(t, old):
+        return re.sub(rf"(?<![\w.'\-]){re.escape(old)}(?![\w'\-])", var, t) if old != var else t
+
+    lets, unfolding = [], []
+    for h in used:
+        saved, f.goal = f.goal, h["place"]
+        kind = as_var(f.turn(calls(h["type"]), {h["sigvar"]: h["place"]}), h["sigvar"])
+        text = as_var(f.turn(calls(h["body"]), {h["var"]: h["place"]}), h["var"])
+        f.goal = saved
+        if re.match(r"let\b", kind):
+            kind = "(" + kind + ")"
+        if h["params"]:
+            text = "λ " + " ".join(h["params"]) + ". " + text
+        kind = kind.replace("\n", "\n    ")
+        text = "        " + text.replace("\n", "\n    ")
+        lets.append(f"let {h['name']} : {kind} =\n{text} in")
+        unfolding += [u for u in h["unfolding"] if u not in unfolding]
+    return lets, calls(body), unfolding
 
 
 def helper(f, b):
@@ -384,7 +514,17 @@ def answer(f, name, new, b, place):
     before, body = text[: eq.start()], text[eq.end() :]
     where = {var: place}
     f.goal = place
+    lets, body, more = with_helpers(f, var, body)
     body = f.turn(body, where)
+    if lets:
+        eq = body.index("=") + 1
+        body = body[:eq] + "\n" + "\n".join("    " + l for l in lets) + "\n" + body[eq:]
+    if more:
+        if "unfolding" in before:
+            have = before.split()[1:]
+            before = "unfolding " + " ".join(have + [u for u in more if u not in have])
+        else:
+            before = "unfolding " + " ".join(more)
     several = None
     if new.startswith("returns"):
         several = CLAUSES.get(f.own, ([], []))[1]
@@ -399,7 +539,7 @@ def answer(f, name, new, b, place):
             callee = same[0] if len(same) == 1 else None
         several = CLAUSES.get(callee, ([], []))[0]
     if several and len(several) > 1:
-        eq = body.index("=")
+        eq = body.rindex(" in\n") + 3 if lets else body.index("=")
         ps = parts_of(body[eq + 1 :])
         if ps and len(ps) == len(several):
             body = body[: eq + 1] + " record {\n" + "\n".join(f"  {n} = {p.strip()};" for n, p in zip(several, ps)) + "\n}"
@@ -449,7 +589,14 @@ def invariant_file(f, entry, invariants, head, keep, module):
         body = re.sub(rf"(?<![\w'₀-₉.\-]){TOKEN}", one, body)
         word = f"{kind}-{new}"
         out.append("\n".join(comments + [f"abbrev pub {word} : goal.{word}"] + ([before] if before else []) + [f"{word} {var} ={body}"]))
-    return "\n".join(head + keep + [f"use {module}.Given as goal", ""] + ["\n\n".join(out)]) + "\n"
+    own = []
+    for _a, b in f.with_invariants:
+        k = next(i for i, l in enumerate(b) if not l.startswith("--"))
+        line = b[k]
+        line = line.replace("abbrev ", "abbrev pub ", 1) if line.startswith("abbrev ") else line.replace("record ", "pub record ", 1) if line.startswith("record ") else "pub " + line
+        line = line.replace("pub pub", "pub")
+        own.append("\n".join(b[:k] + [line] + [re.sub(r"^  (?=[\w'-]+ :)", "  pub ", l) if "record " in line else l for l in b[k + 1 :]]))
+    return "\n".join(head + keep + [f"use {module}.Given as goal", ""] + ["\n\n".join(own + out)]) + "\n"
 
 
 main()

@@ -1,0 +1,17 @@
+-- `going::end_scan` meets its contract: GO at 22. Assumes nothing.
+use mathlib.Core.Path.{refl, sym}
+use Rattle.machine.specs.Shared.{cell_at}
+use Rattle.machine.proofs.Forms.{gone_22}
+use Rattle.cells.specs.View.{rows_of}
+use Rattle.steps.proofs.MoveLaws.{becomes_as}
+use Rattle.steps.proofs.ToldLaws.{goes_at}
+use borrow.Author.Rules.{rules}
+use Rattle.steps.proofs.going.end_scan.Goals as goal
+
+pub returns : goal.returns
+unfolding cell_at
+returns c =
+    let s = c in
+    goes_at 22 s.requires.there refl
+    (becomes_as c.go_to.ensures
+    (sym (gone_22 (rows_of s.args.cells.now) s.args.p s.requires.there)))

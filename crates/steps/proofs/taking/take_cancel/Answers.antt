@@ -1,0 +1,17 @@
+-- `taking::take_cancel` meets its contract. Assumes nothing.
+use mathlib.Core.Path.{refl}
+use native.Mathlib.Omega.{arith}
+use borrow.Author.Rules.{rules}
+use Rattle.machine.specs.Words.{CANCEL}
+use Rattle.steps.proofs.ToldLaws.{cancel_moves}
+use Rattle.steps.proofs.TakeLaws.{takes_refused, takes_moved, others_fit}
+use Rattle.steps.proofs.taking.take_cancel.Goals as goal
+
+pub returns-then-refusal-ne0 : goal.returns-then-refusal-ne0
+returns-then-refusal-ne0 c = takes_refused c.refusal_at-refusal.ensures c.if-refusal-ne0.true
+
+pub returns : goal.returns
+returns c =
+    let e = c in
+    takes_moved e.refusal_at-refusal.ensures e.if-refusal-ne0.false (others_fit _ CANCEL _ (omega arith))
+    (cancel_moves _ _ refl c.cancel.ensures)

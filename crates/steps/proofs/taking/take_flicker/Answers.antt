@@ -1,0 +1,43 @@
+-- `taking::take_flicker` meets its contract. Assumes nothing.
+use mathlib.Core.Path.{refl, sym, ap, ◌∙◌}
+use native.Mathlib.Omega.{arith}
+use borrow.Author.Rules.{rules}
+use Rattle.machine.specs.Words.{FLICKER}
+use Rattle.machine.specs.Settings.{flicker_forbidden}
+use Rattle.machine.proofs.SettingLaws.{flicker_forbidden_lem, flicker_free}
+use Rattle.steps.proofs.TakeLaws.{may_move, takes_moved, others_fit}
+use Rattle.steps.proofs.SettingLaws.{takes_early, takes_forbidden, takes_free}
+use Rattle.steps.proofs.taking.take_flicker.Goals as goal
+
+pub returns-then-refusal-ne0 : goal.returns-then-refusal-ne0
+returns-then-refusal-ne0 c = takes_early c.args.settings c.refusal_at-refusal.ensures c.if-refusal-ne0.true
+
+pub returns-then-flicker_forbidden : goal.returns-then-flicker_forbidden
+returns-then-flicker_forbidden c =
+    let e = c in
+    let m = e.args.settings in
+    takes_forbidden m e.refusal_at-refusal.ensures 16 e.if-refusal-ne0.false
+    (flicker_forbidden_lem m _ FLICKER _ refl
+    (sym (ap (flicker_forbidden m) c.row_at.ensures)
+    ∙ sym c.flicker_forbidden.ensures
+    ∙ c.if-flicker_forbidden.true))
+    (omega arith)
+
+pub flicker-requires : goal.flicker-requires
+flicker-requires c =
+    let e = c in
+    let s = e in
+    may_move FLICKER s.args.a s.requires e.refusal_at-refusal.ensures e.if-refusal-ne0.false
+
+pub returns : goal.returns
+returns c =
+    let f = c in
+    let e = f in
+    let m = e.args.settings in
+    takes_free m
+    (flicker_free m _ FLICKER _ refl
+    (sym (ap (flicker_forbidden m) f.row_at.ensures)
+    ∙ sym f.flicker_forbidden.ensures
+    ∙ f.if-flicker_forbidden.false))
+    (takes_moved e.refusal_at-refusal.ensures e.if-refusal-ne0.false (others_fit _ FLICKER _ (omega arith))
+    c.flicker.ensures)

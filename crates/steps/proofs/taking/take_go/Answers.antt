@@ -1,0 +1,21 @@
+-- `taking::take_go` meets its contract: with another argument than 0 it is refused. Assumes nothing.
+use mathlib.Core.Path.{sym, ◌∙◌}
+use borrow.Author.Rules.{rules}
+use Rattle.cells.specs.View.{rows_of}
+use Rattle.steps.proofs.TakeLaws.{go_argument, go_zero}
+use Rattle.steps.proofs.SettingLaws.{takes_early}
+use Rattle.steps.proofs.taking.take_go.Goals as goal
+
+pub returns-then-a-ne0 : goal.returns-then-a-ne0
+returns-then-a-ne0 c =
+    let e = c in
+    let s = e in
+    takes_early s.args.settings c.refusal_at.ensures
+    (λ z.
+    e.if-a-ne0.true
+    (go_argument (rows_of s.args.cells.now) s.args.p s.args.a (sym c.refusal_at.ensures ∙ z)))
+
+pub returns : goal.returns
+returns c =
+    let e = c in
+    go_zero e.args.settings e.if-a-ne0.false c.go.ensures
