@@ -439,14 +439,12 @@ def with_helpers(f, var, body):
         for h in f.helpers:
             arg = rf"(?:{TOKEN}(?:\.before)*|\({TOKEN}(?:\.before)*\))(?![\w.'\-])"
             if h["to"]:
-                t = re.sub(rf"\({word(h['name'])} ({arg})\)", r"\1", t)
-                t = re.sub(rf"{word(h['name'])} ({arg})", r"\1", t)
+                t = re.sub(rf"\({word(h['name'])} ({arg})\)|{word(h['name'])} ({arg})", lambda m: m.group(1) or m.group(2), t)
                 t = re.sub(rf"({TOKEN})\.before+(?![\w.])", r"\1", t) if False else t
         for h in f.helpers:
             arg = rf"(?:{TOKEN}(?:\.before)*|\({TOKEN}(?:\.before)*\))(?![\w.'\-])"
             if not h["to"]:
-                t = re.sub(rf"\({word(h['name'])} {arg}\)", h["name"], t)
-                t = re.sub(rf"{word(h['name'])} {arg}", h["name"], t)
+                t = re.sub(rf"\({word(h['name'])} {arg}\)|{word(h['name'])} {arg}", h["name"], t)
         return t
 
     def as_var(t, old):
