@@ -167,6 +167,8 @@ class Function:
             tail = [sub[tail[0]]] + tail[1:]
         elif tail and norm(tail[0]) in {norm(k): v for k, v in sub.items()}:
             tail = [{norm(k): v for k, v in sub.items()}[norm(tail[0])]] + tail[1:]
+        if tail[:2] == ["new", "0"] and self.e["params"].get(self.callee[at]):
+            tail = ["new", self.e["params"][self.callee[at]][0]] + tail[2:]
         return ".".join([var, self.step[at][1]] + named(self.live(at, tail), self.callee[at])), None
 
     def live(self, at, tail):
@@ -537,8 +539,14 @@ def answer(f, name, new, b, place):
             callee = same[0] if len(same) == 1 else None
         several = CLAUSES.get(callee, ([], []))[0]
     if several and len(several) > 1:
-        eq = body.rindex(" in\n") + 3 if lets else body.index("=")
+        eq = body.index("=")
         ps = parts_of(body[eq + 1 :])
+        if ps is None:
+            ins = [m.end() - 1 for m in re.finditer(r"\bin(?=[\s(])", body)]
+            for at in ins:
+                if parts_of(body[at + 1 :]):
+                    eq, ps = at, parts_of(body[at + 1 :])
+                    break
         if ps and len(ps) == len(several):
             body = body[: eq + 1] + " record {\n" + "\n".join(f"  {n} = {p.strip()};" for n, p in zip(several, ps)) + "\n}"
         elif "search rules" not in body[eq:eq+16]:

@@ -57,7 +57,7 @@ loop-i-init c =
 )
 
 pub advance_under-requires : goal.advance_under-requires
-advance_under-requires c = let v = c.loop-i.invariant in (v.2, v.3)
+advance_under-requires c = let v = c.loop-i.invariant in record { cells_value = v.2; settings_value = v.3 }
 
 pub loop-i-preserved : goal.loop-i-preserved
 loop-i-preserved c =
@@ -78,7 +78,7 @@ loop-i-preserved c =
           ∙ ap (list_under m t) (drop-cons ws i 0 (omega arith))
           ∙ after_cons m t w (drop (suc i) ws)
           ∙ ap (λ (u : Table). list_under m u (drop (suc i) ws)) (sym s.rows_are)
-          ∙ ap (λ (k : ℕ). list_under m (rows_of c.advance_under.new.0) (drop k ws)) (sym (add-one i)),
+          ∙ ap (λ (k : ℕ). list_under m (rows_of c.advance_under.new.cells) (drop k ws)) (sym (add-one i)),
     )
 
 pub returns : goal.returns
