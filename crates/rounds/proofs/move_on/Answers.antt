@@ -1,7 +1,6 @@
 -- `move_on` meets its contract. Assumes nothing.
 use mathlib.Core.Path.{◌≡◌, subst}
 use mathlib.Core.Bool.{true, false, ◌&&◌, not}
-use mathlib.Core.Logic.{⊎_elim}
 use lib.Dec.{eqb}
 use borrow.Author.Rules.{rules}
 use borrow.Author.Tests.{eqb-true, eqb-false}
@@ -11,6 +10,7 @@ use Rattle.steps.proofs.SettingLaws.{weakest-takes}
 use Rattle.rounds.proofs.MoveLaws.{looks_so, listed_none, elsewhere}
 use Rattle.rounds.proofs.MoveLaws.{rest_moves, some_member, look-sees, look-moves, go_free, go-moves, go-refused}
 use Rattle.rounds.proofs.move_on.Goals as goal
+use Rattle.rounds.proofs.move_on.Goals.{then-r-ne0+else-r-eq22+else-rests, else-r-ne0}
 
 -- ---- at 22 with a member of lis
 
@@ -72,7 +72,10 @@ go-requires c =
     let looks-not : (let r = c.row_at-r.result in
         (eqb r.location 22 && not (eqb r.lis 0)) ≡ false) =
         let r = c.row_at-r.result in
-        ⊎_elim (λ m. elsewhere r m.2.left) (λ e. listed_none r e.left) c.if-r-ne0.branch in
+        elim c.if-r-ne0.branch [
+          then-r-ne0+else-r-eq22+else-rests w ↦ elsewhere r w.if-r-eq22.false
+          | else-r-ne0 w ↦ listed_none r w.if-r-ne0.false
+        ] in
 
     let e = c in
     let j = e in
@@ -85,7 +88,10 @@ returns-in-Moved c =
     let looks-not : (let r = c.row_at-r.result in
         (eqb r.location 22 && not (eqb r.lis 0)) ≡ false) =
         let r = c.row_at-r.result in
-        ⊎_elim (λ m. elsewhere r m.2.left) (λ e. listed_none r e.left) c.if-r-ne0.branch in
+        elim c.if-r-ne0.branch [
+          then-r-ne0+else-r-eq22+else-rests w ↦ elsewhere r w.if-r-eq22.false
+          | else-r-ne0 w ↦ listed_none r w.if-r-ne0.false
+        ] in
 
     let n = c in
     let g = n in
@@ -94,14 +100,17 @@ returns-in-Moved c =
     let a = j in
     let s = a in
     go-moves _ _ s.requires _ a.row_at-r.ensures (eqb-false _ _ e.if-rests-2.false-raw) looks-not _ _
-    (subst (Takes _ GO _ 0 _) n.enum_told-1.given.1 (weakest-takes g.go.ensures))
+    (subst (Takes _ GO _ 0 _) c.in-Moved.is (weakest-takes c.go.ensures))
 
 pub returns-in-Refused : goal.returns-in-Refused
 returns-in-Refused c =
     let looks-not : (let r = c.row_at-r.result in
         (eqb r.location 22 && not (eqb r.lis 0)) ≡ false) =
         let r = c.row_at-r.result in
-        ⊎_elim (λ m. elsewhere r m.2.left) (λ e. listed_none r e.left) c.if-r-ne0.branch in
+        elim c.if-r-ne0.branch [
+          then-r-ne0+else-r-eq22+else-rests w ↦ elsewhere r w.if-r-eq22.false
+          | else-r-ne0 w ↦ listed_none r w.if-r-ne0.false
+        ] in
 
     let n = c in
     let g = n in
@@ -110,4 +119,4 @@ returns-in-Refused c =
     let a = j in
     let s = a in
     go-refused _ _ s.requires _ a.row_at-r.ensures (eqb-false _ _ e.if-rests-2.false-raw) looks-not _ _
-    (subst (Takes _ GO _ 0 _) n.why-1.given.1 (weakest-takes g.go.ensures))
+    (subst (Takes _ GO _ 0 _) c.in-Refused.is (weakest-takes c.go.ensures))
