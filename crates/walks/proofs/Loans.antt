@@ -17,25 +17,27 @@ use mathlib.Core.List.{List, [], ◌∷◌}
 use lib.Dec.{T}
 use lib.ListN.{length, replicate, length-replicate}
 use seplogic.Ra.Ura.{Ura}
-use seplogic.Ra.TreeShare.{full_share}
+use base.Fraction.{full_share}
 use mir.Syntax.{Ty, Lifetime, ty_array}
 use mir.Val.{Val, has_ty, WT}
 use base.Logic.{SProp, ent, sep, ex}
-use base.Fml.{Lft, Share, GName, Fml, fsep, fat, froom, flft, flent, fobs, fauth, fobor}
+use base.Fml.{Lft, Share, GName, Fml, Incl-refl, fsep, fat, froom, flft, flent, fobs, fauth, fobor}
 use types.Logic.{Logic, sem}
-use types.Kit.{Item, Goal, Soaks, Seq, Go, ‵, ◌⊛◌, some, later, ◌$◌, ◌∵◌, !, qed, by, move, use1, use3, rewrite}
-use types.Kit.{drop, split, pick, fsplit, fjoin, fpick, fpack, feq_l, feq_i, await, done}
+use types.Kit.{Item, Goal, Soaks, Seq, Go, ‵, ◌⊛◌, some, later, ◌$◌, ◌∵◌, !, qed, by, move, use1, use2, use3}
+use types.Kit.{rewrite, drop, split, pick, fsplit, fjoin, fpick, fpack, feq_l, feq_i, await, done}
 use types.Tokens.{lft_new, lft_end, lent_back}
 use types.SemTy.{cells, Arr}
 use types.Share.{PartsLaws, arr_parts, arr_laws}
 use denote.RattleType.{RattleType}
 use denote.Shadow.{shadow, pure_i}
 use denote.Laws.{Is, Tells, Makes, Copy, shows}
+use denote.Copied.{Copied}
 use denote.Memory.{lone, cell_at, part_at, part_of, mem, shares, share_laws}
 use denote.Array.{Array, each, array_val, Array-Makes}
 use denote.ArrayMemory.{Single, Array-apart, Array-whole}
-use denote.Ref.{MutBor}
-use denote.Slice.{slice_val, MutSlice, ShrSlice, Room, finally, heres, coded_holeys, shr_slice_at}
+use denote.Bor.{Bor}
+use denote.MutBor.{MutBor}
+use denote.Slice.{slice_val, MutSlice, ShrSlice, Room, finally, heres, coded_holeys, mut_slice_at}
 use denote.Lend.{Held, lends_slice, slice_back, lends_shr_slice}
 use denote.Index.{opens_slice, closes_slice}
 use denote.Steps.{owned, facts}
@@ -46,10 +48,11 @@ pub record Elements {M : Type 1} {𝓤 : Ura M} (𝓛 : Logic 𝓤) (R : RattleT
   pub tells : Tells R (Is R) (λ x. mach x ∷ [])
   pub makes : Makes 𝓛 R (Is R)
   pub copies : Copy 𝓛 R
+  pub copied : Copied 𝓛 R
   pub typed : (x : R.Denot) (v : Val) → Is R x (v ∷ []) → T (has_ty (lone R.mir) v) × WT v
 
 module _ (R : RattleType) (x : R.Denot) (u : Val) (is : Is R x (u ∷ [])) where
-  each-rep : (n : ℕ) → shadow (each R.Denot R.own (replicate n x) (replicate n u))
+  each-rep : (n : ℕ) → shadow (each R.Denot R.own_val (replicate n x) (replicate n u))
   each-rep zero = tt
   each-rep (suc n) = (is, each-rep n)
 
@@ -68,8 +71,11 @@ module _ (R : RattleType) (n b o : ℕ) where
   abbrev pub Mut : Lifetime → Lft → GName → List R.Denot → Fml
   Mut ℓ κ γ xs = (MutSlice ℓ κ R).own_val (sliceRef γ xs) (slice_val (b, o) n ∷ [])
 
-  abbrev pub Shr : Lifetime → Lft → GName → List R.Denot → Fml
-  Shr ℓ κ γ xs = (ShrSlice ℓ κ R).own_val (sliceRef γ xs) (slice_val (b, o) n ∷ [])
+  abbrev pub sharedRef : List R.Denot → Bor (List R.Denot)
+  sharedRef xs = record { ref_ptr = (b, o); now = xs }
+
+  abbrev pub Shr : Lifetime → Lft → List R.Denot → Fml
+  Shr ℓ κ xs = (ShrSlice ℓ κ R).own_val (sharedRef xs) (slice_val (b, o) n ∷ [])
 
 -- ---- loans
 
@@ -118,8 +124,8 @@ module _ {M : Type 1} {𝓤 : Ura M} (𝓛 : Logic 𝓤) (R : RattleType) (n b o
     abbrev MutLent : Lft → List R.Denot → ℕ → GName → SProp 𝓤
     MutLent κ xs k γ = sep 𝓤 ⟦ Mut R k b o ℓ κ γ xs ⟧ (A.lent κ (Held R k b o γ))
 
-    abbrev ShrLent : Lft → List R.Denot → ℕ → GName → SProp 𝓤
-    ShrLent κ xs k γ = sep 𝓤 ⟦ Shr R k b o ℓ κ γ xs ⟧ (A.lent κ (Stored R k b o xs))
+    abbrev ShrLent : Lft → List R.Denot → ℕ → SProp 𝓤
+    ShrLent κ xs k = sep 𝓤 ⟦ Shr R k b o ℓ κ xs ⟧ (A.lent κ (Stored R k b o xs))
 
     mut-lent : (κ : Lft) (xs : List R.Denot) → ent 𝓤 ⟦ Stored R n b o xs ⟧ (H.⇛ (ex 𝓤 (MutLent κ xs n)))
     mut-lent κ xs =
@@ -128,11 +134,15 @@ module _ {M : Type 1} {𝓤 : Ura M} (𝓛 : Logic 𝓤) (R : RattleType) (n b o
         by ! (subst (λ (k : ℕ). ent 𝓤 ⟦ cells (mem R) xs b o ⟧ (H.⇛ (ex 𝓤 (MutLent κ xs k)))) e
         (lends_slice 𝓛 R ℓ κ xs b o (subst (Room R) (sym e) room))))
 
-    shr-lent : (κ : Lft) (xs : List R.Denot) → ent 𝓤 ⟦ Stored R n b o xs ⟧ (H.⇛ (ex 𝓤 (ShrLent κ xs n)))
-    shr-lent κ xs =
-        qed 𝓛 (‵ (Stored R n b o xs) ∷ []) ∵ fsplit ! $ feq_l ! (λ e. feq_i ! ℕ _ n e $ fjoin ! $
-        by ! (subst (λ (k : ℕ). ent 𝓤 ⟦ Stored R k b o xs ⟧ (H.⇛ (ex 𝓤 (ShrLent κ xs k)))) e
-        (lends_shr_slice 𝓛 R ℓ κ full_share xs b o (subst (Room R) (sym e) room))))
+    -- a token of κ is shown for it, and comes back
+    shr-lent : (κ : Lft) (q : Share) (xs : List R.Denot)
+        → ent 𝓤 (sep 𝓤 ⟦ Stored R n b o xs ⟧ (A.lft κ q)) (H.⇛ (sep 𝓤 (ShrLent κ xs n) (A.lft κ q)))
+    shr-lent κ q xs =
+        qed 𝓛 (‵ (Stored R n b o xs) ∷ ‵ (flft κ q) ∷ []) ∵ fsplit ! $ feq_l ! (λ e. feq_i ! ℕ _ n e $ fjoin ! $
+        by ! (subst (λ (k : ℕ). ent 𝓤 (sep 𝓤 ⟦ Stored R k b o xs ⟧ (A.lft κ q))
+        (H.⇛ (sep 𝓤 (ShrLent κ xs k) (A.lft κ q)))) e
+        (lends_shr_slice 𝓛 R ℓ κ full_share xs b o (subst (Room R) (sym e) room)
+        κ (laws.copied.shares full_share κ) ((κ, q) ∷ []) (Incl-refl κ) (Incl-refl κ))))
 
     module _ {Γ : List (Item 𝓤)} {G : Goal 𝓤 H} (soaks : Soaks G) where
       pub lends-mut : (xs : List R.Denot)
@@ -154,15 +164,15 @@ module _ {M : Type 1} {𝓤 : Ura M} (𝓛 : Logic 𝓤) (R : RattleType) (n b o
           use1 𝓛 (‵ (Stored R n b o ys)) (parts.whole_out ys b o) $ next
 
       pub lends_shr : (xs : List R.Denot)
-          → ((μ : ℕ) (γ : GName)
-          → Seq Go 𝓛 (‵ (Shr R n b o ℓ (μ ∷ []) γ xs) ∷ ‵ (flft (μ ∷ []) full_share)
+          → ((μ : ℕ)
+          → Seq Go 𝓛 (‵ (Shr R n b o ℓ (μ ∷ []) xs) ∷ ‵ (flft (μ ∷ []) full_share)
           ∷ ‵ (flent (μ ∷ []) (Stored R n b o xs)) ∷ Γ) G)
           → Seq Go 𝓛 (‵ (Stored R n b o xs) ∷ Γ) G
       lends_shr xs next =
-          lft_new ! soaks (λ μ. move ! (1 ∷ []) $
-          use1 𝓛 (later (some (λ (γ : GName).
-          ‵ (Shr R n b o ℓ (μ ∷ []) γ xs) ⊛ ‵ (flent (μ ∷ []) (Stored R n b o xs))))) (shr-lent (μ ∷ []) xs) $
-          await ! soaks $ pick ! (λ γ. split ! $ move ! (0 ∷ 2 ∷ []) $ next μ γ))
+          lft_new ! soaks (λ μ. move ! (1 ∷ 0 ∷ []) $
+          use2 𝓛 (later ((‵ (Shr R n b o ℓ (μ ∷ []) xs) ⊛ ‵ (flent (μ ∷ []) (Stored R n b o xs)))
+          ⊛ ‵ (flft (μ ∷ []) full_share))) (shr-lent (μ ∷ []) full_share xs) $
+          await ! soaks $ split ! $ split ! $ move ! (0 ∷ 2 ∷ []) $ next μ)
 
       pub shr-back : (μ : ℕ) (xs : List R.Denot) → Seq Go 𝓛 (‵ (Stored R n b o xs) ∷ Γ) G
           → Seq Go 𝓛 (‵ (flft (μ ∷ []) full_share) ∷ ‵ (flent (μ ∷ []) (Stored R n b o xs)) ∷ Γ) G
@@ -192,5 +202,5 @@ module _ (R : RattleType) (κ : Lft) (q : Share) (γ : GName) (b o : ℕ) (ys : 
     closes zs same room next =
         fsplit ! $ feq_l ! (λ _. move ! (1 ∷ []) $ fsplit ! $ move ! (1 ∷ []) $ fsplit ! $ move ! (3 ∷ 2 ∷ []) $
         closes_slice ! soaks R ys zs same b o $ fjoin ! $
-        pure_i ! (shr_slice_at R (sliceRef R (length ys) b o γ zs) (slice_val (b, o) (length ys) ∷ [])) (tt, (tt, tt))
+        pure_i ! (mut_slice_at R (sliceRef R (length ys) b o γ zs) (slice_val (b, o) (length ys) ∷ [])) (tt, (tt, tt))
         (ap (λ (k : ℕ). slice_val (b, o) k ∷ []) (sym same), subst (Room R) (sym same) room) $ fjoin ! $ next)
