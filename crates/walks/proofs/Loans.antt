@@ -21,24 +21,27 @@ use base.Fraction.{full_share}
 use mir.Syntax.{Ty, Lifetime, ty_array}
 use mir.Val.{Val, has_ty, WT}
 use base.Logic.{SProp, ent, sep, ex}
-use base.Fml.{Lft, Share, GName, Fml, Incl-refl, fsep, fat, froom, flft, flent, fobs, fauth, fobor}
+use base.Fml.{Lft, Share, GName, Fml, fsep, fat, froom, flft, flent, fobs, fauth, fobor, fhide}
 use types.Logic.{Logic, sem}
-use types.Kit.{Item, Goal, Soaks, Seq, Go, ‵, ◌⊛◌, some, later, ◌$◌, ◌∵◌, !, qed, by, move, use1, use2, use3}
-use types.Kit.{rewrite, drop, split, pick, fsplit, fjoin, fpick, fpack, feq_l, feq_i, await, done}
+use types.Kit.{Item, Goal, Soaks, Seq, Go, ‵, ◌⊛◌, some, later, ◌$◌, ◌∵◌, !, qed, by, move, use1, use3}
+use types.Kit.{rewrite, drop, split, pick, fsplit, fjoin, fpick, fpack, feq_l, feq_i, await, updating, done}
+use types.Kit.{now as at_once}
 use types.Tokens.{lft_new, lft_end, lent_back}
 use types.SemTy.{cells, Arr}
-use types.Share.{PartsLaws, arr_parts, arr_laws}
+use types.Share.{PartsLaws, parts as elements, arr_parts, arr_laws}
 use denote.RattleType.{RattleType}
 use denote.Shadow.{shadow, pure_i}
 use denote.Laws.{Is, Tells, Makes, Copy, shows}
-use denote.Copied.{Copied}
+use denote.Copied.{Copied, each_lends}
 use denote.Memory.{lone, cell_at, part_at, part_of, mem, shares, share_laws}
 use denote.Array.{Array, each, array_val, Array-Makes}
 use denote.ArrayMemory.{Single, Array-apart, Array-whole}
 use denote.Bor.{Bor}
 use denote.MutBor.{MutBor}
-use denote.Slice.{slice_val, MutSlice, ShrSlice, Room, finally, heres, coded_holeys, mut_slice_at}
-use denote.Lend.{Held, lends_slice, slice_back, lends_shr_slice}
+use denote.Slice.{slice_val, MutSlice, ShrSlice, Room, finally, heres, coded_holeys}
+use denote.Slice.{mut_slice_at, shr_slice_at, elements_shared}
+use denote.Lend.{Held, lends_slice, slice_back}
+use denote.Lends.{Lent-map}
 use denote.Index.{opens_slice, closes_slice}
 use denote.Steps.{owned, facts}
 
@@ -134,15 +137,18 @@ module _ {M : Type 1} {𝓤 : Ura M} (𝓛 : Logic 𝓤) (R : RattleType) (n b o
         by ! (subst (λ (k : ℕ). ent 𝓤 ⟦ cells (mem R) xs b o ⟧ (H.⇛ (ex 𝓤 (MutLent κ xs k)))) e
         (lends_slice 𝓛 R ℓ κ xs b o (subst (Room R) (sym e) room))))
 
-    -- a token of κ is shown for it, and comes back
-    shr-lent : (κ : Lft) (q : Share) (xs : List R.Denot)
-        → ent 𝓤 (sep 𝓤 ⟦ Stored R n b o xs ⟧ (A.lft κ q)) (H.⇛ (sep 𝓤 (ShrLent κ xs n) (A.lft κ q)))
-    shr-lent κ q xs =
-        qed 𝓛 (‵ (Stored R n b o xs) ∷ ‵ (flft κ q) ∷ []) ∵ fsplit ! $ feq_l ! (λ e. feq_i ! ℕ _ n e $ fjoin ! $
-        by ! (subst (λ (k : ℕ). ent 𝓤 (sep 𝓤 ⟦ Stored R k b o xs ⟧ (A.lft κ q))
-        (H.⇛ (sep 𝓤 (ShrLent κ xs k) (A.lft κ q)))) e
-        (lends_shr_slice 𝓛 R ℓ κ full_share xs b o (subst (Room R) (sym e) room)
-        κ (laws.copied.shares full_share κ) ((κ, q) ∷ []) (Incl-refl κ) (Incl-refl κ))))
+    shr-lent : (κ : Lft) (xs : List R.Denot) → ent 𝓤 ⟦ Stored R n b o xs ⟧ (H.⇛ (ShrLent κ xs n))
+    shr-lent κ xs =
+        let row : Fml = elements (mem R) (shares R) full_share xs b o in
+        let each : Lft → Fml = elements_shared R xs b o in
+        qed 𝓛 (‵ (Stored R n b o xs) ∷ []) ∵ updating ! $ fsplit ! $ feq_l ! (λ e. feq_i ! ℕ _ n e $ fjoin ! $
+        use1 𝓛 (later (‵ (fhide (each κ)) ⊛ ‵ (flent κ (Stored R n b o xs))))
+        (Lent-map 𝓛 (Stored R n b o xs) row each
+        (qed 𝓛 (‵ (Stored R n b o xs) ∷ []) {P = ⟦ row ⟧} (fsplit ! $ drop ! $ done !))
+        (qed 𝓛 (‵ row ∷ []) {P = ⟦ Stored R n b o xs ⟧} (feq_i ! ℕ _ n e $ done !))
+        (each_lends 𝓛 R laws.copied full_share xs b o) κ) $ await ! tt $ split ! $ at_once ! $
+        pure_i ! (shr_slice_at R (sharedRef R n b o xs) (slice_val (b, o) n ∷ [])) (tt, (tt, tt))
+        (ap (λ (k : ℕ). slice_val (b, o) k ∷ []) (sym e), subst (Room R) (sym e) room) $ fjoin ! $ done !)
 
     module _ {Γ : List (Item 𝓤)} {G : Goal 𝓤 H} (soaks : Soaks G) where
       pub lends-mut : (xs : List R.Denot)
@@ -169,10 +175,9 @@ module _ {M : Type 1} {𝓤 : Ura M} (𝓛 : Logic 𝓤) (R : RattleType) (n b o
           ∷ ‵ (flent (μ ∷ []) (Stored R n b o xs)) ∷ Γ) G)
           → Seq Go 𝓛 (‵ (Stored R n b o xs) ∷ Γ) G
       lends_shr xs next =
-          lft_new ! soaks (λ μ. move ! (1 ∷ 0 ∷ []) $
-          use2 𝓛 (later ((‵ (Shr R n b o ℓ (μ ∷ []) xs) ⊛ ‵ (flent (μ ∷ []) (Stored R n b o xs)))
-          ⊛ ‵ (flft (μ ∷ []) full_share))) (shr-lent (μ ∷ []) full_share xs) $
-          await ! soaks $ split ! $ split ! $ move ! (0 ∷ 2 ∷ []) $ next μ)
+          lft_new ! soaks (λ μ. move ! (1 ∷ []) $
+          use1 𝓛 (later (‵ (Shr R n b o ℓ (μ ∷ []) xs) ⊛ ‵ (flent (μ ∷ []) (Stored R n b o xs))))
+          (shr-lent (μ ∷ []) xs) $ await ! soaks $ split ! $ move ! (0 ∷ 2 ∷ []) $ next μ)
 
       pub shr-back : (μ : ℕ) (xs : List R.Denot) → Seq Go 𝓛 (‵ (Stored R n b o xs) ∷ Γ) G
           → Seq Go 𝓛 (‵ (flft (μ ∷ []) full_share) ∷ ‵ (flent (μ ∷ []) (Stored R n b o xs)) ∷ Γ) G
