@@ -55,7 +55,7 @@ loop-i-preserved c =
     let l = c.loop-i in
     let i = l.i in (
       omega arith,
-      c.put_word.auto.0 ∙ l.invariant.1,
+      c.put_word.auto.bytes ∙ l.invariant.1,
       c.put_word.ensures
           ∙ ap (λ (d : List ℕ). placed d (4 * i) (bytes_of (get_or a.words.now i 0 ∷ []))) l.invariant.2
           ∙ next a.words.now a.bytes.now i (omega arith),
