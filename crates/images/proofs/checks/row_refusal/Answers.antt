@@ -1,6 +1,6 @@
 -- `images::checks::row_refusal` meets its contract: the first word that does not pass stops, and one that passes leaves
 -- the refusal to the words after it. Assumes nothing.
-use Prim.Native.Nat.{suc}
+use Prim.Native.Nat.{ℕ, suc}
 use mathlib.Core.Path.{◌≡◌, refl, sym, ◌∙◌}
 use mathlib.Core.List.{[], ◌∷◌}
 use native.Mathlib.Omega.{arith}
@@ -10,16 +10,17 @@ use Rattle.images.proofs.SlotLaws.{stop_at, pass_at}
 use borrow.Author.Rules.{rules}
 use Rattle.images.proofs.checks.row_refusal.Goals as goal
 
--- ---- the first refusal from each of the four words on
-
--- ---- the needs
+-- no words are left
+nothing_left : (n p : ℕ) → first_refusal n p [] [] ≡ record { refusal = 0; place = 0 }
+unfolding first_refusal
+nothing_left n p = refl
 
 pub returns-then-first-ne0 : goal.returns-then-first-ne0
 unfolding row_slots
 returns-then-first-ne0 c = sym (stop_at _ _ _ _ _ _ _ _ (omega arith) c.state_refusal-first.ensures c.if-first-ne0.true)
 
 pub returns-then-sets_fit : goal.returns-then-sets_fit
-unfolding first_refusal row_slots
+unfolding row_slots
 returns-then-sets_fit c =
     let fromState : Found =
         let x = c.args in
@@ -45,7 +46,7 @@ returns-then-sets_fit c =
     let none-next : (let s = c in
         fromState ≡ first_refusal s.args.n (suc (suc (suc (suc (row_place s.args.q))))) [] []) =
         ahead-next ∙ pass_at _ _ 0 _ _ _ _ (sym (c.sets_fit.ensures.ahead c.if-sets_fit.true)) refl in
- sym none-next
+ sym (none-next ∙ nothing_left _ _)
 
 pub returns-then-second-ne0 : goal.returns-then-second-ne0
 unfolding row_slots
@@ -119,7 +120,7 @@ returns-then-fourth-ne0 c =
     ∙ stop_at _ _ _ _ _ _ _ _ (omega arith) c.set_refusal-fourth.ensures c.if-fourth-ne0.true)
 
 pub returns : goal.returns
-unfolding first_refusal row_slots
+unfolding row_slots
 returns c =
     let fromState : Found =
         let x = c.args in
@@ -146,4 +147,4 @@ returns c =
     let to_end : (let s = c in
         fromState ≡ first_refusal s.args.n (suc (suc (suc (suc (row_place s.args.q))))) [] []) =
         to-ahead ∙ pass_at _ _ _ _ _ _ _ c.set_refusal-fourth.ensures c.if-fourth-ne0.false in
- sym to_end
+ sym (to_end ∙ nothing_left _ _)

@@ -9,19 +9,19 @@ use Rattle.images.proofs.checks.set_refusal.Goals as goal
 pub returns-then-not-w-kind : goal.returns-then-not-w-kind
 returns-then-not-w-kind c =
     let a = c.args in
-    sym (set-slot a.n a.kind a.q a.w a.full c.requires.numbered.1 c.requires.full.is
+    sym (set-slot a.n a.kind a.q a.w a.full c.requires.set_kind c.requires.full.is
     (omega arith) ∙ choice_on _ _ _ c.if-not-w-kind.true-raw)
 
 pub returns-then-not-w-full : goal.returns-then-not-w-full
 returns-then-not-w-full c =
     let a = c.args in
-    sym (set-slot a.n a.kind a.q a.w a.full c.requires.numbered.1
+    sym (set-slot a.n a.kind a.q a.w a.full c.requires.set_kind
     c.requires.full.is (omega arith) ∙ choice_off _ _ _ c.if-not-w-kind.false-raw ∙ choice_on _ _ _
     c.if-not-w-full.true-raw)
 
 pub returns : goal.returns
 returns c =
     let a = c.args in
-    sym (set-slot a.n a.kind a.q a.w a.full c.requires.numbered.1
+    sym (set-slot a.n a.kind a.q a.w a.full c.requires.set_kind
     c.requires.full.is (omega arith) ∙ choice_off _ _ _ c.if-not-w-kind.false-raw ∙ choice_off _ _ _
     c.if-not-w-full.false-raw)

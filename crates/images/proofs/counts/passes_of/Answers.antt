@@ -26,11 +26,13 @@ returns-then-not-counted c =
 
     let s = c in
     let a = s.args in
-    let bare = not-true _ c.if-not-counted.true-raw in (
-      filled_start (readAt a.n a.words.now a.q) 16
-          ∙ read_bare a.n a.words.now a.q (sized _ bare),
-      record { none = λ t f. absurd (false≢true (sym bare ∙ t)) },
-    )
+    let bare = not-true _ c.if-not-counted.true-raw in
+    record {
+      list_value =
+          filled_start (readAt a.n a.words.now a.q) 16
+          ∙ read_bare a.n a.words.now a.q (sized _ bare);
+      fits = record { none = λ t f. absurd (false≢true (sym bare ∙ t)) };
+    }
 
 pub loop-r-init : goal.loop-r-init
 unfolding every
@@ -114,11 +116,13 @@ returns c =
     let long : image_length a.n ≤ length ws = omega (arith, whole) in
     let P : ℕ → Bool = λ j. eqb (get_or ws (at + j) 0 / 65536) (upper + j) in
     let same =
-    ap (λ (b : Bool). b && eqb (get_or ws (at + a.q) 0 % 65536) 0) (inv.9 ∙ ap (every P) end) in (
-      inv.6 ∙ read_all a.n ws a.q l.r inv.2 end,
-      record {
-        none =
-            λ t f.
-            fit_none a.n ws a.q inv.2 s.requires.q_lt_n long at upper inv.3 refl (sym same ∙ f);
-      },
-    )
+    ap (λ (b : Bool). b && eqb (get_or ws (at + a.q) 0 % 65536) 0) (inv.9 ∙ ap (every P) end) in
+    record {
+      list_value = inv.6 ∙ read_all a.n ws a.q l.r inv.2 end;
+      fits =
+          record {
+            none =
+                λ t f.
+                fit_none a.n ws a.q inv.2 s.requires.q_lt_n long at upper inv.3 refl (sym same ∙ f);
+          };
+    }

@@ -34,7 +34,10 @@ write_passes-requires c =
     let at = l.loop-q in
     let n = length l.args.cells.now in
     let low = l.loop-q-test.true in
-    ((omega (arith, at.invariant.1), low), omega (arith, passes_within n at.q low, at.invariant.3, at.invariant.4))
+    record {
+      n_bound = (omega (arith, at.invariant.1), low);
+      n_in_bounds = omega (arith, passes_within n at.q low, at.invariant.3, at.invariant.4);
+    }
 
 pub loop-q-preserved : goal.loop-q-preserved
 loop-q-preserved c =
@@ -49,7 +52,7 @@ loop-q-preserved c =
     (pass_words n at.q (read.row_at-row.ensures i).passes)) in
     let next =
     passes-next (rows_of x) s.args.out.now n at.invariant.2 at.q l.loop-q-test.true s.requires.long in
-    (search rules, at.invariant.1, at.invariant.2, at.invariant.3, wrote.auto.0 ∙ at.invariant.4, words ∙ next)
+    (search rules, at.invariant.1, at.invariant.2, at.invariant.3, wrote.auto.out ∙ at.invariant.4, words ∙ next)
 
 pub shape_of-out : goal.shape_of-out
 shape_of-out c = c.loop-q.invariant.4

@@ -19,7 +19,7 @@ returns-then-r-ne0 c =
     let at = r.turn_place-i in
     let l = r in
     turns-stop s.args.n s.args.words.now l.loop-k.k at.result r.turn_refusal-r.result
-    l.loop-k-test.true s.pre.long at.ensures r.turn_refusal-r.ensures c.if-r-ne0.true
+    l.loop-k-test.true c.requires.long at.ensures r.turn_refusal-r.ensures c.if-r-ne0.true
     ∙ sym l.loop-k.invariant.2
 
 pub loop-k-preserved : goal.loop-k-preserved
@@ -30,7 +30,7 @@ loop-k-preserved c =
     let l = r in
     let on =
     turns-on s.args.n s.args.words.now l.loop-k.k at.result r.turn_refusal-r.result
-    l.loop-k-test.true s.pre.long at.ensures r.turn_refusal-r.ensures c.if-r-ne0.false in
+    l.loop-k-test.true c.requires.long at.ensures r.turn_refusal-r.ensures c.if-r-ne0.false in
     (search rules, search rules, l.loop-k.invariant.2 ∙ on)
 
 pub returns : goal.returns

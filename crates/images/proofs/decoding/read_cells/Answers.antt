@@ -75,10 +75,11 @@ read_words-f-requires c =
 
     let all = c in
     let e = all in
-    let h = header in (
-      record { some = h.some; few = h.few; length_is = c.if-len-all.false ∙ all-is },
-      omega (arith, h.few, e.requires),
-    )
+    let h = header in
+    record {
+      sized = record { some = h.some; few = h.few; length_is = c.if-len-all.false ∙ all-is };
+      n_in_bounds = omega (arith, h.few, e.requires);
+    }
 
 -- ---- the words
 

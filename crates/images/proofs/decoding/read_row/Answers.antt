@@ -16,17 +16,17 @@ use Rattle.images.proofs.decoding.read_row.Goals as goal
 pub bounds-words-i : goal.bounds-words-i
 bounds-words-i c =
     let long : Long c.args.words.now c.args.n =
-        sized_long c.args.words.now c.args.n c.args.counted c.requires.sized.0 in
+        sized_long c.args.words.now c.args.n c.args.counted c.requires.sized in
     let within : row_place c.args.q + 4 ≤ length c.args.words.now =
-        omega (arith, long.long, c.requires.sized.1.0) in
+        omega (arith, long.long, c.requires.q_lt_n) in
  omega (arith, c.row_place-i.ensures, within)
 
 pub bounds-words-i-2 : goal.bounds-words-i-2
 bounds-words-i-2 c =
     let long : Long c.args.words.now c.args.n =
-        sized_long c.args.words.now c.args.n c.args.counted c.requires.sized.0 in
+        sized_long c.args.words.now c.args.n c.args.counted c.requires.sized in
     let within : row_place c.args.q + 4 ≤ length c.args.words.now =
-        omega (arith, long.long, c.requires.sized.1.0) in
+        omega (arith, long.long, c.requires.q_lt_n) in
 
     let at = c in
     omega (arith, at.row_place-i.ensures, within)
@@ -34,9 +34,9 @@ bounds-words-i-2 c =
 pub bounds-words-i-3 : goal.bounds-words-i-3
 bounds-words-i-3 c =
     let long : Long c.args.words.now c.args.n =
-        sized_long c.args.words.now c.args.n c.args.counted c.requires.sized.0 in
+        sized_long c.args.words.now c.args.n c.args.counted c.requires.sized in
     let within : row_place c.args.q + 4 ≤ length c.args.words.now =
-        omega (arith, long.long, c.requires.sized.1.0) in
+        omega (arith, long.long, c.requires.q_lt_n) in
 
     let at = c in
     omega (arith, at.row_place-i.ensures, within)
@@ -44,9 +44,9 @@ bounds-words-i-3 c =
 pub bounds-words-i-4 : goal.bounds-words-i-4
 bounds-words-i-4 c =
     let long : Long c.args.words.now c.args.n =
-        sized_long c.args.words.now c.args.n c.args.counted c.requires.sized.0 in
+        sized_long c.args.words.now c.args.n c.args.counted c.requires.sized in
     let within : row_place c.args.q + 4 ≤ length c.args.words.now =
-        omega (arith, long.long, c.requires.sized.1.0) in
+        omega (arith, long.long, c.requires.q_lt_n) in
 
     let at = c in
     omega (arith, at.row_place-i.ensures, within)
@@ -56,9 +56,9 @@ bounds-words-i-4 c =
 pub returns-then-found-ne0 : goal.returns-then-found-ne0
 returns-then-found-ne0 c =
     let long : Long c.args.words.now c.args.n =
-        sized_long c.args.words.now c.args.n c.args.counted c.requires.sized.0 in
+        sized_long c.args.words.now c.args.n c.args.counted c.requires.sized in
     let within : row_place c.args.q + 4 ≤ length c.args.words.now =
-        omega (arith, long.long, c.requires.sized.1.0) in
+        omega (arith, long.long, c.requires.q_lt_n) in
     let found : (let a = c.args in
         c.row_refusal-found.result
         ≡ first_refusal a.n (row_place a.q) (row_slots a.q 1) (drop (row_place a.q) a.words.now)) =
@@ -73,20 +73,20 @@ returns-then-found-ne0 c =
 pub turn_of-turn-requires : goal.turn_of-turn-requires
 turn_of-turn-requires c =
     let long : Long c.args.words.now c.args.n =
-        sized_long c.args.words.now c.args.n c.args.counted c.requires.sized.0 in
+        sized_long c.args.words.now c.args.n c.args.counted c.requires.sized in
 
     let s = c in
  record {
   long = long;
-  q_lt_n = s.pre.1.1.0;
+  q_lt_n = s.requires.q_lt_n;
 }
 
 pub row_of-requires : goal.row_of-requires
 row_of-requires c =
     let long : Long c.args.words.now c.args.n =
-        sized_long c.args.words.now c.args.n c.args.counted c.requires.sized.0 in
+        sized_long c.args.words.now c.args.n c.args.counted c.requires.sized in
     let within : row_place c.args.q + 4 ≤ length c.args.words.now =
-        omega (arith, long.long, c.requires.sized.1.0) in
+        omega (arith, long.long, c.requires.q_lt_n) in
 
     let r = c in
     let a = r.args in
@@ -97,14 +97,14 @@ row_of-requires c =
 pub put_row-requires : goal.put_row-requires
 put_row-requires c =
     let s = c in
-    omega (arith, s.pre.1.1.0, s.pre.1.1.1)
+    omega (arith, s.requires.q_lt_n, s.requires.n_in_bounds)
 
 pub returns : goal.returns
 returns c =
     let long : Long c.args.words.now c.args.n =
-        sized_long c.args.words.now c.args.n c.args.counted c.requires.sized.0 in
+        sized_long c.args.words.now c.args.n c.args.counted c.requires.sized in
     let within : row_place c.args.q + 4 ≤ length c.args.words.now =
-        omega (arith, long.long, c.requires.sized.1.0) in
+        omega (arith, long.long, c.requires.q_lt_n) in
     let found : (let a = c.args in
         c.row_refusal-found.result
         ≡ first_refusal a.n (row_place a.q) (row_slots a.q 1) (drop (row_place a.q) a.words.now)) =
@@ -122,11 +122,13 @@ returns c =
     let passes = read.list_value in
     let row_is = c.row_of.ensures ∙ (λ k. row_of_words (get_or ws (here k) 0) (get_or ws (here k + 1) 0)
     (get_or ws (here k + 2) 0) (get_or ws (here k + 3) 0) (turn k) (passes k)) in
-    let put = c.put_row.ensures in (
-      record {
-        found_is = found;
-        rows_are = λ z. put.rows_are ∙ ap (set (rows_of a.cells.now) a.q) row_is;
-        size_is = put.size_is;
-      },
-      read.fits,
-    )
+    let put = c.put_row.ensures in
+    record {
+      row_read =
+          record {
+            found_is = found;
+            rows_are = λ z. put.rows_are ∙ ap (set (rows_of a.cells.now) a.q) row_is;
+            size_is = put.size_is;
+          };
+      fits = read.fits;
+    }

@@ -37,13 +37,13 @@ loop-q-init c =
     (omega arith, refl, rows_start a.n ws, first, fit_start ws a.n a.counted true)
 
 pub read_row-f-requires : goal.read_row-f-requires
-read_row-f-requires c = (
-  c.full_set-full.ensures,
-  (
-    c.requires.sized,
-    (c.loop-q-test.true, omega (arith, c.loop-q.invariant.1)),
-  ),
-)
+read_row-f-requires c =
+    record {
+      full = c.full_set-full.ensures;
+      sized = c.requires.sized;
+      q_lt_n = c.loop-q-test.true;
+      n_in_bounds = omega (arith, c.loop-q.invariant.1);
+    }
 
 -- ---- after a row
 
@@ -60,17 +60,19 @@ returns-then-found-ne0 c =
     let q = r.loop-q.q in
     let row = r.read_row-f.ensures.row_read in
     let inv = r.loop-q.invariant in
-    let some : (ofRow n ws q).refusal ≡ 0 → ⊥ = λ z. c.if-found-ne0.true (none_found (sym row.found_is) z) in (
-      record {
-        found_is = row.found_is ∙ sym (inv.2 ∙ rows-stop n ws q r.loop-q-test.true some);
-        rows_are = λ z. absurd (c.if-found-ne0.true z);
-        size_is = row.size_is ∙ inv.1;
-      },
-      record { none = λ t f. absurd (false≢true f) },
-    )
+    let some : (ofRow n ws q).refusal ≡ 0 → ⊥ = λ z. c.if-found-ne0.true (none_found (sym row.found_is) z) in
+    record {
+      words_read =
+          record {
+            found_is = row.found_is ∙ sym (inv.2 ∙ rows-stop n ws q r.loop-q-test.true some);
+            rows_are = λ z. absurd (c.if-found-ne0.true z);
+            size_is = row.size_is ∙ inv.1;
+          };
+      all_fit = record { none = λ t f. absurd (false≢true f) };
+    }
 
 pub overflow_add-q : goal.overflow_add-q
-overflow_add-q c = omega (arith, c.pre.0.few)
+overflow_add-q c = omega (arith, c.requires.sized.few)
 
 pub loop-q-smaller : goal.loop-q-smaller
 loop-q-smaller c = omega (arith, c.loop-q-test.true)
@@ -86,7 +88,7 @@ loop-q-preserved c =
     let at = r.loop-q in
     let q = at.q in
     let row = r.read_row-f.ensures.row_read in
-    let inv = at.inv in
+    let inv = at.invariant in
     let l : q < n = r.loop-q-test.true in
     let none = none_found row.found_is e.if-found-ne0.false in
     let count = length-rows_in n ws 0 n in
@@ -114,15 +116,17 @@ returns c =
     let inv = at.invariant in
     let end : q ≡ n = omega (arith, c.loop-q-test.false, inv.0) in
     let d = rows_of s.args.cells.now in
-    let count = length-rows_in n ws 0 n in (
-      record {
-        found_is = sym (inv.2 ∙ ap (fromRow n ws) end ∙ rows_end n ws);
-        rows_are =
-            λ z.
-            map-take row_of n at.cells
-            ∙ ap (take n) (inv.3 ∙ begun_end d 0 (rows_in n ws 0 n) q (omega arith))
-            ∙ take_first d (rows_in n ws 0 n) n count;
-        size_is = inv.1;
-      },
-      record { none = λ t f j l. inv.4.none t f j (omega (arith, end)) },
-    )
+    let count = length-rows_in n ws 0 n in
+    record {
+      words_read =
+          record {
+            found_is = sym (inv.2 ∙ ap (fromRow n ws) end ∙ rows_end n ws);
+            rows_are =
+                λ z.
+                map-take row_of n at.cells
+                ∙ ap (take n) (inv.3 ∙ begun_end d 0 (rows_in n ws 0 n) q (omega arith))
+                ∙ take_first d (rows_in n ws 0 n) n count;
+            size_is = inv.1;
+          };
+      all_fit = record { none = λ t f j l. inv.4.none t f j (omega (arith, end)) };
+    }

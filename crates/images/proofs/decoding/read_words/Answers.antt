@@ -50,7 +50,7 @@ returns-then-g-ne0 c =
     record {
       found_is =
           turns
-          ∙ sym (image-turns a.n a.words.now s.pre.0.some long.long none a.counted
+          ∙ sym (image-turns a.n a.words.now s.requires.sized.some long.long none a.counted
           (λ z. c.if-g-ne0.true (none_found (sym turns) z)));
       rows_are = λ z. rows.rows_are e.if-f-ne0.false;
       size_is = rows.size_is;
@@ -73,7 +73,7 @@ returns-then-not-counted c =
       found_is =
           t.check_turns-g.ensures
           ∙ sym (ap (of_all a.n a.words.now) (not-true a.counted c.if-not-counted.true-raw)
-          ∙ image-bare a.n a.words.now s.pre.0.some long.long none);
+          ∙ image-bare a.n a.words.now s.requires.sized.some long.long none);
       rows_are = λ z. rows.rows_are e.if-f-ne0.false;
       size_is = rows.size_is;
     }
@@ -92,7 +92,7 @@ returns-then-fit c =
     let enough : (let s = c in
         Counted s.args.words.now s.args.n) =
         let s = c in
-        sized_counted s.args.words.now s.args.n s.args.counted s.pre.0 counted in
+        sized_counted s.args.words.now s.args.n s.args.counted s.requires.sized counted in
     let last : (let a = c.args in
         of_all a.n a.words.now a.counted
         ≡ first_refusal a.n (bare_length a.n) (pass_slots a.n 0 a.n) (drop (bare_length a.n) a.words.now)) =
@@ -101,7 +101,7 @@ returns-then-fit c =
         let s = e in
         let a = s.args in
         ap (of_all a.n a.words.now) counted
-        ∙ image-counts a.n a.words.now s.pre.0.some long.long none
+        ∙ image-counts a.n a.words.now s.requires.sized.some long.long none
         (none_found t.check_turns-g.ensures c.if-g-ne0.false) in
 
     let f = c in
@@ -122,7 +122,7 @@ check_counts-requires c =
     let enough : (let s = c in
         Counted s.args.words.now s.args.n) =
         let s = c in
-        sized_counted s.args.words.now s.args.n s.args.counted s.pre.0 counted in
+        sized_counted s.args.words.now s.args.n s.args.counted s.requires.sized counted in
  enough
 
 pub returns : goal.returns
@@ -142,7 +142,7 @@ returns c =
         let s = e in
         let a = s.args in
         ap (of_all a.n a.words.now) counted
-        ∙ image-counts a.n a.words.now s.pre.0.some long.long none
+        ∙ image-counts a.n a.words.now s.requires.sized.some long.long none
         (none_found t.check_turns-g.ensures c.if-g-ne0.false) in
 
     let f = c in

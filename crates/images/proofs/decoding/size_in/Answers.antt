@@ -26,7 +26,7 @@ returns-then-head c =
     let full : Header true (c.args.head - header_of 0) c.args.head =
         full_header c.args.head c.if-head.true in
 
-    let known = header_known _ true _ full
+    let known = header_known _ true _ full in
     sym (choice_on _ _ _ known.0 ∙ known.2)
 
 pub overflow_sub-result-then-head-2 : goal.overflow_sub-result-then-head-2
@@ -49,7 +49,7 @@ returns-then-head-2 c =
         Header false (w - bare_header_of 0) w) =
         bare_header c.args.head c.if-head-2.true in
 
-    let known = header_known _ false _ bare
+    let known = header_known _ false _ bare in
     sym (choice_on _ _ _ known.0 ∙ known.2)
 
 pub returns : goal.returns

@@ -47,16 +47,16 @@ write_turns-requires c =
     let same = length-set s.args.out.now 0 (header_of (length s.args.cells.now)) in
     record {
       is_sound = s.requires.is_sound;
-      long = omega (arith, s.requires.long, same, c.write_rows.auto.1.0);
+      long = omega (arith, s.requires.long, same, c.write_rows.auto.out);
     }
 
 pub write_counts-requires : goal.write_counts-requires
 write_counts-requires c =
-    let kept-turns : length c.write_turns.new.1.0
+    let kept-turns : length c.write_turns.new.out
         ≡ length c.args.out.now =
         let s = c in
-        c.write_turns.auto.1.0
-        ∙ c.write_rows.auto.1.0
+        c.write_turns.auto.out
+        ∙ c.write_rows.auto.out
         ∙ length-set s.args.out.now 0 (header_of (length s.args.cells.now)) in
 
     let t = c in
@@ -65,15 +65,15 @@ write_counts-requires c =
 
 pub shape_of-out : goal.shape_of-out
 shape_of-out c =
-    let kept-turns : length c.write_turns.new.1.0
+    let kept-turns : length c.write_turns.new.out
         ≡ length c.args.out.now =
         let s = c in
-        c.write_turns.auto.1.0
-        ∙ c.write_rows.auto.1.0
+        c.write_turns.auto.out
+        ∙ c.write_rows.auto.out
         ∙ length-set s.args.out.now 0 (header_of (length s.args.cells.now)) in
 
     let w = c in
-    w.write_counts.auto.1.0 ∙ kept-turns
+    w.write_counts.auto.out ∙ kept-turns
 
 pub returns : goal.returns
 returns c =

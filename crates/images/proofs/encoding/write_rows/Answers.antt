@@ -32,10 +32,11 @@ write_row-requires c =
     let s = c in
     let t = rows_of s.args.cells.now in
     let at = c.loop-q in
-    let l : at.q < length t = omega (arith, at.invariant.2, c.loop-q-test.true) in (
-      subst Packable (sym c.row_at.ensures) (packable t s.requires.is_sound at.q l),
-      (search rules, omega (arith, s.requires.long, at.invariant.3)),
-    )
+    let l : at.q < length t = omega (arith, at.invariant.2, c.loop-q-test.true) in
+    record {
+      packable = subst Packable (sym c.row_at.ensures) (packable t s.requires.is_sound at.q l);
+      q_bound = (search rules, omega (arith, s.requires.long, at.invariant.3));
+    }
 
 pub loop-q-preserved : goal.loop-q-preserved
 loop-q-preserved c =
@@ -52,7 +53,7 @@ loop-q-preserved c =
     let next =
     begun_more o 1 (rows_part t) (omega (arith, s.requires.long)) (4 * q) (4 * (q + 1)) (row_place q)
     (row_words_of q (row t q)) 0 (omega arith) (omega arith) (omega arith) (λ k h. row_words t q k l h) in
-    (search rules, at.invariant.1, at.invariant.2, wrote.auto.0 ∙ at.invariant.3, words ∙ next)
+    (search rules, at.invariant.1, at.invariant.2, wrote.auto.out ∙ at.invariant.3, words ∙ next)
 
 pub shape_of-out : goal.shape_of-out
 shape_of-out c = c.loop-q.invariant.3
