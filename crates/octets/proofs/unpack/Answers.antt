@@ -1,12 +1,12 @@
 -- `octets::unpack` meets its contract. The invariant of its loop: the first i words stand at the start.
 -- Assumes nothing.
 use native.Mathlib.Omega.{arith}
-use mathlib.Core.Path.{◌≡◌, refl, ap, ◌∙◌}
+use mathlib.Core.Path.{refl, ap, ◌∙◌}
 use mathlib.Core.List.{List}
-use Prim.Native.Nat.{ℕ, ◌+◌, ◌-◌, ◌≤◌}
-use lib.ListN.{length, set, length-set}
+use Prim.Native.Nat.{ℕ, ◌+◌}
+use lib.ListN.{set, length-set}
 use Rattle.machine.specs.Bytes.{words_in}
-use Rattle.counting.proofs.PlacingLaws.{begun, begun_start, begun-next, begun_end}
+use Rattle.counting.proofs.PlacingLaws.{begun_start, begun-next, begun_end}
 use Rattle.octets.proofs.ByteLaws.{length_words_in}
 use Rattle.octets.proofs.unpack.Goals as goal
 

@@ -1,6 +1,5 @@
 -- `octets::word_at` meets its contract. Assumes nothing.
 use native.Mathlib.Omega.{arith}
-use borrow.Author.Rules.{rules}
 use mathlib.Core.Path.{◌∙◌}
 use Rattle.octets.proofs.ByteLaws.{read_is}
 use Rattle.octets.proofs.word_at.Goals as goal

@@ -7,7 +7,6 @@ use native.Mathlib.Omega.{arith}
 use Rattle.machine.specs.Images.{slot, EST, LIS, AHEAD, row_place, row_slots, first_refusal}
 use Rattle.machine.specs.declared.Found.{Found}
 use Rattle.images.proofs.SlotLaws.{stop_at, pass_at}
-use borrow.Author.Rules.{rules}
 use Rattle.images.proofs.checks.row_refusal.Goals as goal
 
 -- no words are left

@@ -3,7 +3,6 @@ use mathlib.Core.Path.{sym, ◌∙◌}
 use native.Mathlib.Omega.{arith}
 use Rattle.counting.proofs.TestLaws.{choice_on, choice_off}
 use Rattle.images.proofs.SlotLaws.{set-slot}
-use borrow.Author.Rules.{rules}
 use Rattle.images.proofs.checks.set_refusal.Goals as goal
 
 pub returns-then-not-w-kind : goal.returns-then-not-w-kind

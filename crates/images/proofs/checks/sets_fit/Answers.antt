@@ -1,7 +1,6 @@
 -- `images::checks::sets_fit` meets its contract: the tests are those of the law. Assumes nothing.
 use native.Mathlib.Omega.{arith}
 use Rattle.images.proofs.SlotLaws.{sets_fit}
-use borrow.Author.Rules.{rules}
 use Rattle.images.proofs.checks.sets_fit.Goals as goal
 
 pub returns : goal.returns

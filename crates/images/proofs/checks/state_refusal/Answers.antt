@@ -9,7 +9,6 @@ use Rattle.machine.specs.Images.{code_in, location_in, level_in}
 use Rattle.image_theorems.proofs.Locations.{known_at}
 use Rattle.counting.proofs.TestLaws.{choice_on, choice_off}
 use Rattle.images.proofs.SlotLaws.{state_slot}
-use borrow.Author.Rules.{rules}
 use Rattle.images.proofs.checks.state_refusal.Goals as goal
 
 pub returns-then-not-w-q : goal.returns-then-not-w-q

@@ -3,7 +3,6 @@ use mathlib.Core.Path.{sym, ◌∙◌}
 use native.Mathlib.Omega.{arith}
 use Rattle.counting.proofs.TestLaws.{choice_on, choice_off}
 use Rattle.images.proofs.SlotLaws.{turn_slot}
-use borrow.Author.Rules.{rules}
 use Rattle.images.proofs.checks.turn_refusal.Goals as goal
 
 pub returns-then-not-w-k : goal.returns-then-not-w-k

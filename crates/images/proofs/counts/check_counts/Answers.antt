@@ -1,10 +1,7 @@
 -- `images::counts::check_counts` meets its contract. The invariant: what is left of the processes' words decides.
 -- Assumes nothing.
-use Prim.Native.Nat.{◌-◌, ◌≤◌}
 use mathlib.Core.Path.{◌≡◌, sym, ap, ◌∙◌}
 use native.Mathlib.Omega.{arith}
-use lib.ListN.{drop}
-use Rattle.machine.specs.Images.{bare_length, pass_slots, first_refusal}
 use Rattle.images.proofs.SlotLaws.{none_found}
 use Rattle.images.proofs.CountLaws.{fromPasses, counts_start, counts-stop, counts-on, counts_end}
 use borrow.Author.Rules.{rules}

@@ -1,13 +1,10 @@
 -- `images::counts::check_counts` meets its contract. The invariant: what is left of the processes' words decides.
 -- Assumes nothing.
 use Prim.Native.Nat.{◌-◌, ◌≤◌}
-use mathlib.Core.Path.{◌≡◌, sym, ap, ◌∙◌}
-use native.Mathlib.Omega.{arith}
+use mathlib.Core.Path.{◌≡◌}
 use lib.ListN.{drop}
 use Rattle.machine.specs.Images.{bare_length, pass_slots, first_refusal}
-use Rattle.images.proofs.SlotLaws.{none_found}
-use Rattle.images.proofs.CountLaws.{fromPasses, counts_start, counts-stop, counts-on, counts_end}
-use borrow.Author.Rules.{rules}
+use Rattle.images.proofs.CountLaws.{fromPasses}
 use Rattle.images.proofs.counts.check_counts.Given as goal
 
 abbrev pub invariant-loop-q : goal.invariant-loop-q

@@ -4,7 +4,6 @@ use mathlib.Core.Path.{sym, ◌∙◌}
 use native.Mathlib.Omega.{arith}
 use Rattle.counting.proofs.TestLaws.{choice_on, choice_off}
 use Rattle.images.proofs.SlotLaws.{count-slot}
-use borrow.Author.Rules.{rules}
 use Rattle.images.proofs.counts.count_refusal.Goals as goal
 
 pub returns-then-not-w-upper_half : goal.returns-then-not-w-upper_half

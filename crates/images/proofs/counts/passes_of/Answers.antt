@@ -1,6 +1,6 @@
 -- `images::counts::passes_of` meets its contract. The invariant: the first r counts are put, the others 0, and no digit
 -- of an upper half is joined just where the words so far have theirs. Assumes nothing.
-use Prim.Native.Nat.{ℕ, ◌+◌, ◌-◌, ◌*◌, ◌/◌, ◌%◌, ◌≤◌, ◌<◌}
+use Prim.Native.Nat.{ℕ, ◌+◌, ◌*◌, ◌/◌, ◌%◌, ◌≤◌}
 use mathlib.Core.Path.{◌≡◌, refl, sym, ap, ◌∙◌}
 use mathlib.Core.Bool.{Bool, cond, ◌&&◌, false≢true}
 use native.Mathlib.Numerals.{add-one}
@@ -10,8 +10,8 @@ use lib.Dec.{eqb}
 use lib.ListN.{length, get_or}
 use borrow.Author.Tests.{not-true, not-false}
 use Rattle.counting.specs.Ranges.{every}
-use Rattle.counting.proofs.RangeLaws.{filled, filled_start, filled_next}
-use Rattle.machine.specs.Images.{PASSES, bare_length, image_length, pass_place}
+use Rattle.counting.proofs.RangeLaws.{filled_start, filled_next}
+use Rattle.machine.specs.Images.{PASSES, bare_length, image_length}
 use Rattle.image_theorems.proofs.RowWords.{readAt}
 use Rattle.images.proofs.CountLaws.{passes_within, image_low, upper_joined, fit_none}
 use Rattle.images.proofs.CountLaws.{read_count, read_all, read_bare}

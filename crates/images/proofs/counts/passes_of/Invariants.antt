@@ -1,21 +1,13 @@
 -- `images::counts::passes_of` meets its contract. The invariant: the first r counts are put, the others 0, and no digit
 -- of an upper half is joined just where the words so far have theirs. Assumes nothing.
-use Prim.Native.Nat.{ℕ, ◌+◌, ◌-◌, ◌*◌, ◌/◌, ◌%◌, ◌≤◌, ◌<◌}
-use mathlib.Core.Path.{◌≡◌, refl, sym, ap, ◌∙◌}
-use mathlib.Core.Bool.{Bool, cond, ◌&&◌, false≢true}
-use native.Mathlib.Numerals.{add-one}
-use native.Mathlib.Omega.{arith}
-use lib.Bits.{bit_or, bit_xor}
+use Prim.Native.Nat.{◌+◌, ◌-◌, ◌*◌, ◌/◌, ◌≤◌, ◌<◌}
+use mathlib.Core.Path.{◌≡◌}
 use lib.Dec.{eqb}
 use lib.ListN.{length, get_or}
-use borrow.Author.Tests.{not-true, not-false}
 use Rattle.counting.specs.Ranges.{every}
-use Rattle.counting.proofs.RangeLaws.{filled, filled_start, filled_next}
-use Rattle.machine.specs.Images.{PASSES, bare_length, image_length, pass_place}
+use Rattle.counting.proofs.RangeLaws.{filled}
+use Rattle.machine.specs.Images.{PASSES, pass_place}
 use Rattle.image_theorems.proofs.RowWords.{readAt}
-use Rattle.images.proofs.CountLaws.{passes_within, image_low, upper_joined, fit_none}
-use Rattle.images.proofs.CountLaws.{read_count, read_all, read_bare}
-use borrow.Author.Rules.{rules}
 use Rattle.images.proofs.counts.passes_of.Given as goal
 
 abbrev pub invariant-loop-r : goal.invariant-loop-r

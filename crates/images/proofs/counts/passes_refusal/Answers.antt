@@ -1,11 +1,9 @@
 -- `images::counts::passes_refusal` meets its contract. The invariant: what is left of the words decides. Assumes
 -- nothing.
-use Prim.Native.Nat.{ℕ, ◌+◌, ◌-◌, ◌≤◌}
+use Prim.Native.Nat.{ℕ, ◌+◌}
 use mathlib.Core.Path.{◌≡◌, sym, ap, ◌∙◌}
 use native.Mathlib.Omega.{arith}
-use lib.ListN.{length}
 use Rattle.machine.specs.Images.{pass_place}
-use Rattle.images.specs.Inner.{passes_refusal}
 use Rattle.images.proofs.CountLaws.{passes_within, image_low, fromCount, passes_start, passes-stop, passes_on}
 use Rattle.images.proofs.CountLaws.{passes_end}
 use borrow.Author.Rules.{rules}

@@ -1,6 +1,6 @@
 -- `images::counts::write_counts` meets its contract. The invariant: the words of the first q processes are put. Assumes
 -- nothing.
-use Prim.Native.Nat.{ℕ, ◌-◌, ◌≤◌}
+use Prim.Native.Nat.{ℕ, ◌≤◌}
 use mathlib.Core.Path.{◌≡◌, refl, sym, ◌∙◌, subst}
 use native.Mathlib.Omega.{arith}
 use lib.ListN.{length}
@@ -11,7 +11,7 @@ use Rattle.cells.specs.View.{rows_of}
 use Rattle.cells.proofs.ViewLaws.{rows_length}
 use Rattle.images.specs.Inner.{pass_words}
 use Rattle.images.proofs.CountLaws.{passes_within}
-use Rattle.images.proofs.WriteLaws.{passesPut, passes_start, passes-next, passes_end}
+use Rattle.images.proofs.WriteLaws.{passes_start, passes-next, passes_end}
 use borrow.Author.Rules.{rules}
 use Rattle.images.proofs.counts.write_counts.Goals as goal
 

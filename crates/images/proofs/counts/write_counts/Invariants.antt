@@ -1,18 +1,11 @@
 -- `images::counts::write_counts` meets its contract. The invariant: the words of the first q processes are put. Assumes
 -- nothing.
-use Prim.Native.Nat.{ℕ, ◌-◌, ◌≤◌}
-use mathlib.Core.Path.{◌≡◌, refl, sym, ◌∙◌, subst}
-use native.Mathlib.Omega.{arith}
+use Prim.Native.Nat.{◌-◌, ◌≤◌}
+use mathlib.Core.Path.{◌≡◌}
 use lib.ListN.{length}
-use Rattle.counting.specs.Placing.{placed}
-use Rattle.machine.specs.Images.{image_length, pass_place}
-use Rattle.machine.proofs.SoundRows.{sound_rows}
+use Rattle.machine.specs.Images.{image_length}
 use Rattle.cells.specs.View.{rows_of}
-use Rattle.cells.proofs.ViewLaws.{rows_length}
-use Rattle.images.specs.Inner.{pass_words}
-use Rattle.images.proofs.CountLaws.{passes_within}
-use Rattle.images.proofs.WriteLaws.{passesPut, passes_start, passes-next, passes_end}
-use borrow.Author.Rules.{rules}
+use Rattle.images.proofs.WriteLaws.{passesPut}
 use Rattle.images.proofs.counts.write_counts.Given as goal
 
 abbrev pub invariant-loop-q : goal.invariant-loop-q

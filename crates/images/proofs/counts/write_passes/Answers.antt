@@ -1,13 +1,12 @@
 -- `images::counts::write_passes` meets its contract. The invariant: the words over the first r processes are put.
 -- Assumes nothing.
-use Prim.Native.Nat.{ℕ, ◌+◌, ◌-◌, ◌*◌, ◌≤◌, ◌<◌}
+use Prim.Native.Nat.{ℕ, ◌+◌, ◌≤◌}
 use mathlib.Core.Path.{◌≡◌, refl, sym, ap, ◌∙◌}
 use mathlib.Core.List.{List}
 use native.Mathlib.Omega.{arith}
-use lib.ListN.{length, get_or, set, length-set}
+use lib.ListN.{get_or, set, length-set}
 use Rattle.counting.specs.Placing.{placed}
-use Rattle.counting.proofs.PlacingLaws.{begun, begun_start, begun-next, begun_end}
-use Rattle.machine.specs.Images.{PASSES, pass_place}
+use Rattle.counting.proofs.PlacingLaws.{begun_start, begun-next, begun_end}
 use Rattle.images.specs.Inner.{pass_word, pass_words}
 use Rattle.images.proofs.CountLaws.{passes_within, image_low, length-pass_words, pass_word_lem}
 use borrow.Author.Rules.{rules}

@@ -1,16 +1,11 @@
 -- `images::counts::write_passes` meets its contract. The invariant: the words over the first r processes are put.
 -- Assumes nothing.
-use Prim.Native.Nat.{ℕ, ◌+◌, ◌-◌, ◌*◌, ◌≤◌, ◌<◌}
-use mathlib.Core.Path.{◌≡◌, refl, sym, ap, ◌∙◌}
-use mathlib.Core.List.{List}
-use native.Mathlib.Omega.{arith}
-use lib.ListN.{length, get_or, set, length-set}
-use Rattle.counting.specs.Placing.{placed}
-use Rattle.counting.proofs.PlacingLaws.{begun, begun_start, begun-next, begun_end}
+use Prim.Native.Nat.{◌+◌, ◌-◌, ◌*◌, ◌≤◌, ◌<◌}
+use mathlib.Core.Path.{◌≡◌}
+use lib.ListN.{length}
+use Rattle.counting.proofs.PlacingLaws.{begun}
 use Rattle.machine.specs.Images.{PASSES, pass_place}
-use Rattle.images.specs.Inner.{pass_word, pass_words}
-use Rattle.images.proofs.CountLaws.{passes_within, image_low, length-pass_words, pass_word_lem}
-use borrow.Author.Rules.{rules}
+use Rattle.images.specs.Inner.{pass_words}
 use Rattle.images.proofs.counts.write_passes.Given as goal
 
 abbrev pub invariant-loop-r : goal.invariant-loop-r

@@ -1,12 +1,10 @@
 -- `images::decoding::check_turns` meets its contract. The invariant: the words from turn[k] on decide the refusal.
 -- Assumes nothing.
 use Prim.Native.Nat.{◌-◌, ◌≤◌}
-use mathlib.Core.Path.{◌≡◌, refl, sym, ap, ◌∙◌}
-use native.Mathlib.Omega.{arith}
+use mathlib.Core.Path.{◌≡◌}
 use lib.ListN.{drop}
 use Rattle.machine.specs.Images.{turn_place, turn_slots, first_refusal}
-use Rattle.images.proofs.WalkLaws.{fromTurn, turns-stop, turns-on, turns_end}
-use borrow.Author.Rules.{rules}
+use Rattle.images.proofs.WalkLaws.{fromTurn}
 use Rattle.images.proofs.decoding.check_turns.Given as goal
 
 abbrev pub invariant-loop-k : goal.invariant-loop-k

@@ -10,7 +10,6 @@ use Rattle.image_theorems.proofs.Reading.{refused_header, refused_length, refuse
 use Rattle.images.proofs.SlotLaws.{none_found}
 use Rattle.images.proofs.CountLaws.{either_low}
 use Rattle.images.proofs.ImageLaws.{Header, header_none, header_some, empty_header, into_refused, into_accepted}
-use borrow.Author.Rules.{rules}
 use Rattle.images.proofs.decoding.read_cells.Goals as goal
 
 pub returns-then-len-eq0 : goal.returns-then-len-eq0

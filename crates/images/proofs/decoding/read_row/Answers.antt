@@ -10,7 +10,6 @@ use Rattle.images.specs.Inner.{Long, row_of_words}
 use Rattle.images.proofs.SlotLaws.{none_found}
 use Rattle.images.proofs.WalkLaws.{row_found, row_passes}
 use Rattle.images.proofs.CountLaws.{sized_long}
-use borrow.Author.Rules.{rules}
 use Rattle.images.proofs.decoding.read_row.Goals as goal
 
 pub bounds-words-i : goal.bounds-words-i

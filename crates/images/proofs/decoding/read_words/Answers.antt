@@ -9,7 +9,6 @@ use Rattle.images.specs.Inner.{Long, Counted}
 use Rattle.images.proofs.SlotLaws.{none_found}
 use Rattle.images.proofs.CountLaws.{sized_long, sized_counted, counts_none}
 use Rattle.images.proofs.ImageLaws.{of_all, image_rows, image-turns, image-bare, image-counts}
-use borrow.Author.Rules.{rules}
 use Rattle.images.proofs.decoding.read_words.Goals as goal
 
 pub returns-then-f-ne0 : goal.returns-then-f-ne0

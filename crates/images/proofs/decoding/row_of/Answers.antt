@@ -1,6 +1,5 @@
 -- `images::decoding::row_of` meets its contract: the location is that of its code. Assumes nothing.
 use Rattle.machine.specs.Images.{act_in, bb_in, level_in, set_in}
-use borrow.Author.Rules.{rules}
 use Rattle.images.proofs.decoding.row_of.Goals as goal
 
 pub returns : goal.returns

@@ -6,7 +6,6 @@ use native.Mathlib.Omega.{arith}
 use Rattle.machine.specs.Images.{bare_header_of, header_of, is_header, size_in}
 use Rattle.counting.proofs.TestLaws.{choice_on, choice_off}
 use Rattle.image_theorems.proofs.Headers.{Header, full_header, bare_header, header_known}
-use borrow.Author.Rules.{rules}
 use Rattle.images.proofs.decoding.size_in.Goals as goal
 
 pub overflow_sub-result : goal.overflow_sub-result

@@ -5,7 +5,6 @@ use lib.ListN.{get_or}
 use borrow.Author.Tests.{eq-eqb, ne_eqb}
 use Rattle.machine.specs.Images.{turn_in}
 use Rattle.counting.proofs.TestLaws.{choice_on, choice_off}
-use borrow.Author.Rules.{rules}
 use Rattle.images.proofs.decoding.turn_of.Goals as goal
 
 pub returns-then-q-eq0 : goal.returns-then-q-eq0

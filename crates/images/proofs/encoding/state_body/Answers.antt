@@ -2,7 +2,6 @@
 use Prim.Native.Nat.{ℕ, ◌+◌, ◌*◌}
 use mathlib.Core.Path.{ap}
 use Rattle.machine.specs.Images.{body_of}
-use borrow.Author.Rules.{rules}
 use Rattle.images.proofs.encoding.state_body.Goals as goal
 
 pub returns : goal.returns

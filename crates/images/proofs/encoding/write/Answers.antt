@@ -9,7 +9,6 @@ use Rattle.machine.proofs.SoundRows.{sound_rows}
 use Rattle.cells.specs.View.{rows_of}
 use Rattle.cells.proofs.ViewLaws.{rows_length}
 use Rattle.images.proofs.WriteLaws.{written-sound, written-few, written-image}
-use borrow.Author.Rules.{rules}
 use Rattle.images.proofs.encoding.write.Goals as goal
 
 pub returns-then-refusal-ne0 : goal.returns-then-refusal-ne0

@@ -12,7 +12,6 @@ use Rattle.cells.specs.View.{rows_of}
 use Rattle.cells.proofs.ViewLaws.{rows_length}
 use Rattle.images.specs.Inner.{rows_part, turns_part, passes_part}
 use Rattle.images.proofs.WriteLaws.{image-placed}
-use borrow.Author.Rules.{rules}
 use Rattle.images.proofs.encoding.write_cells.Goals as goal
 
 pub overflow_cast-out : goal.overflow_cast-out

@@ -7,7 +7,6 @@ use lib.ListN.{length-set}
 use Rattle.counting.specs.Placing.{placed}
 use Rattle.counting.proofs.PlacingLaws.{placed_four}
 use Rattle.machine.specs.Images.{STATE, body_of}
-use borrow.Author.Rules.{rules}
 use Rattle.images.proofs.encoding.write_row.Goals as goal
 
 pub bounds-out-i-2 : goal.bounds-out-i-2

@@ -1,11 +1,11 @@
 -- `images::encoding::write_rows` meets its contract. The invariant: the words of the first q rows are put. Assumes
 -- nothing.
-use Prim.Native.Nat.{◌+◌, ◌-◌, ◌*◌, ◌≤◌, ◌<◌}
-use mathlib.Core.Path.{◌≡◌, refl, sym, ◌∙◌, subst}
+use Prim.Native.Nat.{◌+◌, ◌*◌, ◌<◌}
+use mathlib.Core.Path.{refl, sym, ◌∙◌, subst}
 use native.Mathlib.Omega.{arith}
 use lib.ListN.{length}
 use Rattle.counting.specs.Placing.{placed}
-use Rattle.counting.proofs.PlacingLaws.{begun, begun_start, begun_more, begun_end}
+use Rattle.counting.proofs.PlacingLaws.{begun_start, begun_more, begun_end}
 use Rattle.machine.specs.Tables.{row}
 use Rattle.machine.specs.Images.{row_place}
 use Rattle.machine.proofs.SoundRows.{sound_rows}

@@ -1,10 +1,10 @@
 -- `images::encoding::write_turns` meets its contract. The invariant: the words of the turn cells up to turn[k] are put.
 -- Assumes nothing.
-use Prim.Native.Nat.{◌+◌, ◌-◌, ◌≤◌, ◌<◌}
-use mathlib.Core.Path.{◌≡◌, refl, sym, ap, ◌∙◌}
+use Prim.Native.Nat.{◌+◌, ◌-◌, ◌<◌}
+use mathlib.Core.Path.{refl, sym, ap, ◌∙◌}
 use native.Mathlib.Omega.{arith}
 use lib.ListN.{length, set, length-set}
-use Rattle.counting.proofs.PlacingLaws.{begun, begun_start, begun-next, begun_end}
+use Rattle.counting.proofs.PlacingLaws.{begun_start, begun-next, begun_end}
 use Rattle.machine.specs.Images.{TURN, turn_place, body_of}
 use Rattle.machine.specs.declared.Row.{Row}
 use Rattle.machine.proofs.SoundRows.{sound_rows}

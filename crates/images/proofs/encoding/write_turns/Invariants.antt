@@ -1,18 +1,12 @@
 -- `images::encoding::write_turns` meets its contract. The invariant: the words of the turn cells up to turn[k] are put.
 -- Assumes nothing.
-use Prim.Native.Nat.{◌+◌, ◌-◌, ◌≤◌, ◌<◌}
-use mathlib.Core.Path.{◌≡◌, refl, sym, ap, ◌∙◌}
-use native.Mathlib.Omega.{arith}
-use lib.ListN.{length, set, length-set}
-use Rattle.counting.proofs.PlacingLaws.{begun, begun_start, begun-next, begun_end}
-use Rattle.machine.specs.Images.{TURN, turn_place, body_of}
-use Rattle.machine.specs.declared.Row.{Row}
-use Rattle.machine.proofs.SoundRows.{sound_rows}
+use Prim.Native.Nat.{◌-◌, ◌≤◌}
+use mathlib.Core.Path.{◌≡◌}
+use lib.ListN.{length}
+use Rattle.counting.proofs.PlacingLaws.{begun}
+use Rattle.machine.specs.Images.{turn_place}
 use Rattle.cells.specs.View.{rows_of}
-use Rattle.cells.proofs.ViewLaws.{rows_length}
-use Rattle.images.specs.Inner.{word_for, turns_part}
-use Rattle.images.proofs.WriteLaws.{length-turns_part, turn_word}
-use borrow.Author.Rules.{rules}
+use Rattle.images.specs.Inner.{turns_part}
 use Rattle.images.proofs.encoding.write_turns.Given as goal
 
 abbrev pub invariant-loop-k : goal.invariant-loop-k

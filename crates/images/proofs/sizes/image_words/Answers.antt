@@ -2,7 +2,6 @@
 use Prim.Native.Nat.{ℕ, ◌*◌, ◌^◌, ◌≤◌, ◌<◌}
 use native.Mathlib.Nat.{mul-le-mul}
 use native.Mathlib.Omega.{arith}
-use borrow.Author.Rules.{rules}
 use Rattle.images.proofs.sizes.image_words.Goals as goal
 
 square : (n : ℕ) → n < 2 ^ 31 → n * n ≤ 2 ^ 31 * 2 ^ 31

@@ -5,7 +5,6 @@ use mathlib.Core.Bool.{Bool, cond}
 use native.Mathlib.Omega.{arith}
 use borrow.Author.Tests.{le-leb, lt-leb}
 use Rattle.machine.specs.Images.{bare_length, image_length, bare_header_of, header_of, length_in}
-use borrow.Author.Rules.{rules}
 use Rattle.images.proofs.sizes.words_by.Goals as goal
 
 -- the words of an image by whether its first word says that passes follow

@@ -1,12 +1,12 @@
 -- `images::tables::new_table` meets its contract. The invariant: the first q rows are those of the cells, the others
 -- blank.
 -- Assumes nothing.
-use Prim.Native.Nat.{◌+◌, ◌-◌, ◌≤◌}
-use mathlib.Core.Path.{◌≡◌, refl, sym, ◌∙◌}
+use Prim.Native.Nat.{◌+◌}
+use mathlib.Core.Path.{refl, sym, ◌∙◌}
 use native.Mathlib.Omega.{arith}
 use lib.ListN.{take, set, replicate}
 use lib.Seq.{length-take-le}
-use Rattle.counting.proofs.PlacingLaws.{begun, begun_start, begun-next, begun_end}
+use Rattle.counting.proofs.PlacingLaws.{begun_start, begun-next, begun_end}
 use Rattle.machine.specs.Rows.{blank}
 use Rattle.cells.specs.View.{rows_of}
 use Rattle.cells.proofs.ViewLaws.{rows_length}

@@ -1,17 +1,12 @@
 -- `images::tables::new_table` meets its contract. The invariant: the first q rows are those of the cells, the others
 -- blank.
 -- Assumes nothing.
-use Prim.Native.Nat.{◌+◌, ◌-◌, ◌≤◌}
-use mathlib.Core.Path.{◌≡◌, refl, sym, ◌∙◌}
-use native.Mathlib.Omega.{arith}
-use lib.ListN.{take, set, replicate}
-use lib.Seq.{length-take-le}
-use Rattle.counting.proofs.PlacingLaws.{begun, begun_start, begun-next, begun_end}
+use Prim.Native.Nat.{◌-◌, ◌≤◌}
+use mathlib.Core.Path.{◌≡◌}
+use lib.ListN.{take, replicate}
+use Rattle.counting.proofs.PlacingLaws.{begun}
 use Rattle.machine.specs.Rows.{blank}
 use Rattle.cells.specs.View.{rows_of}
-use Rattle.cells.proofs.ViewLaws.{rows_length}
-use Rattle.cells.proofs.FreshLaws.{pad_handed}
-use Rattle.images.proofs.TableLaws.{row_taken}
 use Rattle.images.proofs.tables.new_table.Given as goal
 
 abbrev pub invariant-loop-q : goal.invariant-loop-q
