@@ -22,44 +22,43 @@ pub returns-then-sets_fit : goal.returns-then-sets_fit
 unfolding row_slots
 returns-then-sets_fit c =
     let fromState : Found =
-        let x = c.args in
-        first_refusal x.n (row_place x.q) (row_slots x.q 1) (x.a ∷ x.b ∷ x.c ∷ x.d ∷ []) in
+    let x = c.args in
+    first_refusal x.n (row_place x.q) (row_slots x.q 1) (x.a ∷ x.b ∷ x.c ∷ x.d ∷ []) in
     let fromEst : Found =
-        let x = c.args in
-        first_refusal x.n (suc (row_place x.q)) (slot EST x.q ∷ slot LIS x.q ∷ slot AHEAD x.q ∷ [])
-        (x.b ∷ x.c ∷ x.d ∷ []) in
+    let x = c.args in
+    first_refusal x.n (suc (row_place x.q)) (slot EST x.q ∷ slot LIS x.q ∷ slot AHEAD x.q ∷ [])
+    (x.b ∷ x.c ∷ x.d ∷ []) in
     let fromLis : Found =
-        let x = c.args in
-        first_refusal x.n (suc (suc (row_place x.q))) (slot LIS x.q ∷ slot AHEAD x.q ∷ []) (x.c ∷ x.d ∷ []) in
+    let x = c.args in
+    first_refusal x.n (suc (suc (row_place x.q))) (slot LIS x.q ∷ slot AHEAD x.q ∷ []) (x.c ∷ x.d ∷ []) in
     let fromAhead : Found =
-        let x = c.args in
-        first_refusal x.n (suc (suc (suc (row_place x.q)))) (slot AHEAD x.q ∷ []) (x.d ∷ []) in
+    let x = c.args in
+    first_refusal x.n (suc (suc (suc (row_place x.q)))) (slot AHEAD x.q ∷ []) (x.d ∷ []) in
     let to-est : fromState ≡ fromEst =
-        pass_at _ _ _ _ _ _ _ c.state_refusal-first.ensures c.if-first-ne0.false in
+    pass_at _ _ _ _ _ _ _ c.state_refusal-first.ensures c.if-first-ne0.false in
     let lis-next : (let s = c in
-        fromState ≡ fromLis) =
-        to-est ∙ pass_at _ _ 0 _ _ _ _ (sym (c.sets_fit.ensures.est c.if-sets_fit.true)) refl in
+    fromState ≡ fromLis) =
+    to-est ∙ pass_at _ _ 0 _ _ _ _ (sym (c.sets_fit.ensures.est c.if-sets_fit.true)) refl in
     let ahead-next : (let s = c in
-        fromState ≡ fromAhead) =
-        lis-next ∙ pass_at _ _ 0 _ _ _ _ (sym (c.sets_fit.ensures.lis c.if-sets_fit.true)) refl in
+    fromState ≡ fromAhead) =
+    lis-next ∙ pass_at _ _ 0 _ _ _ _ (sym (c.sets_fit.ensures.lis c.if-sets_fit.true)) refl in
     let none-next : (let s = c in
-        fromState ≡ first_refusal s.args.n (suc (suc (suc (suc (row_place s.args.q))))) [] []) =
-        ahead-next ∙ pass_at _ _ 0 _ _ _ _ (sym (c.sets_fit.ensures.ahead c.if-sets_fit.true)) refl in
- sym (none-next ∙ nothing_left _ _)
+    fromState ≡ first_refusal s.args.n (suc (suc (suc (suc (row_place s.args.q))))) [] []) =
+    ahead-next ∙ pass_at _ _ 0 _ _ _ _ (sym (c.sets_fit.ensures.ahead c.if-sets_fit.true)) refl in
+    sym (none-next ∙ nothing_left _ _)
 
 pub returns-then-second-ne0 : goal.returns-then-second-ne0
 unfolding row_slots
 returns-then-second-ne0 c =
     let fromState : Found =
-        let x = c.args in
-        first_refusal x.n (row_place x.q) (row_slots x.q 1) (x.a ∷ x.b ∷ x.c ∷ x.d ∷ []) in
+    let x = c.args in
+    first_refusal x.n (row_place x.q) (row_slots x.q 1) (x.a ∷ x.b ∷ x.c ∷ x.d ∷ []) in
     let fromEst : Found =
-        let x = c.args in
-        first_refusal x.n (suc (row_place x.q)) (slot EST x.q ∷ slot LIS x.q ∷ slot AHEAD x.q ∷ [])
-        (x.b ∷ x.c ∷ x.d ∷ []) in
+    let x = c.args in
+    first_refusal x.n (suc (row_place x.q)) (slot EST x.q ∷ slot LIS x.q ∷ slot AHEAD x.q ∷ [])
+    (x.b ∷ x.c ∷ x.d ∷ []) in
     let to-est : fromState ≡ fromEst =
-        pass_at _ _ _ _ _ _ _ c.state_refusal-first.ensures c.if-first-ne0.false in
-
+    pass_at _ _ _ _ _ _ _ c.state_refusal-first.ensures c.if-first-ne0.false in
     sym
     (to-est
     ∙ stop_at _ _ _ _ _ _ _ _ (omega arith) c.set_refusal-second.ensures c.if-second-ne0.true)
@@ -68,22 +67,21 @@ pub returns-then-third-ne0 : goal.returns-then-third-ne0
 unfolding row_slots
 returns-then-third-ne0 c =
     let fromState : Found =
-        let x = c.args in
-        first_refusal x.n (row_place x.q) (row_slots x.q 1) (x.a ∷ x.b ∷ x.c ∷ x.d ∷ []) in
+    let x = c.args in
+    first_refusal x.n (row_place x.q) (row_slots x.q 1) (x.a ∷ x.b ∷ x.c ∷ x.d ∷ []) in
     let fromEst : Found =
-        let x = c.args in
-        first_refusal x.n (suc (row_place x.q)) (slot EST x.q ∷ slot LIS x.q ∷ slot AHEAD x.q ∷ [])
-        (x.b ∷ x.c ∷ x.d ∷ []) in
+    let x = c.args in
+    first_refusal x.n (suc (row_place x.q)) (slot EST x.q ∷ slot LIS x.q ∷ slot AHEAD x.q ∷ [])
+    (x.b ∷ x.c ∷ x.d ∷ []) in
     let fromLis : Found =
-        let x = c.args in
-        first_refusal x.n (suc (suc (row_place x.q))) (slot LIS x.q ∷ slot AHEAD x.q ∷ []) (x.c ∷ x.d ∷ []) in
+    let x = c.args in
+    first_refusal x.n (suc (suc (row_place x.q))) (slot LIS x.q ∷ slot AHEAD x.q ∷ []) (x.c ∷ x.d ∷ []) in
     let to-est : fromState ≡ fromEst =
-        pass_at _ _ _ _ _ _ _ c.state_refusal-first.ensures c.if-first-ne0.false in
+    pass_at _ _ _ _ _ _ _ c.state_refusal-first.ensures c.if-first-ne0.false in
     let to-lis : (let s = c in
-        fromState ≡ fromLis) =
-        to-est
-        ∙ pass_at _ _ _ _ _ _ _ c.set_refusal-second.ensures c.if-second-ne0.false in
-
+    fromState ≡ fromLis) =
+    to-est
+    ∙ pass_at _ _ _ _ _ _ _ c.set_refusal-second.ensures c.if-second-ne0.false in
     sym
     (to-lis
     ∙ stop_at _ _ _ _ _ _ _ _ (omega arith) c.set_refusal-third.ensures c.if-third-ne0.true)
@@ -92,28 +90,27 @@ pub returns-then-fourth-ne0 : goal.returns-then-fourth-ne0
 unfolding row_slots
 returns-then-fourth-ne0 c =
     let fromState : Found =
-        let x = c.args in
-        first_refusal x.n (row_place x.q) (row_slots x.q 1) (x.a ∷ x.b ∷ x.c ∷ x.d ∷ []) in
+    let x = c.args in
+    first_refusal x.n (row_place x.q) (row_slots x.q 1) (x.a ∷ x.b ∷ x.c ∷ x.d ∷ []) in
     let fromEst : Found =
-        let x = c.args in
-        first_refusal x.n (suc (row_place x.q)) (slot EST x.q ∷ slot LIS x.q ∷ slot AHEAD x.q ∷ [])
-        (x.b ∷ x.c ∷ x.d ∷ []) in
+    let x = c.args in
+    first_refusal x.n (suc (row_place x.q)) (slot EST x.q ∷ slot LIS x.q ∷ slot AHEAD x.q ∷ [])
+    (x.b ∷ x.c ∷ x.d ∷ []) in
     let fromLis : Found =
-        let x = c.args in
-        first_refusal x.n (suc (suc (row_place x.q))) (slot LIS x.q ∷ slot AHEAD x.q ∷ []) (x.c ∷ x.d ∷ []) in
+    let x = c.args in
+    first_refusal x.n (suc (suc (row_place x.q))) (slot LIS x.q ∷ slot AHEAD x.q ∷ []) (x.c ∷ x.d ∷ []) in
     let fromAhead : Found =
-        let x = c.args in
-        first_refusal x.n (suc (suc (suc (row_place x.q)))) (slot AHEAD x.q ∷ []) (x.d ∷ []) in
+    let x = c.args in
+    first_refusal x.n (suc (suc (suc (row_place x.q)))) (slot AHEAD x.q ∷ []) (x.d ∷ []) in
     let to-est : fromState ≡ fromEst =
-        pass_at _ _ _ _ _ _ _ c.state_refusal-first.ensures c.if-first-ne0.false in
+    pass_at _ _ _ _ _ _ _ c.state_refusal-first.ensures c.if-first-ne0.false in
     let to-lis : (let s = c in
-        fromState ≡ fromLis) =
-        to-est
-        ∙ pass_at _ _ _ _ _ _ _ c.set_refusal-second.ensures c.if-second-ne0.false in
+    fromState ≡ fromLis) =
+    to-est
+    ∙ pass_at _ _ _ _ _ _ _ c.set_refusal-second.ensures c.if-second-ne0.false in
     let to-ahead : (let s = c in
-        fromState ≡ fromAhead) =
-        to-lis ∙ pass_at _ _ _ _ _ _ _ c.set_refusal-third.ensures c.if-third-ne0.false in
-
+    fromState ≡ fromAhead) =
+    to-lis ∙ pass_at _ _ _ _ _ _ _ c.set_refusal-third.ensures c.if-third-ne0.false in
     sym
     (to-ahead
     ∙ stop_at _ _ _ _ _ _ _ _ (omega arith) c.set_refusal-fourth.ensures c.if-fourth-ne0.true)
@@ -122,28 +119,28 @@ pub returns : goal.returns
 unfolding row_slots
 returns c =
     let fromState : Found =
-        let x = c.args in
-        first_refusal x.n (row_place x.q) (row_slots x.q 1) (x.a ∷ x.b ∷ x.c ∷ x.d ∷ []) in
+    let x = c.args in
+    first_refusal x.n (row_place x.q) (row_slots x.q 1) (x.a ∷ x.b ∷ x.c ∷ x.d ∷ []) in
     let fromEst : Found =
-        let x = c.args in
-        first_refusal x.n (suc (row_place x.q)) (slot EST x.q ∷ slot LIS x.q ∷ slot AHEAD x.q ∷ [])
-        (x.b ∷ x.c ∷ x.d ∷ []) in
+    let x = c.args in
+    first_refusal x.n (suc (row_place x.q)) (slot EST x.q ∷ slot LIS x.q ∷ slot AHEAD x.q ∷ [])
+    (x.b ∷ x.c ∷ x.d ∷ []) in
     let fromLis : Found =
-        let x = c.args in
-        first_refusal x.n (suc (suc (row_place x.q))) (slot LIS x.q ∷ slot AHEAD x.q ∷ []) (x.c ∷ x.d ∷ []) in
+    let x = c.args in
+    first_refusal x.n (suc (suc (row_place x.q))) (slot LIS x.q ∷ slot AHEAD x.q ∷ []) (x.c ∷ x.d ∷ []) in
     let fromAhead : Found =
-        let x = c.args in
-        first_refusal x.n (suc (suc (suc (row_place x.q)))) (slot AHEAD x.q ∷ []) (x.d ∷ []) in
+    let x = c.args in
+    first_refusal x.n (suc (suc (suc (row_place x.q)))) (slot AHEAD x.q ∷ []) (x.d ∷ []) in
     let to-est : fromState ≡ fromEst =
-        pass_at _ _ _ _ _ _ _ c.state_refusal-first.ensures c.if-first-ne0.false in
+    pass_at _ _ _ _ _ _ _ c.state_refusal-first.ensures c.if-first-ne0.false in
     let to-lis : (let s = c in
-        fromState ≡ fromLis) =
-        to-est
-        ∙ pass_at _ _ _ _ _ _ _ c.set_refusal-second.ensures c.if-second-ne0.false in
+    fromState ≡ fromLis) =
+    to-est
+    ∙ pass_at _ _ _ _ _ _ _ c.set_refusal-second.ensures c.if-second-ne0.false in
     let to-ahead : (let s = c in
-        fromState ≡ fromAhead) =
-        to-lis ∙ pass_at _ _ _ _ _ _ _ c.set_refusal-third.ensures c.if-third-ne0.false in
+    fromState ≡ fromAhead) =
+    to-lis ∙ pass_at _ _ _ _ _ _ _ c.set_refusal-third.ensures c.if-third-ne0.false in
     let to_end : (let s = c in
-        fromState ≡ first_refusal s.args.n (suc (suc (suc (suc (row_place s.args.q))))) [] []) =
-        to-ahead ∙ pass_at _ _ _ _ _ _ _ c.set_refusal-fourth.ensures c.if-fourth-ne0.false in
- sym (to_end ∙ nothing_left _ _)
+    fromState ≡ first_refusal s.args.n (suc (suc (suc (suc (row_place s.args.q))))) [] []) =
+    to-ahead ∙ pass_at _ _ _ _ _ _ _ c.set_refusal-fourth.ensures c.if-fourth-ne0.false in
+    sym (to_end ∙ nothing_left _ _)

@@ -29,13 +29,12 @@ location_of-requires c =
 pub returns-then-not-location_fits : goal.returns-then-not-location_fits
 returns-then-not-location_fits c =
     let fits : (let a = c.args in
-        c.location_fits.result ≡ level_fits (location_in a.w) (level_in a.w)) =
-        let w = c.args.w in
-        let low = ltb-true _ _ ((and-eq-true_iff _ _).0 (not-false _ c.if-not-code-level.false-raw)).0 in
-        c.location_fits.ensures
-        ∙ ap (λ (l : ℕ). one_of l locations && level_fits l (level_in w)) c.location_of.ensures
-        ∙ ap (λ (b : Bool). b && level_fits (location_in w) (level_in w)) (known_at locations (code_in w) low) in
-
+    c.location_fits.result ≡ level_fits (location_in a.w) (level_in a.w)) =
+    let w = c.args.w in
+    let low = ltb-true _ _ ((and-eq-true_iff _ _).0 (not-false _ c.if-not-code-level.false-raw)).0 in
+    c.location_fits.ensures
+    ∙ ap (λ (l : ℕ). one_of l locations && level_fits l (level_in w)) c.location_of.ensures
+    ∙ ap (λ (b : Bool). b && level_fits (location_in w) (level_in w)) (known_at locations (code_in w) low) in
     let a = c.args in
     sym
     (state_slot a.n a.q a.w (omega arith)
@@ -46,13 +45,12 @@ returns-then-not-location_fits c =
 pub returns : goal.returns
 returns c =
     let fits : (let a = c.args in
-        c.location_fits.result ≡ level_fits (location_in a.w) (level_in a.w)) =
-        let w = c.args.w in
-        let low = ltb-true _ _ ((and-eq-true_iff _ _).0 (not-false _ c.if-not-code-level.false-raw)).0 in
-        c.location_fits.ensures
-        ∙ ap (λ (l : ℕ). one_of l locations && level_fits l (level_in w)) c.location_of.ensures
-        ∙ ap (λ (b : Bool). b && level_fits (location_in w) (level_in w)) (known_at locations (code_in w) low) in
-
+    c.location_fits.result ≡ level_fits (location_in a.w) (level_in a.w)) =
+    let w = c.args.w in
+    let low = ltb-true _ _ ((and-eq-true_iff _ _).0 (not-false _ c.if-not-code-level.false-raw)).0 in
+    c.location_fits.ensures
+    ∙ ap (λ (l : ℕ). one_of l locations && level_fits l (level_in w)) c.location_of.ensures
+    ∙ ap (λ (b : Bool). b && level_fits (location_in w) (level_in w)) (known_at locations (code_in w) low) in
     let a = c.args in
     sym
     (state_slot a.n a.q a.w (omega arith)

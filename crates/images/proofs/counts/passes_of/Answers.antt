@@ -21,9 +21,8 @@ use Rattle.images.proofs.counts.passes_of.Goals as goal
 pub returns-then-not-counted : goal.returns-then-not-counted
 returns-then-not-counted c =
     let sized : (b : Bool) → c.args.counted ≡ b
-        → length c.args.words.now ≡ cond b (image_length c.args.n) (bare_length c.args.n) =
-        λ b e. c.requires.sized.length_is ∙ ap (λ (x : Bool). cond x (image_length c.args.n) (bare_length c.args.n)) e in
-
+    → length c.args.words.now ≡ cond b (image_length c.args.n) (bare_length c.args.n) =
+    λ b e. c.requires.sized.length_is ∙ ap (λ (x : Bool). cond x (image_length c.args.n) (bare_length c.args.n)) e in
     let s = c in
     let a = s.args in
     let bare = not-true _ c.if-not-counted.true-raw in
@@ -38,9 +37,8 @@ pub loop-r-init : goal.loop-r-init
 unfolding every
 loop-r-init c =
     let sized : (b : Bool) → c.args.counted ≡ b
-        → length c.args.words.now ≡ cond b (image_length c.args.n) (bare_length c.args.n) =
-        λ b e. c.requires.sized.length_is ∙ ap (λ (x : Bool). cond x (image_length c.args.n) (bare_length c.args.n)) e in
-
+    → length c.args.words.now ≡ cond b (image_length c.args.n) (bare_length c.args.n) =
+    λ b e. c.requires.sized.length_is ∙ ap (λ (x : Bool). cond x (image_length c.args.n) (bare_length c.args.n)) e in
     let at = c.pass_place-at in
     let e = c in
     let s = e in
@@ -99,9 +97,8 @@ loop-r-preserved c =
 pub returns : goal.returns
 returns c =
     let sized : (b : Bool) → c.args.counted ≡ b
-        → length c.args.words.now ≡ cond b (image_length c.args.n) (bare_length c.args.n) =
-        λ b e. c.requires.sized.length_is ∙ ap (λ (x : Bool). cond x (image_length c.args.n) (bare_length c.args.n)) e in
-
+    → length c.args.words.now ≡ cond b (image_length c.args.n) (bare_length c.args.n) =
+    λ b e. c.requires.sized.length_is ∙ ap (λ (x : Bool). cond x (image_length c.args.n) (bare_length c.args.n)) e in
     let l = c.loop-r in
     let inv = l.invariant in
     let u = c in

@@ -26,10 +26,9 @@ loop-r-init c =
 pub returns-then-c-ne0 : goal.returns-then-c-ne0
 returns-then-c-ne0 c =
     let here : (at r : ℕ)
-        → at ≡ pass_place c.args.n c.args.q 0
-        → at + r ≡ pass_place c.args.n c.args.q r =
-        λ at r e. omega (arith, e) in
-
+    → at ≡ pass_place c.args.n c.args.q 0
+    → at + r ≡ pass_place c.args.n c.args.q r =
+    λ at r e. omega (arith, e) in
     let r = c in
     let l = r in
     let at = l.pass_place-at.result in
@@ -45,10 +44,9 @@ returns-then-c-ne0 c =
 pub loop-r-preserved : goal.loop-r-preserved
 loop-r-preserved c =
     let here : (at r : ℕ)
-        → at ≡ pass_place c.args.n c.args.q 0
-        → at + r ≡ pass_place c.args.n c.args.q r =
-        λ at r e. omega (arith, e) in
-
+    → at ≡ pass_place c.args.n c.args.q 0
+    → at + r ≡ pass_place c.args.n c.args.q r =
+    λ at r e. omega (arith, e) in
     let r = c in
     let l = r in
     let at = l.pass_place-at.result in

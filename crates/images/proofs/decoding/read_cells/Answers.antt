@@ -32,14 +32,13 @@ returns-then-n-eq0 c =
 pub overflow_cast-result : goal.overflow_cast-result
 overflow_cast-result c =
     let header : Header (get_or c.args.words.now 0 0) c.size_in-n.result =
-        header_some _ _ c.size_in-n.ensures c.if-n-eq0.false in
+    header_some _ _ c.size_in-n.ensures c.if-n-eq0.false in
     let all-is : (let w = get_or c.args.words.now 0 0 in
-        let n = c.size_in-n.result in
-        c.words_by-all.result ≡ cond (says_passes w) (image_length n) (bare_length n)) =
-        let w = get_or c.args.words.now 0 0 in
-        c.words_by-all.ensures
-        ∙ ap (λ (m : ℕ). cond (says_passes w) (image_length m) (bare_length m)) header.size_is in
-
+    let n = c.size_in-n.result in
+    c.words_by-all.result ≡ cond (says_passes w) (image_length n) (bare_length n)) =
+    let w = get_or c.args.words.now 0 0 in
+    c.words_by-all.ensures
+    ∙ ap (λ (m : ℕ). cond (says_passes w) (image_length m) (bare_length m)) header.size_is in
     let all = c in
     let n = all.size_in-n.result in
     let w = get_or all.args.words.now 0 0 in
@@ -48,8 +47,7 @@ overflow_cast-result c =
 pub returns-then-len-all : goal.returns-then-len-all
 returns-then-len-all c =
     let header : Header (get_or c.args.words.now 0 0) c.size_in-n.result =
-        header_some _ _ c.size_in-n.ensures c.if-n-eq0.false in
-
+    header_some _ _ c.size_in-n.ensures c.if-n-eq0.false in
     let e = c in
     let a = e.args in
     let ws = a.words.now in
@@ -64,14 +62,13 @@ returns-then-len-all c =
 pub read_words-f-requires : goal.read_words-f-requires
 read_words-f-requires c =
     let header : Header (get_or c.args.words.now 0 0) c.size_in-n.result =
-        header_some _ _ c.size_in-n.ensures c.if-n-eq0.false in
+    header_some _ _ c.size_in-n.ensures c.if-n-eq0.false in
     let all-is : (let w = get_or c.args.words.now 0 0 in
-        let n = c.size_in-n.result in
-        c.words_by-all.result ≡ cond (says_passes w) (image_length n) (bare_length n)) =
-        let w = get_or c.args.words.now 0 0 in
-        c.words_by-all.ensures
-        ∙ ap (λ (m : ℕ). cond (says_passes w) (image_length m) (bare_length m)) header.size_is in
-
+    let n = c.size_in-n.result in
+    c.words_by-all.result ≡ cond (says_passes w) (image_length n) (bare_length n)) =
+    let w = get_or c.args.words.now 0 0 in
+    c.words_by-all.ensures
+    ∙ ap (λ (m : ℕ). cond (says_passes w) (image_length m) (bare_length m)) header.size_is in
     let all = c in
     let e = all in
     let h = header in
@@ -85,17 +82,16 @@ read_words-f-requires c =
 pub returns-then-f-ne0 : goal.returns-then-f-ne0
 returns-then-f-ne0 c =
     let header : Header (get_or c.args.words.now 0 0) c.size_in-n.result =
-        header_some _ _ c.size_in-n.ensures c.if-n-eq0.false in
+    header_some _ _ c.size_in-n.ensures c.if-n-eq0.false in
     let found : image_refusal c.args.words.now
-        ≡ c.read_words-f.result =
-        let e = c in
-        let ws = e.args.words.now in
-        let h = header in
-        refused_words ws h.is_header_lem (c.if-len-all.false ∙ c.words_by-all.ensures)
-        ∙ ap (λ (m : ℕ). first_refusal m 1 (cond (says_passes (get_or ws 0 0)) (slots m) (bare_slots m)) (drop 1 ws))
-        h.size_is
-        ∙ sym c.read_words-f.ensures.found_is in
-
+    ≡ c.read_words-f.result =
+    let e = c in
+    let ws = e.args.words.now in
+    let h = header in
+    refused_words ws h.is_header_lem (c.if-len-all.false ∙ c.words_by-all.ensures)
+    ∙ ap (λ (m : ℕ). first_refusal m 1 (cond (says_passes (get_or ws 0 0)) (slots m) (bare_slots m)) (drop 1 ws))
+    h.size_is
+    ∙ sym c.read_words-f.ensures.found_is in
     let r = c in
     let a = r.args in
     into_refused a.words.now a.cells.now _ r.read_words-f.ensures.size_is _ _ found c.if-f-ne0.true
@@ -103,17 +99,16 @@ returns-then-f-ne0 c =
 pub returns : goal.returns
 returns c =
     let header : Header (get_or c.args.words.now 0 0) c.size_in-n.result =
-        header_some _ _ c.size_in-n.ensures c.if-n-eq0.false in
+    header_some _ _ c.size_in-n.ensures c.if-n-eq0.false in
     let found : image_refusal c.args.words.now
-        ≡ c.read_words-f.result =
-        let e = c in
-        let ws = e.args.words.now in
-        let h = header in
-        refused_words ws h.is_header_lem (c.if-len-all.false ∙ c.words_by-all.ensures)
-        ∙ ap (λ (m : ℕ). first_refusal m 1 (cond (says_passes (get_or ws 0 0)) (slots m) (bare_slots m)) (drop 1 ws))
-        h.size_is
-        ∙ sym c.read_words-f.ensures.found_is in
-
+    ≡ c.read_words-f.result =
+    let e = c in
+    let ws = e.args.words.now in
+    let h = header in
+    refused_words ws h.is_header_lem (c.if-len-all.false ∙ c.words_by-all.ensures)
+    ∙ ap (λ (m : ℕ). first_refusal m 1 (cond (says_passes (get_or ws 0 0)) (slots m) (bare_slots m)) (drop 1 ws))
+    h.size_is
+    ∙ sym c.read_words-f.ensures.found_is in
     let r = c in
     let e = r in
     let a = e.args in

@@ -15,38 +15,35 @@ use Rattle.images.proofs.decoding.read_row.Goals as goal
 pub bounds-words-i : goal.bounds-words-i
 bounds-words-i c =
     let long : Long c.args.words.now c.args.n =
-        sized_long c.args.words.now c.args.n c.args.counted c.requires.sized in
+    sized_long c.args.words.now c.args.n c.args.counted c.requires.sized in
     let within : row_place c.args.q + 4 ≤ length c.args.words.now =
-        omega (arith, long.long, c.requires.q_lt_n) in
- omega (arith, c.row_place-i.ensures, within)
+    omega (arith, long.long, c.requires.q_lt_n) in
+    omega (arith, c.row_place-i.ensures, within)
 
 pub bounds-words-i-2 : goal.bounds-words-i-2
 bounds-words-i-2 c =
     let long : Long c.args.words.now c.args.n =
-        sized_long c.args.words.now c.args.n c.args.counted c.requires.sized in
+    sized_long c.args.words.now c.args.n c.args.counted c.requires.sized in
     let within : row_place c.args.q + 4 ≤ length c.args.words.now =
-        omega (arith, long.long, c.requires.q_lt_n) in
-
+    omega (arith, long.long, c.requires.q_lt_n) in
     let at = c in
     omega (arith, at.row_place-i.ensures, within)
 
 pub bounds-words-i-3 : goal.bounds-words-i-3
 bounds-words-i-3 c =
     let long : Long c.args.words.now c.args.n =
-        sized_long c.args.words.now c.args.n c.args.counted c.requires.sized in
+    sized_long c.args.words.now c.args.n c.args.counted c.requires.sized in
     let within : row_place c.args.q + 4 ≤ length c.args.words.now =
-        omega (arith, long.long, c.requires.q_lt_n) in
-
+    omega (arith, long.long, c.requires.q_lt_n) in
     let at = c in
     omega (arith, at.row_place-i.ensures, within)
 
 pub bounds-words-i-4 : goal.bounds-words-i-4
 bounds-words-i-4 c =
     let long : Long c.args.words.now c.args.n =
-        sized_long c.args.words.now c.args.n c.args.counted c.requires.sized in
+    sized_long c.args.words.now c.args.n c.args.counted c.requires.sized in
     let within : row_place c.args.q + 4 ≤ length c.args.words.now =
-        omega (arith, long.long, c.requires.q_lt_n) in
-
+    omega (arith, long.long, c.requires.q_lt_n) in
     let at = c in
     omega (arith, at.row_place-i.ensures, within)
 
@@ -55,38 +52,36 @@ bounds-words-i-4 c =
 pub returns-then-found-ne0 : goal.returns-then-found-ne0
 returns-then-found-ne0 c =
     let long : Long c.args.words.now c.args.n =
-        sized_long c.args.words.now c.args.n c.args.counted c.requires.sized in
+    sized_long c.args.words.now c.args.n c.args.counted c.requires.sized in
     let within : row_place c.args.q + 4 ≤ length c.args.words.now =
-        omega (arith, long.long, c.requires.q_lt_n) in
+    omega (arith, long.long, c.requires.q_lt_n) in
     let found : (let a = c.args in
-        c.row_refusal-found.result
-        ≡ first_refusal a.n (row_place a.q) (row_slots a.q 1) (drop (row_place a.q) a.words.now)) =
-        let a = c.args in
-        let at = c.row_place-i in
-        c.row_refusal-found.ensures ∙ row_found a.n a.words.now a.q at.result at.ensures within in
- record {
-  row_read = record { found_is = found; rows_are = λ z. absurd (c.if-found-ne0.true z); size_is = refl };
-  fits = record { none = λ t f. absurd (false≢true f) };
-}
+    c.row_refusal-found.result
+    ≡ first_refusal a.n (row_place a.q) (row_slots a.q 1) (drop (row_place a.q) a.words.now)) =
+    let a = c.args in
+    let at = c.row_place-i in
+    c.row_refusal-found.ensures ∙ row_found a.n a.words.now a.q at.result at.ensures within in
+    record {
+      row_read = record { found_is = found; rows_are = λ z. absurd (c.if-found-ne0.true z); size_is = refl };
+      fits = record { none = λ t f. absurd (false≢true f) };
+    }
 
 pub turn_of-turn-requires : goal.turn_of-turn-requires
 turn_of-turn-requires c =
     let long : Long c.args.words.now c.args.n =
-        sized_long c.args.words.now c.args.n c.args.counted c.requires.sized in
-
+    sized_long c.args.words.now c.args.n c.args.counted c.requires.sized in
     let s = c in
- record {
-  long = long;
-  q_lt_n = s.requires.q_lt_n;
-}
+    record {
+      long = long;
+      q_lt_n = s.requires.q_lt_n;
+    }
 
 pub row_of-requires : goal.row_of-requires
 row_of-requires c =
     let long : Long c.args.words.now c.args.n =
-        sized_long c.args.words.now c.args.n c.args.counted c.requires.sized in
+    sized_long c.args.words.now c.args.n c.args.counted c.requires.sized in
     let within : row_place c.args.q + 4 ≤ length c.args.words.now =
-        omega (arith, long.long, c.requires.q_lt_n) in
-
+    omega (arith, long.long, c.requires.q_lt_n) in
     let r = c in
     let a = r.args in
     let at = r.row_place-i in
@@ -101,16 +96,15 @@ put_row-requires c =
 pub returns : goal.returns
 returns c =
     let long : Long c.args.words.now c.args.n =
-        sized_long c.args.words.now c.args.n c.args.counted c.requires.sized in
+    sized_long c.args.words.now c.args.n c.args.counted c.requires.sized in
     let within : row_place c.args.q + 4 ≤ length c.args.words.now =
-        omega (arith, long.long, c.requires.q_lt_n) in
+    omega (arith, long.long, c.requires.q_lt_n) in
     let found : (let a = c.args in
-        c.row_refusal-found.result
-        ≡ first_refusal a.n (row_place a.q) (row_slots a.q 1) (drop (row_place a.q) a.words.now)) =
-        let a = c.args in
-        let at = c.row_place-i in
-        c.row_refusal-found.ensures ∙ row_found a.n a.words.now a.q at.result at.ensures within in
-
+    c.row_refusal-found.result
+    ≡ first_refusal a.n (row_place a.q) (row_slots a.q 1) (drop (row_place a.q) a.words.now)) =
+    let a = c.args in
+    let at = c.row_place-i in
+    c.row_refusal-found.ensures ∙ row_found a.n a.words.now a.q at.result at.ensures within in
     let t = c in
     let r = t in
     let a = r.args in

@@ -29,17 +29,16 @@ returns-then-f-ne0 c =
 pub check_turns-g-requires : goal.check_turns-g-requires
 check_turns-g-requires c =
     let long : Long c.args.words.now c.args.n =
-        sized_long c.args.words.now c.args.n c.args.counted c.requires.sized in
- long
+    sized_long c.args.words.now c.args.n c.args.counted c.requires.sized in
+    long
 
 pub returns-then-g-ne0 : goal.returns-then-g-ne0
 returns-then-g-ne0 c =
     let long : Long c.args.words.now c.args.n =
-        sized_long c.args.words.now c.args.n c.args.counted c.requires.sized in
+    sized_long c.args.words.now c.args.n c.args.counted c.requires.sized in
     let none : (let a = c.args in
-        (first_refusal a.n 1 (row_slots 0 a.n) (drop 1 a.words.now)).refusal ≡ 0) =
-        none_found c.read_rows-rows.ensures.words_read.found_is c.if-f-ne0.false in
-
+    (first_refusal a.n 1 (row_slots 0 a.n) (drop 1 a.words.now)).refusal ≡ 0) =
+    none_found c.read_rows-rows.ensures.words_read.found_is c.if-f-ne0.false in
     let t = c in
     let e = t in
     let s = e in
@@ -58,11 +57,10 @@ returns-then-g-ne0 c =
 pub returns-then-not-counted : goal.returns-then-not-counted
 returns-then-not-counted c =
     let long : Long c.args.words.now c.args.n =
-        sized_long c.args.words.now c.args.n c.args.counted c.requires.sized in
+    sized_long c.args.words.now c.args.n c.args.counted c.requires.sized in
     let none : (let a = c.args in
-        (first_refusal a.n 1 (row_slots 0 a.n) (drop 1 a.words.now)).refusal ≡ 0) =
-        none_found c.read_rows-rows.ensures.words_read.found_is c.if-f-ne0.false in
-
+    (first_refusal a.n 1 (row_slots 0 a.n) (drop 1 a.words.now)).refusal ≡ 0) =
+    none_found c.read_rows-rows.ensures.words_read.found_is c.if-f-ne0.false in
     let t = c in
     let e = t in
     let s = e in
@@ -82,27 +80,26 @@ returns-then-not-counted c =
 pub returns-then-fit : goal.returns-then-fit
 returns-then-fit c =
     let long : Long c.args.words.now c.args.n =
-        sized_long c.args.words.now c.args.n c.args.counted c.requires.sized in
+    sized_long c.args.words.now c.args.n c.args.counted c.requires.sized in
     let none : (let a = c.args in
-        (first_refusal a.n 1 (row_slots 0 a.n) (drop 1 a.words.now)).refusal ≡ 0) =
-        none_found c.read_rows-rows.ensures.words_read.found_is c.if-f-ne0.false in
+    (first_refusal a.n 1 (row_slots 0 a.n) (drop 1 a.words.now)).refusal ≡ 0) =
+    none_found c.read_rows-rows.ensures.words_read.found_is c.if-f-ne0.false in
     let counted : c.args.counted ≡ true =
-        not-false _ c.if-not-counted.false-raw in
+    not-false _ c.if-not-counted.false-raw in
     let enough : (let s = c in
-        Counted s.args.words.now s.args.n) =
-        let s = c in
-        sized_counted s.args.words.now s.args.n s.args.counted s.requires.sized counted in
+    Counted s.args.words.now s.args.n) =
+    let s = c in
+    sized_counted s.args.words.now s.args.n s.args.counted s.requires.sized counted in
     let last : (let a = c.args in
-        of_all a.n a.words.now a.counted
-        ≡ first_refusal a.n (bare_length a.n) (pass_slots a.n 0 a.n) (drop (bare_length a.n) a.words.now)) =
-        let t = c in
-        let e = t in
-        let s = e in
-        let a = s.args in
-        ap (of_all a.n a.words.now) counted
-        ∙ image-counts a.n a.words.now s.requires.sized.some long.long none
-        (none_found t.check_turns-g.ensures c.if-g-ne0.false) in
-
+    of_all a.n a.words.now a.counted
+    ≡ first_refusal a.n (bare_length a.n) (pass_slots a.n 0 a.n) (drop (bare_length a.n) a.words.now)) =
+    let t = c in
+    let e = t in
+    let s = e in
+    let a = s.args in
+    ap (of_all a.n a.words.now) counted
+    ∙ image-counts a.n a.words.now s.requires.sized.some long.long none
+    (none_found t.check_turns-g.ensures c.if-g-ne0.false) in
     let f = c in
     let e = f in
     let a = e.args in
@@ -117,33 +114,32 @@ returns-then-fit c =
 pub check_counts-requires : goal.check_counts-requires
 check_counts-requires c =
     let counted : c.args.counted ≡ true =
-        not-false _ c.if-not-counted.false-raw in
+    not-false _ c.if-not-counted.false-raw in
     let enough : (let s = c in
-        Counted s.args.words.now s.args.n) =
-        let s = c in
-        sized_counted s.args.words.now s.args.n s.args.counted s.requires.sized counted in
- enough
+    Counted s.args.words.now s.args.n) =
+    let s = c in
+    sized_counted s.args.words.now s.args.n s.args.counted s.requires.sized counted in
+    enough
 
 pub returns : goal.returns
 returns c =
     let long : Long c.args.words.now c.args.n =
-        sized_long c.args.words.now c.args.n c.args.counted c.requires.sized in
+    sized_long c.args.words.now c.args.n c.args.counted c.requires.sized in
     let none : (let a = c.args in
-        (first_refusal a.n 1 (row_slots 0 a.n) (drop 1 a.words.now)).refusal ≡ 0) =
-        none_found c.read_rows-rows.ensures.words_read.found_is c.if-f-ne0.false in
+    (first_refusal a.n 1 (row_slots 0 a.n) (drop 1 a.words.now)).refusal ≡ 0) =
+    none_found c.read_rows-rows.ensures.words_read.found_is c.if-f-ne0.false in
     let counted : c.args.counted ≡ true =
-        not-false _ c.if-not-counted.false-raw in
+    not-false _ c.if-not-counted.false-raw in
     let last : (let a = c.args in
-        of_all a.n a.words.now a.counted
-        ≡ first_refusal a.n (bare_length a.n) (pass_slots a.n 0 a.n) (drop (bare_length a.n) a.words.now)) =
-        let t = c in
-        let e = t in
-        let s = e in
-        let a = s.args in
-        ap (of_all a.n a.words.now) counted
-        ∙ image-counts a.n a.words.now s.requires.sized.some long.long none
-        (none_found t.check_turns-g.ensures c.if-g-ne0.false) in
-
+    of_all a.n a.words.now a.counted
+    ≡ first_refusal a.n (bare_length a.n) (pass_slots a.n 0 a.n) (drop (bare_length a.n) a.words.now)) =
+    let t = c in
+    let e = t in
+    let s = e in
+    let a = s.args in
+    ap (of_all a.n a.words.now) counted
+    ∙ image-counts a.n a.words.now s.requires.sized.some long.long none
+    (none_found t.check_turns-g.ensures c.if-g-ne0.false) in
     let f = c in
     let e = f in
     let rows = e.read_rows-rows.ensures.words_read in

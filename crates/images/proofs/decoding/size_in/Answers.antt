@@ -11,43 +11,41 @@ use Rattle.images.proofs.decoding.size_in.Goals as goal
 pub overflow_sub-result : goal.overflow_sub-result
 overflow_sub-result c =
     let full : Header true (c.args.head - header_of 0) c.args.head =
-        full_header c.args.head c.if-head.true in
- omega (arith, full.header_is)
+    full_header c.args.head c.if-head.true in
+    omega (arith, full.header_is)
 
 pub overflow_cast-result : goal.overflow_cast-result
 overflow_cast-result c =
     let full : Header true (c.args.head - header_of 0) c.args.head =
-        full_header c.args.head c.if-head.true in
- omega (arith, full.few)
+    full_header c.args.head c.if-head.true in
+    omega (arith, full.few)
 
 pub returns-then-head : goal.returns-then-head
 returns-then-head c =
     let full : Header true (c.args.head - header_of 0) c.args.head =
-        full_header c.args.head c.if-head.true in
-
+    full_header c.args.head c.if-head.true in
     let known = header_known _ true _ full in
     sym (choice_on _ _ _ known.0 ∙ known.2)
 
 pub overflow_sub-result-then-head-2 : goal.overflow_sub-result-then-head-2
 overflow_sub-result-then-head-2 c =
     let bare : (let w = c.args.head in
-        Header false (w - bare_header_of 0) w) =
-        bare_header c.args.head c.if-head-2.true in
- omega (arith, bare.header_is)
+    Header false (w - bare_header_of 0) w) =
+    bare_header c.args.head c.if-head-2.true in
+    omega (arith, bare.header_is)
 
 pub overflow_cast-result-then-head-2 : goal.overflow_cast-result-then-head-2
 overflow_cast-result-then-head-2 c =
     let bare : (let w = c.args.head in
-        Header false (w - bare_header_of 0) w) =
-        bare_header c.args.head c.if-head-2.true in
- omega (arith, bare.few)
+    Header false (w - bare_header_of 0) w) =
+    bare_header c.args.head c.if-head-2.true in
+    omega (arith, bare.few)
 
 pub returns-then-head-2 : goal.returns-then-head-2
 returns-then-head-2 c =
     let bare : (let w = c.args.head in
-        Header false (w - bare_header_of 0) w) =
-        bare_header c.args.head c.if-head-2.true in
-
+    Header false (w - bare_header_of 0) w) =
+    bare_header c.args.head c.if-head-2.true in
     let known = header_known _ false _ bare in
     sym (choice_on _ _ _ known.0 ∙ known.2)
 

@@ -20,18 +20,16 @@ returns-then-refusal-ne0 c =
 pub image_words-all-requires : goal.image_words-all-requires
 image_words-all-requires c =
     let sound : table_refusal (rows_of c.args.cells.now) ≡ 0 =
-        sym c.check-refusal.ensures ∙ c.if-refusal-ne0.false in
-
+    sym c.check-refusal.ensures ∙ c.if-refusal-ne0.false in
     let x = c.args.cells.now in
     omega (arith, (sound_rows (rows_of x) sound).1, rows_length x)
 
 pub returns-then-len-all : goal.returns-then-len-all
 returns-then-len-all c =
     let all-is : (let x = c.args.cells.now in
-        c.image_words-all.result ≡ image_length (length (rows_of x))) =
-        let x = c.args.cells.now in
-        c.image_words-all.ensures ∙ ap image_length (sym (rows_length x)) in
-
+    c.image_words-all.result ≡ image_length (length (rows_of x))) =
+    let x = c.args.cells.now in
+    c.image_words-all.ensures ∙ ap image_length (sym (rows_length x)) in
     let e = c in
     let a = e.args in
     let checked = e.check-refusal in
@@ -41,26 +39,25 @@ returns-then-len-all c =
 pub write_cells-requires : goal.write_cells-requires
 write_cells-requires c =
     let sound : table_refusal (rows_of c.args.cells.now) ≡ 0 =
-        sym c.check-refusal.ensures ∙ c.if-refusal-ne0.false in
+    sym c.check-refusal.ensures ∙ c.if-refusal-ne0.false in
     let all-is : (let x = c.args.cells.now in
-        c.image_words-all.result ≡ image_length (length (rows_of x))) =
-        let x = c.args.cells.now in
-        c.image_words-all.ensures ∙ ap image_length (sym (rows_length x)) in
+    c.image_words-all.result ≡ image_length (length (rows_of x))) =
+    let x = c.args.cells.now in
+    c.image_words-all.ensures ∙ ap image_length (sym (rows_length x)) in
     let long : (let a = c.args in
-        image_length (length (rows_of a.cells.now)) ≤ length a.out.now) =
-        omega (arith, c.if-len-all.false, all-is) in
- record { is_sound = sound; long = long }
+    image_length (length (rows_of a.cells.now)) ≤ length a.out.now) =
+    omega (arith, c.if-len-all.false, all-is) in
+    record { is_sound = sound; long = long }
 
 pub returns : goal.returns
 returns c =
     let all-is : (let x = c.args.cells.now in
-        c.image_words-all.result ≡ image_length (length (rows_of x))) =
-        let x = c.args.cells.now in
-        c.image_words-all.ensures ∙ ap image_length (sym (rows_length x)) in
+    c.image_words-all.result ≡ image_length (length (rows_of x))) =
+    let x = c.args.cells.now in
+    c.image_words-all.ensures ∙ ap image_length (sym (rows_length x)) in
     let long : (let a = c.args in
-        image_length (length (rows_of a.cells.now)) ≤ length a.out.now) =
-        omega (arith, c.if-len-all.false, all-is) in
-
+    image_length (length (rows_of a.cells.now)) ≤ length a.out.now) =
+    omega (arith, c.if-len-all.false, all-is) in
     let r = c in
     let e = r in
     let a = e.args in

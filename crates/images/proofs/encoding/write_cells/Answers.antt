@@ -17,26 +17,25 @@ use Rattle.images.proofs.encoding.write_cells.Goals as goal
 pub overflow_cast-out : goal.overflow_cast-out
 overflow_cast-out c =
     let small : (0 < length c.args.cells.now) × (length c.args.cells.now ≤ 16) =
-        let x = c.args.cells.now in
-        let all = sound_rows (rows_of x) c.requires.is_sound in
-        (omega (arith, all.0, rows_length x), omega (arith, all.1, rows_length x)) in
- let h = small in omega arith
+    let x = c.args.cells.now in
+    let all = sound_rows (rows_of x) c.requires.is_sound in
+    (omega (arith, all.0, rows_length x), omega (arith, all.1, rows_length x)) in
+    let h = small in omega arith
 
 pub overflow_add-out : goal.overflow_add-out
 overflow_add-out c =
     let small : (0 < length c.args.cells.now) × (length c.args.cells.now ≤ 16) =
-        let x = c.args.cells.now in
-        let all = sound_rows (rows_of x) c.requires.is_sound in
-        (omega (arith, all.0, rows_length x), omega (arith, all.1, rows_length x)) in
- let h = small in omega arith
+    let x = c.args.cells.now in
+    let all = sound_rows (rows_of x) c.requires.is_sound in
+    (omega (arith, all.0, rows_length x), omega (arith, all.1, rows_length x)) in
+    let h = small in omega arith
 
 pub bounds-out-0 : goal.bounds-out-0
 bounds-out-0 c =
     let small : (0 < length c.args.cells.now) × (length c.args.cells.now ≤ 16) =
-        let x = c.args.cells.now in
-        let all = sound_rows (rows_of x) c.requires.is_sound in
-        (omega (arith, all.0, rows_length x), omega (arith, all.1, rows_length x)) in
-
+    let x = c.args.cells.now in
+    let all = sound_rows (rows_of x) c.requires.is_sound in
+    (omega (arith, all.0, rows_length x), omega (arith, all.1, rows_length x)) in
     let s = c in
     omega (arith, small.0, s.requires.long, rows_length s.args.cells.now)
 
@@ -52,12 +51,11 @@ write_turns-requires c =
 pub write_counts-requires : goal.write_counts-requires
 write_counts-requires c =
     let kept-turns : length c.write_turns.new.out
-        ≡ length c.args.out.now =
-        let s = c in
-        c.write_turns.auto.out
-        ∙ c.write_rows.auto.out
-        ∙ length-set s.args.out.now 0 (header_of (length s.args.cells.now)) in
-
+    ≡ length c.args.out.now =
+    let s = c in
+    c.write_turns.auto.out
+    ∙ c.write_rows.auto.out
+    ∙ length-set s.args.out.now 0 (header_of (length s.args.cells.now)) in
     let t = c in
     let s = t in
     record { is_sound = s.requires.is_sound; long = omega (arith, s.requires.long, kept-turns) }
@@ -65,22 +63,20 @@ write_counts-requires c =
 pub shape_of-out : goal.shape_of-out
 shape_of-out c =
     let kept-turns : length c.write_turns.new.out
-        ≡ length c.args.out.now =
-        let s = c in
-        c.write_turns.auto.out
-        ∙ c.write_rows.auto.out
-        ∙ length-set s.args.out.now 0 (header_of (length s.args.cells.now)) in
-
+    ≡ length c.args.out.now =
+    let s = c in
+    c.write_turns.auto.out
+    ∙ c.write_rows.auto.out
+    ∙ length-set s.args.out.now 0 (header_of (length s.args.cells.now)) in
     let w = c in
     w.write_counts.auto.out ∙ kept-turns
 
 pub returns : goal.returns
 returns c =
     let small : (0 < length c.args.cells.now) × (length c.args.cells.now ≤ 16) =
-        let x = c.args.cells.now in
-        let all = sound_rows (rows_of x) c.requires.is_sound in
-        (omega (arith, all.0, rows_length x), omega (arith, all.1, rows_length x)) in
-
+    let x = c.args.cells.now in
+    let all = sound_rows (rows_of x) c.requires.is_sound in
+    (omega (arith, all.0, rows_length x), omega (arith, all.1, rows_length x)) in
     let w = c in
     let t = w in
     let s = t in

@@ -10,18 +10,18 @@ bare_words-requires c = omega (arith, c.requires.0)
 pub overflow_mul-result : goal.overflow_mul-result
 overflow_mul-result c =
     let small : c.args.n * c.args.q ≤ 16 * 16 =
-        let few : c.args.n ≤ 16 = omega (arith, c.requires.0) in
-        let low : c.args.q ≤ 16 = omega (arith, c.requires.0, c.requires.1) in
-        mul-le-mul few low in
- omega (arith, small)
+    let few : c.args.n ≤ 16 = omega (arith, c.requires.0) in
+    let low : c.args.q ≤ 16 = omega (arith, c.requires.0, c.requires.1) in
+    mul-le-mul few low in
+    omega (arith, small)
 
 pub overflow_add-result : goal.overflow_add-result
 overflow_add-result c =
     let small : c.args.n * c.args.q ≤ 16 * 16 =
-        let few : c.args.n ≤ 16 = omega (arith, c.requires.0) in
-        let low : c.args.q ≤ 16 = omega (arith, c.requires.0, c.requires.1) in
-        mul-le-mul few low in
- omega (arith, small, c.bare_words.ensures, c.requires.0)
+    let few : c.args.n ≤ 16 = omega (arith, c.requires.0) in
+    let low : c.args.q ≤ 16 = omega (arith, c.requires.0, c.requires.1) in
+    mul-le-mul few low in
+    omega (arith, small, c.bare_words.ensures, c.requires.0)
 
 pub returns : goal.returns
 returns c = omega (arith, c.bare_words.ensures)
