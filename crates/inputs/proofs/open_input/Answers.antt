@@ -72,7 +72,7 @@ unpack-count-requires c =
 
     let short = c in
     let m = short in
-    let long = length-take-le (4 * m.image_length-m.result) bytes within
+    let long = length-take-le (4 * m.image_length-m.result) bytes within in
     record { whole = omega (arith, long); room = omega (arith, long, room) }
 
 pub slice_bounds-read_cells-end : goal.slice_bounds-read_cells-end
@@ -86,7 +86,7 @@ slice_bounds-read_cells-end c =
         omega (arith, e.requires.room (omega (arith, count, c.if-m-gt-IMAGE_WORDS.false)), count) in
 
     let u = c in
-    omega (arith, room, u.unpack-count.auto.1.0)
+    omega (arith, room, u.unpack-count.auto.words)
 
 pub slice_bounds-read_cells-end-2 : goal.slice_bounds-read_cells-end-2
 slice_bounds-read_cells-end-2 c =
@@ -100,8 +100,8 @@ slice_bounds-read_cells-end-2 c =
 
     let u = c in
     sym
-    (length-take-le u.image_length-m.result u.unpack-count.new.1.0
-    (omega (arith, room, u.unpack-count.auto.1.0)))
+    (length-take-le u.image_length-m.result u.unpack-count.new.words
+    (omega (arith, room, u.unpack-count.auto.words)))
 
 -- ---- a table was read
 
@@ -110,8 +110,7 @@ overflow_sub-last c =
     let bytes : List ℕ =
         c.args.input.now in
 
-    let m = cut c.before.before.before.before in
-    omega (arith, m.image_length_lem.ensures.within, length_words_in bytes)
+    omega (arith, c.image_length-m.ensures.within, length_words_in bytes)
 
 pub returns-then-last-m-gt-RUN_LIMIT : goal.returns-then-last-m-gt-RUN_LIMIT
 returns-then-last-m-gt-RUN_LIMIT c =
@@ -121,31 +120,27 @@ returns-then-last-m-gt-RUN_LIMIT c =
         sym c.bytes_fit.ensures ∙ not-false _ c.if-not-bytes_fit.false-raw in
     let within : 4 * c.image_length-m.result ≤ length bytes =
         omega (arith, c.image_length-m.ensures.within, length_words_in bytes) in
-    let image-is : take c.image_length-m.result c.unpack-count.new.1.0
+    let image-is : take c.image_length-m.result c.unpack-count.new.words
         ≡ take c.image_length-m.result (words_in bytes) =
         let m = c.image_length-m.result in
         let bs = bytes in
-        let long = length-take-le (4 * m) bs within
-        take_unpacked (take (4 * m) bs) (start c.before).args.words.now c.unpack-count.new.1.0 m
+        let long = length-take-le (4 * m) bs within in
+        take_unpacked (take (4 * m) bs) c.args.words.now c.unpack-count.new.words m
         (omega (arith, long)) c.unpack-count.ensures.1
         ∙ words_first m bs in
     let table : (let r = c in
-        let m = cut r in
-        Loaded (take m.image_length_lem.result (words_in bytes)) r.read_cells.new.1.0
-        c.n-1.given.0.0) =
+        Loaded (take c.image_length-m.result (words_in bytes)) r.read_cells.new.cells
+        c.in-Table.n) =
         let r = c in
-        subst (λ (ws : List ℕ). Loaded ws r.read_cells.new.1.0 c.n-1.given.0.0) image-is
-        (loaded _ _ r.read_cells.new.1.0 r.read_cells.result _ r.read_cells.ensures c.n-1.given.1) in
-    let among : c.n-1.given.0.0 ≤ length c.read_cells.new.1.0 =
-        omega (arith, table.few, c.read_cells.auto.1.0) in
-
-    let n = c in
-    let r = n in
-    let m = cut r in
+        subst (λ (ws : List ℕ). Loaded ws r.read_cells.new.cells c.in-Table.n) image-is
+        (loaded _ _ r.read_cells.new.cells r.read_cells.result _ r.read_cells.ensures c.in-Table.is) in
+    let among : c.in-Table.n ≤ length c.read_cells.new.cells =
+        omega (arith, table.few, c.read_cells.auto.cells) in
+    let r = c in
     let bs = bytes in
-    subst (λ (i : Input). ShowsMany i r.read_cells.new.1.0 n.n-1.given.0.0)
+    subst (λ (i : Input). ShowsMany i r.read_cells.new.cells c.in-Table.n)
     (sym (bytes_words bs fit))
-    (shows-many _ _ m.image_length_lem.ensures _ _ table (sym (length_words_in bs)) among c.if-last-m-gt-RUN_LIMIT.true)
+    (shows-many _ _ c.image_length-m.ensures _ _ table _ (sym (length_words_in bs)) among c.if-last-m-gt-RUN_LIMIT.true)
 
 pub returns-else-last-m-gt-RUN_LIMIT : goal.returns-else-last-m-gt-RUN_LIMIT
 returns-else-last-m-gt-RUN_LIMIT c =
@@ -155,33 +150,29 @@ returns-else-last-m-gt-RUN_LIMIT c =
         sym c.bytes_fit.ensures ∙ not-false _ c.if-not-bytes_fit.false-raw in
     let within : 4 * c.image_length-m.result ≤ length bytes =
         omega (arith, c.image_length-m.ensures.within, length_words_in bytes) in
-    let image-is : take c.image_length-m.result c.unpack-count.new.1.0
+    let image-is : take c.image_length-m.result c.unpack-count.new.words
         ≡ take c.image_length-m.result (words_in bytes) =
         let m = c.image_length-m.result in
         let bs = bytes in
-        let long = length-take-le (4 * m) bs within
-        take_unpacked (take (4 * m) bs) (start c.before).args.words.now c.unpack-count.new.1.0 m
+        let long = length-take-le (4 * m) bs within in
+        take_unpacked (take (4 * m) bs) c.args.words.now c.unpack-count.new.words m
         (omega (arith, long)) c.unpack-count.ensures.1
         ∙ words_first m bs in
     let table : (let r = c in
-        let m = cut r in
-        Loaded (take m.image_length_lem.result (words_in bytes)) r.read_cells.new.1.0
-        c.n-1.given.0.0) =
+        Loaded (take c.image_length-m.result (words_in bytes)) r.read_cells.new.cells
+        c.in-Table.n) =
         let r = c in
-        subst (λ (ws : List ℕ). Loaded ws r.read_cells.new.1.0 c.n-1.given.0.0) image-is
-        (loaded _ _ r.read_cells.new.1.0 r.read_cells.result _ r.read_cells.ensures c.n-1.given.1) in
-    let among : c.n-1.given.0.0 ≤ length c.read_cells.new.1.0 =
-        omega (arith, table.few, c.read_cells.auto.1.0) in
-
-    let n = c in
-    let r = n in
-    let m = cut r in
+        subst (λ (ws : List ℕ). Loaded ws r.read_cells.new.cells c.in-Table.n) image-is
+        (loaded _ _ r.read_cells.new.cells r.read_cells.result _ r.read_cells.ensures c.in-Table.is) in
+    let among : c.in-Table.n ≤ length c.read_cells.new.cells =
+        omega (arith, table.few, c.read_cells.auto.cells) in
+    let r = c in
     let bs = bytes in
     subst
     (λ (i : Input).
-    ShowsReady i (words_in bs) r.read_cells.new.1.0 n.n-1.given.0.0 m.image_length_lem.result (length bs / 4))
+    ShowsReady i (words_in bs) r.read_cells.new.cells c.in-Table.n c.image_length-m.result (length bs / 4))
     (sym (bytes_words bs fit))
-    (shows-ready _ _ m.image_length_lem.ensures _ _ table (sym (length_words_in bs)) among c.if-last-m-gt-RUN_LIMIT.false)
+    (shows-ready _ _ c.image_length-m.ensures _ _ table _ (sym (length_words_in bs)) among c.if-last-m-gt-RUN_LIMIT.false)
 
 pub returns-in-Refused : goal.returns-in-Refused
 returns-in-Refused c =
@@ -191,20 +182,18 @@ returns-in-Refused c =
         sym c.bytes_fit.ensures ∙ not-false _ c.if-not-bytes_fit.false-raw in
     let within : 4 * c.image_length-m.result ≤ length bytes =
         omega (arith, c.image_length-m.ensures.within, length_words_in bytes) in
-    let image-is : take c.image_length-m.result c.unpack-count.new.1.0
+    let image-is : take c.image_length-m.result c.unpack-count.new.words
         ≡ take c.image_length-m.result (words_in bytes) =
         let m = c.image_length-m.result in
         let bs = bytes in
-        let long = length-take-le (4 * m) bs within
-        take_unpacked (take (4 * m) bs) (start c.before).args.words.now c.unpack-count.new.1.0 m
+        let long = length-take-le (4 * m) bs within in
+        take_unpacked (take (4 * m) bs) c.args.words.now c.unpack-count.new.words m
         (omega (arith, long)) c.unpack-count.ensures.1
         ∙ words_first m bs in
 
-    let found = c.number-1.given in
     let r = c in
-    let m = cut r in
     let bs = bytes in
     let read =
-    ap reading_of (sym image-is) ∙ sym r.read_cells.ensures.answer_is ∙ found.1 in
+    ap reading_of (sym image-is) ∙ sym r.read_cells.ensures.answer_is ∙ c.in-Refused.is in
     bytes_words bs fit
-    ∙ holds_refused (words_in bs) _ m.image_length_lem.ensures found.0.0 found.0.1.0 read
+    ∙ holds_refused (words_in bs) _ c.image_length-m.ensures c.in-Refused.number c.in-Refused.place read
