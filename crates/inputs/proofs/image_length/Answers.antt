@@ -7,7 +7,6 @@ use Rattle.machine.specs.Bytes.{words_in}
 use Rattle.machine.specs.Images.{length_in}
 use Rattle.octets.proofs.ByteLaws.{length_words_in}
 use Rattle.inputs.proofs.SplitLaws.{splits_at, splits_over}
-use borrow.Author.Rules.{rules}
 use Rattle.inputs.proofs.image_length.Goals as goal
 
 pub returns-then-len-eq0 : goal.returns-then-len-eq0
