@@ -165,7 +165,8 @@ returns-else-last-m-gt-RUN_LIMIT c =
     (λ (i : Input).
     ShowsReady i (words_in bs) r.read_cells.new.cells c.in-Table.n c.image_length-m.result (length bs / 4))
     (sym (bytes_words bs fit))
-    (shows-ready _ _ c.image_length-m.ensures _ _ table _ (sym (length_words_in bs)) among c.if-last-m-gt-RUN_LIMIT.false)
+    (shows-ready _ _ c.image_length-m.ensures _ _ table _ (sym (length_words_in bs)) among
+    c.if-last-m-gt-RUN_LIMIT.false)
 
 pub returns-in-Refused : goal.returns-in-Refused
 returns-in-Refused c =

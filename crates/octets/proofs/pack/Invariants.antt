@@ -13,7 +13,10 @@ abbrev pub after : List ℕ → List ℕ → ℕ → List ℕ
 after words bytes i = placed bytes 0 (bytes_of (take i words))
 
 abbrev pub invariant-loop-i : goal.invariant-loop-i
-invariant-loop-i l = (l.i ≤ length l.words) × (length l.bytes ≡ length l.initial.bytes) × (l.bytes ≡ after l.words l.initial.bytes l.i)
+invariant-loop-i l =
+    (l.i ≤ length l.words)
+    × (length l.bytes ≡ length l.initial.bytes)
+    × (l.bytes ≡ after l.words l.initial.bytes l.i)
 
 abbrev pub decreases-loop-i : goal.decreases-loop-i
 decreases-loop-i l = length l.words - l.i

@@ -9,7 +9,9 @@ use Rattle.octets.proofs.unpack.Given as goal
 
 abbrev pub invariant-loop-i : goal.invariant-loop-i
 invariant-loop-i l =
-    (l.i ≤ l.count) × (length l.words ≡ length l.initial.words) × (l.words ≡ begun l.initial.words 0 (words_in l.bytes) l.i)
+    (l.i ≤ l.count)
+    × (length l.words ≡ length l.initial.words)
+    × (l.words ≡ begun l.initial.words 0 (words_in l.bytes) l.i)
 
 abbrev pub decreases-loop-i : goal.decreases-loop-i
 decreases-loop-i l = l.count - l.i

@@ -21,7 +21,8 @@ invariant-loop-r l =
     × (l.list ≡ filled (readAt l.n l.words l.q) 16 l.r)
     × (l.q < l.n)
     × (l.blank ≡ (PASSES * 4096 + l.q * 256 + l.r) * 65536)
-    × (eqb (l.odd / 65536) 0 ≡ every (λ j. eqb (get_or l.words (l.at + j) 0 / 65536) (PASSES * 4096 + l.q * 256 + j)) l.r)
+    × (eqb (l.odd / 65536) 0
+        ≡ every (λ j. eqb (get_or l.words (l.at + j) 0 / 65536) (PASSES * 4096 + l.q * 256 + j)) l.r)
 
 abbrev pub decreases-loop-r : goal.decreases-loop-r
 decreases-loop-r l = l.m - l.r

@@ -47,7 +47,8 @@ loop-k-preserved c =
     let row_is = c.row_at-r.ensures in
     let word = c.word.ensures ∙ ap (λ (r : Row). word_for TURN k r) row_is ∙ turn_word t k at.invariant.0 l in
     let next =
-    begun-next o (turn_place (length x) 1) (turns_part t) (omega (arith, s.requires.long, at.invariant.3)) (k - 1) (k + 1 - 1)
+    begun-next o (turn_place (length x) 1) (turns_part t) (omega (arith, s.requires.long, at.invariant.3)) (k - 1)
+    (k + 1 - 1)
     c.turn_place-i.result c.word.result 0 (omega (arith, c.turn_place-i.ensures)) (omega arith)
     (omega arith) word in (
       search rules,

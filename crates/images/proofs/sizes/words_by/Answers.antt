@@ -25,7 +25,8 @@ pub returns-then-head-ge-HEADER : goal.returns-then-head-ge-HEADER
 returns-then-head-ge-HEADER c = c.image_words.ensures ∙ sym (with_passes_lem c.args.head c.if-head-ge-HEADER.true)
 
 pub returns-then-head-lt-BARE_HEADER : goal.returns-then-head-lt-BARE_HEADER
-returns-then-head-lt-BARE_HEADER c = omega (arith, bare c.args.head (omega (arith, c.if-head-ge-HEADER.false)), c.if-head-lt-BARE_HEADER.true)
+returns-then-head-lt-BARE_HEADER c =
+    omega (arith, bare c.args.head (omega (arith, c.if-head-ge-HEADER.false)), c.if-head-lt-BARE_HEADER.true)
 
 pub returns : goal.returns
 returns c =
