@@ -54,9 +54,6 @@ loop-q-preserved c =
     passes-next (rows_of x) s.args.out.now n at.invariant.2 at.q l.loop-q-test.true s.requires.long in
     (search rules, at.invariant.1, at.invariant.2, at.invariant.3, wrote.auto.out ∙ at.invariant.4, words ∙ next)
 
-pub shape_of-out : goal.shape_of-out
-shape_of-out c = c.loop-q.invariant.4
-
 pub returns : goal.returns
 returns c =
     let a = c.args in

@@ -56,9 +56,6 @@ loop-r-preserved c =
       ap (λ (o : List ℕ). set o (at + l.r) v) inv.8 ∙ next,
     )
 
-pub shape_of-out : goal.shape_of-out
-shape_of-out c = c.loop-r.invariant.7
-
 pub returns : goal.returns
 returns c =
     let l = c.loop-r in

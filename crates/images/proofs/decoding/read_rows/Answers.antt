@@ -25,9 +25,6 @@ use Rattle.images.proofs.WalkLaws.{
 use Rattle.images.proofs.CountLaws.{sized_long, fit_start, fit_next}
 use Rattle.images.proofs.decoding.read_rows.Goals as goal
 
-pub full_set-full-requires : goal.full_set-full-requires
-full_set-full-requires c = omega (arith, c.requires.sized.few)
-
 pub loop-q-init : goal.loop-q-init
 loop-q-init c =
     let a = c.args in
@@ -70,12 +67,6 @@ returns-then-found-ne0 c =
       all_fit = record { none = λ t f. absurd (false≢true f) };
     }
 
-pub overflow_add-q : goal.overflow_add-q
-overflow_add-q c = omega (arith, c.requires.sized.few)
-
-pub loop-q-smaller : goal.loop-q-smaller
-loop-q-smaller c = omega (arith, c.loop-q-test.true)
-
 pub loop-q-preserved : goal.loop-q-preserved
 loop-q-preserved c =
     let e = c in
@@ -101,9 +92,6 @@ loop-q-preserved c =
       row.rows_are e.if-found-ne0.false ∙ ap (λ (t : Table). set t q (row_in n ws q)) inv.3 ∙ next,
       fit_next ws n q a.counted at.fit r.read_row-f.result.fit inv.4 r.read_row-f.ensures.fits,
     )
-
-pub shape_of-cells : goal.shape_of-cells
-shape_of-cells c = c.loop-q.invariant.1
 
 pub returns : goal.returns
 returns c =

@@ -55,9 +55,6 @@ loop-q-preserved c =
     (row_words_of q (row t q)) 0 (omega arith) (omega arith) (omega arith) (λ k h. row_words t q k l h) in
     (search rules, at.invariant.1, at.invariant.2, wrote.auto.out ∙ at.invariant.3, words ∙ next)
 
-pub shape_of-out : goal.shape_of-out
-shape_of-out c = c.loop-q.invariant.3
-
 pub returns : goal.returns
 returns c =
     let a = c.args in

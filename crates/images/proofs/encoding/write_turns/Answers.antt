@@ -59,9 +59,6 @@ loop-k-preserved c =
       (λ i. set (at.invariant.5 i) c.turn_place-i.result c.word.result) ∙ next,
     )
 
-pub shape_of-out : goal.shape_of-out
-shape_of-out c = c.loop-k.invariant.4
-
 pub returns : goal.returns
 returns c =
     let a = c.args in

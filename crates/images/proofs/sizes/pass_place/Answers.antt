@@ -4,9 +4,6 @@ use native.Mathlib.Nat.{mul-le-mul}
 use native.Mathlib.Omega.{arith}
 use Rattle.images.proofs.sizes.pass_place.Goals as goal
 
-pub bare_words-requires : goal.bare_words-requires
-bare_words-requires c = omega (arith, c.requires.0)
-
 pub overflow_mul-result : goal.overflow_mul-result
 overflow_mul-result c =
     let small : c.args.n * c.args.q ≤ 16 * 16 =
@@ -22,6 +19,3 @@ overflow_add-result c =
     let low : c.args.q ≤ 16 = omega (arith, c.requires.0, c.requires.1) in
     mul-le-mul few low in
     omega (arith, small, c.bare_words.ensures, c.requires.0)
-
-pub returns : goal.returns
-returns c = omega (arith, c.bare_words.ensures)

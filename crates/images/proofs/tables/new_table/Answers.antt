@@ -19,25 +19,6 @@ loop-q-init c =
     let t = rows_of (take c.args.n c.args.cells.now) in
     (omega arith, refl, begun_start (replicate 16 blank) 0 t)
 
-pub row_at-requires : goal.row_at-requires
-row_at-requires c =
-    omega (arith, c.loop-q-test.true, c.loop-q.invariant.1, c.requires.0, c.requires.1)
-
-pub offset_bounds-rows-q : goal.offset_bounds-rows-q
-offset_bounds-rows-q c =
-    omega (arith, c.loop-q-test.true, c.loop-q.invariant.1, c.requires.0)
-
-pub bounds-rows-q : goal.bounds-rows-q
-bounds-rows-q c =
-    omega (arith, c.loop-q-test.true, c.loop-q.invariant.1, c.requires.0)
-
-pub overflow_add-q : goal.overflow_add-q
-overflow_add-q c =
-    omega (arith, c.loop-q-test.true, c.loop-q.invariant.1, c.requires.0)
-
-pub loop-q-smaller : goal.loop-q-smaller
-loop-q-smaller c = omega (arith, c.loop-q-test.true)
-
 pub loop-q-preserved : goal.loop-q-preserved
 loop-q-preserved c =
     let a = c.args in
