@@ -198,7 +198,7 @@ module _ (t : Table) (l : List ℕ) where
     unfolding written_of
     written-few z few =
         let e =
-            ap₂ outcome (eq-eqb (table_refusal t) 0 (sym is ∙ z)) (lt-leb (image_length (length t)) (length l) few) in
+        ap₂ outcome (eq-eqb (table_refusal t) 0 (sym is ∙ z)) (lt-leb (image_length (length t)) (length l) few) in
         record {
           refusal_is = sym (ap (λ (w : Written). w.refusal) e);
           words_are = sym

@@ -54,7 +54,7 @@ get_d_words_in (suc i) (a ∷ b ∷ c ∷ d ∷ bs) h = get_d_words_in i bs (ome
 -- the word that the code reads is word i of the bytes
 pub read_is : (bytes : List ℕ) (i : ℕ) → i < length bytes / 4
     → word_of (get_or bytes (4 * i) 0) (get_or bytes (4 * i + 1) 0) (get_or bytes (4 * i + 2) 0)
-        (get_or bytes (4 * i + 3) 0)
+    (get_or bytes (4 * i + 3) 0)
     ≡ get_or (words_in bytes) i 0
 read_is bytes i h =
     let first : 4 * i ≡ fours i = sym (fours_is i) in

@@ -18,16 +18,12 @@ returns-then-len-eq0 c =
 
 pub returns-then-all-len : goal.returns-then-all-len
 returns-then-all-len c =
-    let by = c in
-    let w = by in
-    let bs = w.args.input.now in
-    splits_at (words_in bs) by.words_by-all.result (by.words_by-all.ensures ∙ ap length_in w.word_at.ensures)
+    let bs = c.args.input.now in
+    splits_at (words_in bs) c.words_by-all.result (c.words_by-all.ensures ∙ ap length_in c.word_at.ensures)
     (omega (arith, c.if-all-len.true, length_words_in bs))
 
 pub returns : goal.returns
 returns c =
-    let by = c in
-    let w = by in
-    let bs = w.args.input.now in
+    let bs = c.args.input.now in
     splits_over (words_in bs) _ (sym (length_words_in bs))
-    (omega (arith, c.if-all-len.false, length_words_in bs, by.words_by-all.ensures ∙ ap length_in w.word_at.ensures))
+    (omega (arith, c.if-all-len.false, length_words_in bs, c.words_by-all.ensures ∙ ap length_in c.word_at.ensures))

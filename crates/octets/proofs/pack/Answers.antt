@@ -21,7 +21,7 @@ next words bytes i h =
     let s = bytes_of (take i words) in
     let w = bytes_of (get_or words i 0 ∷ []) in
     let e : 4 * i ≡ 0 + length s =
-        omega (arith, length_bytes_of (take i words), length-take-le i words (omega arith)) in
+    omega (arith, length_bytes_of (take i words), length-take-le i words (omega arith)) in
     let joined = sym (bytes_of_append (take i words) (get_or words i 0 ∷ [])) in
     ap (λ (k : ℕ). placed (placed bytes 0 s) k w) e
     ∙ placed_then bytes 0 s w (omega arith)

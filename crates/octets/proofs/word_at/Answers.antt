@@ -6,5 +6,4 @@ use Rattle.octets.proofs.word_at.Goals as goal
 
 pub returns : goal.returns
 returns c =
-    let s = c in
-    c.word_of.ensures ∙ read_is s.args.bytes.now s.args.i (omega arith)
+    c.word_of.ensures ∙ read_is c.args.bytes.now c.args.i (omega arith)

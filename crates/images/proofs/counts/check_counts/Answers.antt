@@ -20,25 +20,20 @@ passes_refusal-f-requires c = record {
 
 pub returns-then-f-ne0 : goal.returns-then-f-ne0
 returns-then-f-ne0 c =
-    let f = c in
-    let l = f in
-    let a = l.args in
-    let is = f.passes_refusal-f.ensures in
+    let a = c.args in
+    let is = c.passes_refusal-f.ensures in
     is
-    ∙ sym (l.loop-q.invariant.1
-    ∙ counts-stop a.n a.words.now l.loop-q.q l.loop-q-test.true
+    ∙ sym (c.loop-q.invariant.1
+    ∙ counts-stop a.n a.words.now c.loop-q.q c.loop-q-test.true
     (λ z. c.if-f-ne0.true (none_found (sym is) z)))
 
 pub loop-q-preserved : goal.loop-q-preserved
 loop-q-preserved c =
-    let f = c in
-    let l = f in
-    let s = l in
-    let a = s.args in
-    let none = none_found f.passes_refusal-f.ensures c.if-f-ne0.false in
+    let a = c.args in
+    let none = none_found c.passes_refusal-f.ensures c.if-f-ne0.false in
     let on =
-    counts-on a.n a.words.now l.loop-q.q l.loop-q-test.true s.requires.long none in
-    (search rules, l.loop-q.invariant.1 ∙ on)
+    counts-on a.n a.words.now c.loop-q.q c.loop-q-test.true c.requires.long none in
+    (search rules, c.loop-q.invariant.1 ∙ on)
 
 pub returns : goal.returns
 returns c =

@@ -11,7 +11,7 @@ abbrev pub invariant-loop-q : goal.invariant-loop-q
 invariant-loop-q l =
     (l.q ≤ l.n)
     × (first_refusal l.n (bare_length l.n) (pass_slots l.n 0 l.n) (drop (bare_length l.n) l.words)
-        ≡ fromPasses l.n l.words l.q)
+    ≡ fromPasses l.n l.words l.q)
 
 abbrev pub decreases-loop-q : goal.decreases-loop-q
 decreases-loop-q l = l.n - l.q

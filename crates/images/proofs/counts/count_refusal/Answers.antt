@@ -8,26 +8,23 @@ use Rattle.images.proofs.counts.count_refusal.Goals as goal
 
 pub returns-then-not-w-upper_half : goal.returns-then-not-w-upper_half
 returns-then-not-w-upper_half c =
-    let u = c in
-    let a = u.args in
+    let a = c.args in
     sym
-    (count-slot a.n a.q a.r a.w (u.upper_half.result + a.r) (omega arith) (omega arith) (omega arith)
+    (count-slot a.n a.q a.r a.w (c.upper_half.result + a.r) (omega arith) (omega arith) (omega arith)
     ∙ choice_on _ _ _ c.if-not-w-upper_half.true-raw)
 
 pub returns-then-not-q-r : goal.returns-then-not-q-r
 returns-then-not-q-r c =
-    let u = c in
-    let a = u.args in
+    let a = c.args in
     sym
-    (count-slot a.n a.q a.r a.w (u.upper_half.result + a.r) (omega arith) (omega arith) (omega arith)
+    (count-slot a.n a.q a.r a.w (c.upper_half.result + a.r) (omega arith) (omega arith) (omega arith)
     ∙ choice_off _ _ _ c.if-not-w-upper_half.false-raw
     ∙ choice_on _ _ _ c.if-not-q-r.true-raw)
 
 pub returns : goal.returns
 returns c =
-    let u = c in
-    let a = u.args in
+    let a = c.args in
     sym
-    (count-slot a.n a.q a.r a.w (u.upper_half.result + a.r) (omega arith) (omega arith) (omega arith)
+    (count-slot a.n a.q a.r a.w (c.upper_half.result + a.r) (omega arith) (omega arith) (omega arith)
     ∙ choice_off _ _ _ c.if-not-w-upper_half.false-raw
     ∙ choice_off _ _ _ c.if-not-q-r.false-raw)

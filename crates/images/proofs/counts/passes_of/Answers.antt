@@ -23,8 +23,7 @@ returns-then-not-counted c =
     let sized : (b : Bool) → c.args.counted ≡ b
     → length c.args.words.now ≡ cond b (image_length c.args.n) (bare_length c.args.n) =
     λ b e. c.requires.sized.length_is ∙ ap (λ (x : Bool). cond x (image_length c.args.n) (bare_length c.args.n)) e in
-    let s = c in
-    let a = s.args in
+    let a = c.args in
     let bare = not-true _ c.if-not-counted.true-raw in
     record {
       list_value =
@@ -40,12 +39,10 @@ loop-r-init c =
     → length c.args.words.now ≡ cond b (image_length c.args.n) (bare_length c.args.n) =
     λ b e. c.requires.sized.length_is ∙ ap (λ (x : Bool). cond x (image_length c.args.n) (bare_length c.args.n)) e in
     let at = c.pass_place-at in
-    let e = c in
-    let s = e in
-    let a = s.args in
-    let few = s.requires.sized.few in
-    let end = passes_within a.n a.q s.requires.q_lt_n in
-    let long = sized _ (not-false _ e.if-not-counted.false-raw) in (
+    let a = c.args in
+    let few = c.requires.sized.few in
+    let end = passes_within a.n a.q c.requires.q_lt_n in
+    let long = sized _ (not-false _ c.if-not-counted.false-raw) in (
       search rules,
       refl,
       few,
@@ -53,7 +50,7 @@ loop-r-init c =
       omega (arith, end, long, at.ensures),
       omega (arith, end, image_low a.n few, at.ensures),
       filled_start (readAt a.n a.words.now a.q) 16,
-      s.requires.q_lt_n,
+      c.requires.q_lt_n,
       omega (arith, c.upper_half-blank.ensures),
       refl,
     )
@@ -69,9 +66,8 @@ loop-r-preserved c =
     let l = c.loop-r in
     let inv = l.invariant in
     let low = c.loop-r-test.true in
-    let u = c in
-    let at = u.pass_place-at.result in
-    let a = u.args in
+    let at = c.pass_place-at.result in
+    let a = c.args in
     let ws = a.words.now in
     let upper : ℕ = PASSES * 4096 + a.q * 256 in
     let w : ℕ = get_or ws (at + l.r) 0 in
@@ -101,15 +97,12 @@ returns c =
     λ b e. c.requires.sized.length_is ∙ ap (λ (x : Bool). cond x (image_length c.args.n) (bare_length c.args.n)) e in
     let l = c.loop-r in
     let inv = l.invariant in
-    let u = c in
-    let at = u.pass_place-at.result in
-    let e = u in
-    let s = e in
-    let a = s.args in
+    let at = c.pass_place-at.result in
+    let a = c.args in
     let ws = a.words.now in
     let upper : ℕ = PASSES * 4096 + a.q * 256 in
     let end : l.r ≡ a.n = omega (arith, inv.1) in
-    let whole = sized _ (not-false _ e.if-not-counted.false-raw) in
+    let whole = sized _ (not-false _ c.if-not-counted.false-raw) in
     let long : image_length a.n ≤ length ws = omega (arith, whole) in
     let P : ℕ → Bool = λ j. eqb (get_or ws (at + j) 0 / 65536) (upper + j) in
     let same =
@@ -120,6 +113,6 @@ returns c =
           record {
             none =
                 λ t f.
-                fit_none a.n ws a.q inv.2 s.requires.q_lt_n long at upper inv.3 refl (sym same ∙ f);
+                fit_none a.n ws a.q inv.2 c.requires.q_lt_n long at upper inv.3 refl (sym same ∙ f);
           };
     }

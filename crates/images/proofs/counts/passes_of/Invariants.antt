@@ -22,7 +22,7 @@ invariant-loop-r l =
     × (l.q < l.n)
     × (l.blank ≡ (PASSES * 4096 + l.q * 256 + l.r) * 65536)
     × (eqb (l.odd / 65536) 0
-        ≡ every (λ j. eqb (get_or l.words (l.at + j) 0 / 65536) (PASSES * 4096 + l.q * 256 + j)) l.r)
+    ≡ every (λ j. eqb (get_or l.words (l.at + j) 0 / 65536) (PASSES * 4096 + l.q * 256 + j)) l.r)
 
 abbrev pub decreases-loop-r : goal.decreases-loop-r
 decreases-loop-r l = l.m - l.r

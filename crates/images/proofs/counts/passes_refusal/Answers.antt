@@ -11,14 +11,13 @@ use Rattle.images.proofs.counts.passes_refusal.Goals as goal
 
 pub loop-r-init : goal.loop-r-init
 loop-r-init c =
-    let s = c in
-    let a = s.args in
-    let few = s.requires.counted.few in
-    let end = passes_within a.n a.q s.requires.q_lt_n in (
+    let a = c.args in
+    let few = c.requires.counted.few in
+    let end = passes_within a.n a.q c.requires.q_lt_n in (
       search rules,
       few,
       c.pass_place-at.ensures,
-      omega (arith, end, s.requires.counted.long, c.pass_place-at.ensures),
+      omega (arith, end, c.requires.counted.long, c.pass_place-at.ensures),
       omega (arith, end, image_low a.n few, c.pass_place-at.ensures),
       passes_start a.n a.words.now a.q,
     )
@@ -29,15 +28,12 @@ returns-then-c-ne0 c =
     → at ≡ pass_place c.args.n c.args.q 0
     → at + r ≡ pass_place c.args.n c.args.q r =
     λ at r e. omega (arith, e) in
-    let r = c in
-    let l = r in
-    let at = l.pass_place-at.result in
-    let s = l in
-    let k = l.loop-r.r in
-    let inv = l.loop-r.invariant in
+    let at = c.pass_place-at.result in
+    let k = c.loop-r.r in
+    let inv = c.loop-r.invariant in
     let is = here at k inv.2 in
-    passes-stop s.args.n s.args.words.now s.args.q k (at + k) r.count_refusal-c.result
-    l.loop-r-test.true (omega (arith, is, inv.3, l.loop-r-test.true)) is r.count_refusal-c.ensures
+    passes-stop c.args.n c.args.words.now c.args.q k (at + k) c.count_refusal-c.result
+    c.loop-r-test.true (omega (arith, is, inv.3, c.loop-r-test.true)) is c.count_refusal-c.ensures
     c.if-c-ne0.true
     ∙ sym inv.5
 
@@ -47,16 +43,13 @@ loop-r-preserved c =
     → at ≡ pass_place c.args.n c.args.q 0
     → at + r ≡ pass_place c.args.n c.args.q r =
     λ at r e. omega (arith, e) in
-    let r = c in
-    let l = r in
-    let at = l.pass_place-at.result in
-    let s = l in
-    let k = l.loop-r.r in
-    let inv = l.loop-r.invariant in
+    let at = c.pass_place-at.result in
+    let k = c.loop-r.r in
+    let inv = c.loop-r.invariant in
     let is = here at k inv.2 in
     let on =
-    passes_on s.args.n s.args.words.now s.args.q k (at + k) r.count_refusal-c.result
-    l.loop-r-test.true (omega (arith, is, inv.3, l.loop-r-test.true)) is r.count_refusal-c.ensures
+    passes_on c.args.n c.args.words.now c.args.q k (at + k) c.count_refusal-c.result
+    c.loop-r-test.true (omega (arith, is, inv.3, c.loop-r-test.true)) is c.count_refusal-c.ensures
     c.if-c-ne0.false in
     (search rules, inv.1, inv.2, inv.3, inv.4, inv.5 ∙ on)
 

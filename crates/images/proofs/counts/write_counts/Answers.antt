@@ -17,23 +17,21 @@ use Rattle.images.proofs.counts.write_counts.Goals as goal
 
 pub loop-q-init : goal.loop-q-init
 loop-q-init c =
-    let s = c in
-    let x = s.args.cells.now in
+    let x = c.args.cells.now in
     let is = sym (rows_length x) in (
       search rules,
-      omega (arith, (sound_rows (rows_of x) s.requires.is_sound).1, is),
+      omega (arith, (sound_rows (rows_of x) c.requires.is_sound).1, is),
       is,
-      subst (λ (m : ℕ). image_length m ≤ length s.args.out.now) (rows_length x) s.requires.long,
+      subst (λ (m : ℕ). image_length m ≤ length c.args.out.now) (rows_length x) c.requires.long,
       refl,
-      passes_start (rows_of x) s.args.out.now (length x),
+      passes_start (rows_of x) c.args.out.now (length x),
     )
 
 pub write_passes-requires : goal.write_passes-requires
 write_passes-requires c =
-    let l = c in
-    let at = l.loop-q in
-    let n = length l.args.cells.now in
-    let low = l.loop-q-test.true in
+    let at = c.loop-q in
+    let n = length c.args.cells.now in
+    let low = c.loop-q-test.true in
     record {
       n_bound = (omega (arith, at.invariant.1), low);
       n_in_bounds = omega (arith, passes_within n at.q low, at.invariant.3, at.invariant.4);
@@ -42,16 +40,13 @@ write_passes-requires c =
 pub loop-q-preserved : goal.loop-q-preserved
 loop-q-preserved c =
     let wrote = c.write_passes in
-    let read = c in
-    let l = read in
-    let at = l.loop-q in
-    let s = l in
-    let x = s.args.cells.now in
+    let at = c.loop-q in
+    let x = c.args.cells.now in
     let n = length x in
     let words = wrote.ensures ∙ (λ i. placed (at.invariant.5 i) (pass_place n at.q 0)
-    (pass_words n at.q (read.row_at-row.ensures i).passes)) in
+    (pass_words n at.q (c.row_at-row.ensures i).passes)) in
     let next =
-    passes-next (rows_of x) s.args.out.now n at.invariant.2 at.q l.loop-q-test.true s.requires.long in
+    passes-next (rows_of x) c.args.out.now n at.invariant.2 at.q c.loop-q-test.true c.requires.long in
     (search rules, at.invariant.1, at.invariant.2, at.invariant.3, wrote.auto.out ∙ at.invariant.4, words ∙ next)
 
 pub returns : goal.returns

@@ -15,15 +15,14 @@ use Rattle.images.proofs.counts.write_passes.Goals as goal
 pub loop-r-init : goal.loop-r-init
 loop-r-init c =
     let at = c.pass_place-at in
-    let s = c in
-    let a = s.args in
-    let few : a.n ≤ 16 = omega (arith, s.requires.n_bound.0) in
-    let end = passes_within a.n a.q s.requires.n_bound.1 in (
+    let a = c.args in
+    let few : a.n ≤ 16 = omega (arith, c.requires.n_bound.0) in
+    let end = passes_within a.n a.q c.requires.n_bound.1 in (
       search rules,
       few,
-      s.requires.n_bound.1,
+      c.requires.n_bound.1,
       at.ensures,
-      omega (arith, s.requires.n_in_bounds, at.ensures),
+      omega (arith, c.requires.n_in_bounds, at.ensures),
       omega (arith, end, image_low a.n few, at.ensures),
       c.upper_half-upper.ensures,
       refl,
@@ -35,9 +34,8 @@ loop-r-preserved c =
     let l = c.loop-r in
     let inv = l.invariant in
     let low = c.loop-r-test.true in
-    let u = c in
-    let at = u.pass_place-at.result in
-    let a = u.args in
+    let at = c.pass_place-at.result in
+    let a = c.args in
     let long = length-pass_words a.n a.q a.passes in
     let v = c.whole.result in
     let word : v ≡ pass_word a.q l.r (get_or a.passes l.r 0) = omega (arith, c.whole.ensures, inv.6) in
@@ -59,9 +57,8 @@ loop-r-preserved c =
 pub returns : goal.returns
 returns c =
     let l = c.loop-r in
-    let u = c in
-    let at = u.pass_place-at in
-    let a = u.args in
+    let at = c.pass_place-at in
+    let a = c.args in
     let ws = pass_words a.n a.q a.passes in
     l.invariant.8
     ∙ begun_end a.out.now at.result ws l.r (omega (arith, length-pass_words a.n a.q a.passes))

@@ -11,24 +11,18 @@ loop-k-init c = (search rules, search rules, refl)
 
 pub returns-then-r-ne0 : goal.returns-then-r-ne0
 returns-then-r-ne0 c =
-    let r = c in
-    let s = r in
-    let at = r.turn_place-i in
-    let l = r in
-    turns-stop s.args.n s.args.words.now l.loop-k.k at.result r.turn_refusal-r.result
-    l.loop-k-test.true c.requires.long at.ensures r.turn_refusal-r.ensures c.if-r-ne0.true
-    ∙ sym l.loop-k.invariant.2
+    let at = c.turn_place-i in
+    turns-stop c.args.n c.args.words.now c.loop-k.k at.result c.turn_refusal-r.result
+    c.loop-k-test.true c.requires.long at.ensures c.turn_refusal-r.ensures c.if-r-ne0.true
+    ∙ sym c.loop-k.invariant.2
 
 pub loop-k-preserved : goal.loop-k-preserved
 loop-k-preserved c =
-    let r = c in
-    let s = r in
-    let at = r.turn_place-i in
-    let l = r in
+    let at = c.turn_place-i in
     let on =
-    turns-on s.args.n s.args.words.now l.loop-k.k at.result r.turn_refusal-r.result
-    l.loop-k-test.true c.requires.long at.ensures r.turn_refusal-r.ensures c.if-r-ne0.false in
-    (search rules, search rules, l.loop-k.invariant.2 ∙ on)
+    turns-on c.args.n c.args.words.now c.loop-k.k at.result c.turn_refusal-r.result
+    c.loop-k-test.true c.requires.long at.ensures c.turn_refusal-r.ensures c.if-r-ne0.false in
+    (search rules, search rules, c.loop-k.invariant.2 ∙ on)
 
 pub returns : goal.returns
 returns c =

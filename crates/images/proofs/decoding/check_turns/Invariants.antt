@@ -12,7 +12,7 @@ invariant-loop-k l =
     (1 ≤ l.k)
     × (l.k ≤ l.n)
     × (first_refusal l.n (turn_place l.n 1) (turn_slots 1 (l.n - 1)) (drop (turn_place l.n 1) l.words)
-        ≡ fromTurn l.n l.words l.k)
+    ≡ fromTurn l.n l.words l.k)
 
 abbrev pub decreases-loop-k : goal.decreases-loop-k
 decreases-loop-k l = l.n - l.k

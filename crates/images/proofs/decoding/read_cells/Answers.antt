@@ -39,17 +39,15 @@ overflow_cast-result c =
     let w = get_or c.args.words.now 0 0 in
     c.words_by-all.ensures
     ∙ ap (λ (m : ℕ). cond (says_passes w) (image_length m) (bare_length m)) header.size_is in
-    let all = c in
-    let n = all.size_in-n.result in
-    let w = get_or all.args.words.now 0 0 in
+    let n = c.size_in-n.result in
+    let w = get_or c.args.words.now 0 0 in
     omega (arith, c.lesser.ensures, all-is, either_low (says_passes w) n header.few)
 
 pub returns-then-len-all : goal.returns-then-len-all
 returns-then-len-all c =
     let header : Header (get_or c.args.words.now 0 0) c.size_in-n.result =
     header_some _ _ c.size_in-n.ensures c.if-n-eq0.false in
-    let e = c in
-    let a = e.args in
+    let a = c.args in
     let ws = a.words.now in
     let x = a.cells.now in
     let all = c.words_by-all.ensures in
@@ -69,12 +67,10 @@ read_words-f-requires c =
     let w = get_or c.args.words.now 0 0 in
     c.words_by-all.ensures
     ∙ ap (λ (m : ℕ). cond (says_passes w) (image_length m) (bare_length m)) header.size_is in
-    let all = c in
-    let e = all in
     let h = header in
     record {
       sized = record { some = h.some; few = h.few; length_is = c.if-len-all.false ∙ all-is };
-      n_in_bounds = omega (arith, h.few, e.requires);
+      n_in_bounds = omega (arith, h.few, c.requires);
     }
 
 -- ---- the words
@@ -85,16 +81,14 @@ returns-then-f-ne0 c =
     header_some _ _ c.size_in-n.ensures c.if-n-eq0.false in
     let found : image_refusal c.args.words.now
     ≡ c.read_words-f.result =
-    let e = c in
-    let ws = e.args.words.now in
+    let ws = c.args.words.now in
     let h = header in
     refused_words ws h.is_header_lem (c.if-len-all.false ∙ c.words_by-all.ensures)
     ∙ ap (λ (m : ℕ). first_refusal m 1 (cond (says_passes (get_or ws 0 0)) (slots m) (bare_slots m)) (drop 1 ws))
     h.size_is
     ∙ sym c.read_words-f.ensures.found_is in
-    let r = c in
-    let a = r.args in
-    into_refused a.words.now a.cells.now _ r.read_words-f.ensures.size_is _ _ found c.if-f-ne0.true
+    let a = c.args in
+    into_refused a.words.now a.cells.now _ c.read_words-f.ensures.size_is _ _ found c.if-f-ne0.true
 
 pub returns : goal.returns
 returns c =
@@ -102,17 +96,14 @@ returns c =
     header_some _ _ c.size_in-n.ensures c.if-n-eq0.false in
     let found : image_refusal c.args.words.now
     ≡ c.read_words-f.result =
-    let e = c in
-    let ws = e.args.words.now in
+    let ws = c.args.words.now in
     let h = header in
     refused_words ws h.is_header_lem (c.if-len-all.false ∙ c.words_by-all.ensures)
     ∙ ap (λ (m : ℕ). first_refusal m 1 (cond (says_passes (get_or ws 0 0)) (slots m) (bare_slots m)) (drop 1 ws))
     h.size_is
     ∙ sym c.read_words-f.ensures.found_is in
-    let r = c in
-    let e = r in
-    let a = e.args in
-    let read = r.read_words-f.ensures in
-    into_accepted a.words.now a.cells.now _ read.size_is e.size_in-n.result header.size_is
+    let a = c.args in
+    let read = c.read_words-f.ensures in
+    into_accepted a.words.now a.cells.now _ read.size_is c.size_in-n.result header.size_is
     (none_found (sym found) c.if-f-ne0.false)
     (read.rows_are c.if-f-ne0.false)

@@ -45,22 +45,20 @@ read_row-f-requires c =
 
 pub shape_of-cells-then-found-ne0 : goal.shape_of-cells-then-found-ne0
 shape_of-cells-then-found-ne0 c =
-    let r = c in
-    r.read_row-f.ensures.row_read.size_is ∙ r.loop-q.invariant.1
+    c.read_row-f.ensures.row_read.size_is ∙ c.loop-q.invariant.1
 
 pub returns-then-found-ne0 : goal.returns-then-found-ne0
 returns-then-found-ne0 c =
-    let r = c in
-    let n = r.args.n in
-    let ws = r.args.words.now in
-    let q = r.loop-q.q in
-    let row = r.read_row-f.ensures.row_read in
-    let inv = r.loop-q.invariant in
+    let n = c.args.n in
+    let ws = c.args.words.now in
+    let q = c.loop-q.q in
+    let row = c.read_row-f.ensures.row_read in
+    let inv = c.loop-q.invariant in
     let some : (ofRow n ws q).refusal ≡ 0 → ⊥ = λ z. c.if-found-ne0.true (none_found (sym row.found_is) z) in
     record {
       words_read =
           record {
-            found_is = row.found_is ∙ sym (inv.2 ∙ rows-stop n ws q r.loop-q-test.true some);
+            found_is = row.found_is ∙ sym (inv.2 ∙ rows-stop n ws q c.loop-q-test.true some);
             rows_are = λ z. absurd (c.if-found-ne0.true z);
             size_is = row.size_is ∙ inv.1;
           };
@@ -69,18 +67,16 @@ returns-then-found-ne0 c =
 
 pub loop-q-preserved : goal.loop-q-preserved
 loop-q-preserved c =
-    let e = c in
-    let r = e in
-    let a = r.args in
-    let pre = r.requires in
+    let a = c.args in
+    let pre = c.requires in
     let n = a.n in
     let ws = a.words.now in
-    let at = r.loop-q in
+    let at = c.loop-q in
     let q = at.q in
-    let row = r.read_row-f.ensures.row_read in
+    let row = c.read_row-f.ensures.row_read in
     let inv = at.invariant in
-    let l : q < n = r.loop-q-test.true in
-    let none = none_found row.found_is e.if-found-ne0.false in
+    let l : q < n = c.loop-q-test.true in
+    let none = none_found row.found_is c.if-found-ne0.false in
     let count = length-rows_in n ws 0 n in
     let row_is = ap (row_in n ws) {x = q} {y = 0 + q} (omega arith) ∙ sym (row-rows_in n ws 0 n q l) in
     let next =
@@ -89,20 +85,19 @@ loop-q-preserved c =
       omega arith,
       row.size_is ∙ inv.1,
       inv.2 ∙ rows_on n ws q l (sized_long ws n a.counted pre.sized).long none,
-      row.rows_are e.if-found-ne0.false ∙ ap (λ (t : Table). set t q (row_in n ws q)) inv.3 ∙ next,
-      fit_next ws n q a.counted at.fit r.read_row-f.result.fit inv.4 r.read_row-f.ensures.fits,
+      row.rows_are c.if-found-ne0.false ∙ ap (λ (t : Table). set t q (row_in n ws q)) inv.3 ∙ next,
+      fit_next ws n q a.counted at.fit c.read_row-f.result.fit inv.4 c.read_row-f.ensures.fits,
     )
 
 pub returns : goal.returns
 returns c =
-    let s = c in
-    let n = s.args.n in
-    let ws = s.args.words.now in
+    let n = c.args.n in
+    let ws = c.args.words.now in
     let at = c.loop-q in
     let q = at.q in
     let inv = at.invariant in
     let end : q ≡ n = omega (arith, c.loop-q-test.false, inv.0) in
-    let d = rows_of s.args.cells.now in
+    let d = rows_of c.args.cells.now in
     let count = length-rows_in n ws 0 n in
     record {
       words_read =

@@ -30,10 +30,9 @@ returns-then-len-all c =
     c.image_words-all.result ≡ image_length (length (rows_of x))) =
     let x = c.args.cells.now in
     c.image_words-all.ensures ∙ ap image_length (sym (rows_length x)) in
-    let e = c in
-    let a = e.args in
-    let checked = e.check-refusal in
-    written-few (rows_of a.cells.now) a.out.now checked.result checked.ensures e.if-refusal-ne0.false
+    let a = c.args in
+    let checked = c.check-refusal in
+    written-few (rows_of a.cells.now) a.out.now checked.result checked.ensures c.if-refusal-ne0.false
     (omega (arith, c.if-len-all.true, all-is))
 
 pub write_cells-requires : goal.write_cells-requires
@@ -58,9 +57,7 @@ returns c =
     let long : (let a = c.args in
     image_length (length (rows_of a.cells.now)) ≤ length a.out.now) =
     omega (arith, c.if-len-all.false, all-is) in
-    let r = c in
-    let e = r in
-    let a = e.args in
-    let checked = e.check-refusal in
-    written-image (rows_of a.cells.now) a.out.now checked.result checked.ensures _ e.if-refusal-ne0.false long
+    let a = c.args in
+    let checked = c.check-refusal in
+    written-image (rows_of a.cells.now) a.out.now checked.result checked.ensures _ c.if-refusal-ne0.false long
     c.write_cells.ensures

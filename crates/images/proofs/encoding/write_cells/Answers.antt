@@ -36,40 +36,33 @@ bounds-out-0 c =
     let x = c.args.cells.now in
     let all = sound_rows (rows_of x) c.requires.is_sound in
     (omega (arith, all.0, rows_length x), omega (arith, all.1, rows_length x)) in
-    let s = c in
-    omega (arith, small.0, s.requires.long, rows_length s.args.cells.now)
+    omega (arith, small.0, c.requires.long, rows_length c.args.cells.now)
 
 pub write_turns-requires : goal.write_turns-requires
 write_turns-requires c =
-    let s = c in
-    let same = length-set s.args.out.now 0 (header_of (length s.args.cells.now)) in
+    let same = length-set c.args.out.now 0 (header_of (length c.args.cells.now)) in
     record {
-      is_sound = s.requires.is_sound;
-      long = omega (arith, s.requires.long, same, c.write_rows.auto.out);
+      is_sound = c.requires.is_sound;
+      long = omega (arith, c.requires.long, same, c.write_rows.auto.out);
     }
 
 pub write_counts-requires : goal.write_counts-requires
 write_counts-requires c =
     let kept-turns : length c.write_turns.new.out
     ≡ length c.args.out.now =
-    let s = c in
     c.write_turns.auto.out
     ∙ c.write_rows.auto.out
-    ∙ length-set s.args.out.now 0 (header_of (length s.args.cells.now)) in
-    let t = c in
-    let s = t in
-    record { is_sound = s.requires.is_sound; long = omega (arith, s.requires.long, kept-turns) }
+    ∙ length-set c.args.out.now 0 (header_of (length c.args.cells.now)) in
+    record { is_sound = c.requires.is_sound; long = omega (arith, c.requires.long, kept-turns) }
 
 pub shape_of-out : goal.shape_of-out
 shape_of-out c =
     let kept-turns : length c.write_turns.new.out
     ≡ length c.args.out.now =
-    let s = c in
     c.write_turns.auto.out
     ∙ c.write_rows.auto.out
-    ∙ length-set s.args.out.now 0 (header_of (length s.args.cells.now)) in
-    let w = c in
-    w.write_counts.auto.out ∙ kept-turns
+    ∙ length-set c.args.out.now 0 (header_of (length c.args.cells.now)) in
+    c.write_counts.auto.out ∙ kept-turns
 
 pub returns : goal.returns
 returns c =
@@ -77,19 +70,16 @@ returns c =
     let x = c.args.cells.now in
     let all = sound_rows (rows_of x) c.requires.is_sound in
     (omega (arith, all.0, rows_length x), omega (arith, all.1, rows_length x)) in
-    let w = c in
-    let t = w in
-    let s = t in
-    let x = s.args.cells.now in
+    let x = c.args.cells.now in
     let u = rows_of x in
     let n = rows_length x in
     let h = small in
-    let rows = t.write_rows.ensures in
-    let head = ap (λ (k : ℕ). set s.args.out.now 0 (header_of k)) (sym n) in
-    w.write_counts.ensures
+    let rows = c.write_rows.ensures in
+    let head = ap (λ (k : ℕ). set c.args.out.now 0 (header_of k)) (sym n) in
+    c.write_counts.ensures
     ∙ ap (λ (l : List ℕ). placed l (bare_length (length x)) (passes_part u))
-    (t.write_turns.ensures
+    (c.write_turns.ensures
     ∙ ap (λ (l : List ℕ). placed l (turn_place (length x) 1) (turns_part u))
     (rows ∙ ap (λ (l : List ℕ). placed l 1 (rows_part u)) head))
-    ∙ image-placed u s.args.out.now (omega arith) s.requires.long (turn_place (length x) 1) (bare_length (length x))
+    ∙ image-placed u c.args.out.now (omega arith) c.requires.long (turn_place (length x) 1) (bare_length (length x))
     (omega arith) (omega arith)

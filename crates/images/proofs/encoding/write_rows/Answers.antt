@@ -29,20 +29,18 @@ loop-q-init c =
 
 pub write_row-requires : goal.write_row-requires
 write_row-requires c =
-    let s = c in
-    let t = rows_of s.args.cells.now in
+    let t = rows_of c.args.cells.now in
     let at = c.loop-q in
     let l : at.q < length t = omega (arith, at.invariant.2, c.loop-q-test.true) in
     record {
-      packable = subst Packable (sym c.row_at.ensures) (packable t s.requires.is_sound at.q l);
-      q_bound = (search rules, omega (arith, s.requires.long, at.invariant.3));
+      packable = subst Packable (sym c.row_at.ensures) (packable t c.requires.is_sound at.q l);
+      q_bound = (search rules, omega (arith, c.requires.long, at.invariant.3));
     }
 
 pub loop-q-preserved : goal.loop-q-preserved
 loop-q-preserved c =
-    let s = c in
-    let o = s.args.out.now in
-    let t = rows_of s.args.cells.now in
+    let o = c.args.out.now in
+    let t = rows_of c.args.cells.now in
     let at = c.loop-q in
     let q = at.q in
     let l : q < length t = omega (arith, at.invariant.2, c.loop-q-test.true) in
@@ -51,7 +49,7 @@ loop-q-preserved c =
     (row_words_of q (c.row_at.ensures i))) in
     let parts = length-rows_part t in
     let next =
-    begun_more o 1 (rows_part t) (omega (arith, s.requires.long)) (4 * q) (4 * (q + 1)) (row_place q)
+    begun_more o 1 (rows_part t) (omega (arith, c.requires.long)) (4 * q) (4 * (q + 1)) (row_place q)
     (row_words_of q (row t q)) 0 (omega arith) (omega arith) (omega arith) (λ k h. row_words t q k l h) in
     (search rules, at.invariant.1, at.invariant.2, wrote.auto.out ∙ at.invariant.3, words ∙ next)
 

@@ -29,16 +29,14 @@ loop-k-init c =
 
 pub bounds-out-i : goal.bounds-out-i
 bounds-out-i c =
-    let s = c in
     let inv = c.loop-k.invariant in
-    omega (arith, s.requires.long, inv.3, inv.4)
+    omega (arith, c.requires.long, inv.3, inv.4)
 
 pub loop-k-preserved : goal.loop-k-preserved
 unfolding body_of
 loop-k-preserved c =
-    let s = c in
-    let o = s.args.out.now in
-    let x = s.args.cells.now in
+    let o = c.args.out.now in
+    let x = c.args.cells.now in
     let t = rows_of x in
     let at = c.loop-k in
     let k = at.k in
@@ -47,7 +45,7 @@ loop-k-preserved c =
     let row_is = c.row_at-r.ensures in
     let word = c.word.ensures ∙ ap (λ (r : Row). word_for TURN k r) row_is ∙ turn_word t k at.invariant.0 l in
     let next =
-    begun-next o (turn_place (length x) 1) (turns_part t) (omega (arith, s.requires.long, at.invariant.3)) (k - 1)
+    begun-next o (turn_place (length x) 1) (turns_part t) (omega (arith, c.requires.long, at.invariant.3)) (k - 1)
     (k + 1 - 1)
     c.turn_place-i.result c.word.result 0 (omega (arith, c.turn_place-i.ensures)) (omega arith)
     (omega arith) word in (
