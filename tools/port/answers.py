@@ -103,7 +103,14 @@ def named(parts, function):
             i = parts.index(kind)
             names = CLAUSES.get(function, ([], []))[k]
             if len(names) > 1 and i + 1 < len(parts) and parts[i + 1].isdigit():
-                parts[i + 1] = names[int(parts[i + 1])] or parts[i + 1]
+                # the clauses were pairs within pairs: 0, 1.0, 1.1.0 .., and the last has no 0
+                j, n = i + 1, 0
+                while n < len(names) - 1 and j < len(parts) and parts[j] == "1":
+                    j, n = j + 1, n + 1
+                if n < len(names) - 1 and j < len(parts) and parts[j] == "0":
+                    j += 1
+                if names[n]:
+                    parts[i + 1 : j] = [names[n]]
     return parts
 
 
@@ -156,6 +163,8 @@ class Function:
                 place = "Start"
         if not parts:
             return var + ".before" * n, place
+        if parts[0] == "pre":
+            parts[0] = "requires"
         at = self.find(place, parts[0]) or self.anywhere(parts[0])
         if at is None:
             if parts[0] in ("args", "ranges") and len(parts) > 1:
@@ -439,12 +448,12 @@ def with_helpers(f, var, body):
 
     def calls(t):
         for h in f.helpers:
-            arg = rf"(?:{TOKEN}(?:\.before)*|\({TOKEN}(?:\.before)*\))(?![\w.'\-])"
+            arg = rf"(?!(?:in|_)(?![\w.'\-]))(?:{TOKEN}(?:\.before)*|\({TOKEN}(?:\.before)*\))(?![\w.'\-])"
             if h["to"]:
                 t = re.sub(rf"\({word(h['name'])} ({arg})\)|{word(h['name'])} ({arg})", lambda m: m.group(1) or m.group(2), t)
                 t = re.sub(rf"({TOKEN})\.before+(?![\w.])", r"\1", t) if False else t
         for h in f.helpers:
-            arg = rf"(?:{TOKEN}(?:\.before)*|\({TOKEN}(?:\.before)*\))(?![\w.'\-])"
+            arg = rf"(?!(?:in|_)(?![\w.'\-]))(?:{TOKEN}(?:\.before)*|\({TOKEN}(?:\.before)*\))(?![\w.'\-])"
             if not h["to"]:
                 t = re.sub(rf"\({word(h['name'])} {arg}\)|{word(h['name'])} {arg}", h["name"], t)
         return t

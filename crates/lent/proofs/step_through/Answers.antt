@@ -8,6 +8,7 @@ use native.Mathlib.Numerals.{add-one}
 use lib.ListN.{length, get_or, set, take}
 use borrow.Author.Rules.{rules}
 use borrow.Author.Count.{below_more}
+use Rattle.std.proofs.lemmas.List.{get_or_default}
 use Rattle.machine.specs.Rows.{blank}
 use Rattle.machine.specs.Tables.{Table, row}
 use Rattle.machine.specs.Settings.{after_under}
@@ -42,12 +43,14 @@ loop-i-preserved c =
     let v = c.loop-i.invariant in
     let i = c.loop-i.i in
     let long : length c.cells_of.result ≡ 24 = search rules in
-    let one : length (row c.args.rows.now i).passes ≡ 16 = counts_of (row c.args.rows.now i) _ c.cells_of.ensures long in (
+    let within : i < length c.args.rows.now = omega (arith, c.lesser-m.ensures) in
+    let cells : c.cells_of.result ≡ cells_of (row c.args.rows.now i) =
+    c.cells_of.ensures ∙ ap cells_of (get_or_default c.args.rows.now i _ blank within) in (
       omega arith,
-      ap (set c.loop-i.cells i) c.cells_of.ensures
+      ap (set c.loop-i.cells i) cells
           ∙ copy_next cells_of blank c.args.rows.now 0 i i c.args.cells.now c.loop-i.cells (omega arith) v.1
           ∙ ap (λ k. copied cells_of blank c.args.rows.now 0 k c.args.cells.now) (sym (add-one i)),
-      below_more (λ q. length (row c.args.rows.now q).passes ≡ 16) i v.2 one,
+      below_more (λ q. length (row c.args.rows.now q).passes ≡ 16) i v.2 (counts_of _ _ cells long),
     )
 
 pub loop-j-init : goal.loop-j-init
