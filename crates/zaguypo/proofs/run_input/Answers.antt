@@ -29,10 +29,8 @@ slice_bounds-cells-end c =
         → Shows (input_of bytes) (words_in bytes) c.open_input.new.cells r =
         λ r e. subst (λ (v : Opened). Shows (input_of bytes) (words_in bytes) c.open_input.new.cells v) e
         c.open_input.ensures in
-    let ready : (let o = c.open_input in
-        let g = c.size-1.given.0 in
-        ShowsReady (input_of bytes) (words_in bytes) o.last.1.1.0 g.0 g.1.0
-        g.1.1.0) =
+    let ready : ShowsReady (input_of bytes) (words_in bytes) c.open_input.new.cells c.in-Ready.size
+        c.in-Ready.first c.in-Ready.last =
         said _ c.in-Ready.is in
  ready.table.within
 
@@ -44,10 +42,8 @@ slice_bounds-run_table-end c =
         → Shows (input_of bytes) (words_in bytes) c.open_input.new.cells r =
         λ r e. subst (λ (v : Opened). Shows (input_of bytes) (words_in bytes) c.open_input.new.cells v) e
         c.open_input.ensures in
-    let ready : (let o = c.open_input in
-        let g = c.size-1.given.0 in
-        ShowsReady (input_of bytes) (words_in bytes) o.last.1.1.0 g.0 g.1.0
-        g.1.1.0) =
+    let ready : ShowsReady (input_of bytes) (words_in bytes) c.open_input.new.cells c.in-Ready.size
+        c.in-Ready.first c.in-Ready.last =
         said _ c.in-Ready.is in
 
     let z = c in
@@ -61,10 +57,8 @@ overflow_mul-first c =
         → Shows (input_of bytes) (words_in bytes) c.open_input.new.cells r =
         λ r e. subst (λ (v : Opened). Shows (input_of bytes) (words_in bytes) c.open_input.new.cells v) e
         c.open_input.ensures in
-    let ready : (let o = c.open_input in
-        let g = c.size-1.given.0 in
-        ShowsReady (input_of bytes) (words_in bytes) o.last.1.1.0 g.0 g.1.0
-        g.1.1.0) =
+    let ready : ShowsReady (input_of bytes) (words_in bytes) c.open_input.new.cells c.in-Ready.size
+        c.in-Ready.first c.in-Ready.last =
         said _ c.in-Ready.is in
     let ends : (c.in-Ready.first ≤ c.in-Ready.last)
         × (4 * c.in-Ready.last ≤ length bytes) =
@@ -80,10 +74,8 @@ overflow_mul-last c =
         → Shows (input_of bytes) (words_in bytes) c.open_input.new.cells r =
         λ r e. subst (λ (v : Opened). Shows (input_of bytes) (words_in bytes) c.open_input.new.cells v) e
         c.open_input.ensures in
-    let ready : (let o = c.open_input in
-        let g = c.size-1.given.0 in
-        ShowsReady (input_of bytes) (words_in bytes) o.last.1.1.0 g.0 g.1.0
-        g.1.1.0) =
+    let ready : ShowsReady (input_of bytes) (words_in bytes) c.open_input.new.cells c.in-Ready.size
+        c.in-Ready.first c.in-Ready.last =
         said _ c.in-Ready.is in
     let ends : (c.in-Ready.first ≤ c.in-Ready.last)
         × (4 * c.in-Ready.last ≤ length bytes) =
@@ -99,10 +91,8 @@ slice_bounds-run_table-count c =
         → Shows (input_of bytes) (words_in bytes) c.open_input.new.cells r =
         λ r e. subst (λ (v : Opened). Shows (input_of bytes) (words_in bytes) c.open_input.new.cells v) e
         c.open_input.ensures in
-    let ready : (let o = c.open_input in
-        let g = c.size-1.given.0 in
-        ShowsReady (input_of bytes) (words_in bytes) o.last.1.1.0 g.0 g.1.0
-        g.1.1.0) =
+    let ready : ShowsReady (input_of bytes) (words_in bytes) c.open_input.new.cells c.in-Ready.size
+        c.in-Ready.first c.in-Ready.last =
         said _ c.in-Ready.is in
     let ends : (c.in-Ready.first ≤ c.in-Ready.last)
         × (4 * c.in-Ready.last ≤ length bytes) =
@@ -118,10 +108,8 @@ slice_bounds-run_table-start c =
         → Shows (input_of bytes) (words_in bytes) c.open_input.new.cells r =
         λ r e. subst (λ (v : Opened). Shows (input_of bytes) (words_in bytes) c.open_input.new.cells v) e
         c.open_input.ensures in
-    let ready : (let o = c.open_input in
-        let g = c.size-1.given.0 in
-        ShowsReady (input_of bytes) (words_in bytes) o.last.1.1.0 g.0 g.1.0
-        g.1.1.0) =
+    let ready : ShowsReady (input_of bytes) (words_in bytes) c.open_input.new.cells c.in-Ready.size
+        c.in-Ready.first c.in-Ready.last =
         said _ c.in-Ready.is in
     let ends : (c.in-Ready.first ≤ c.in-Ready.last)
         × (4 * c.in-Ready.last ≤ length bytes) =
@@ -137,10 +125,8 @@ slice_bounds-run_table-end-in-Ready c =
         → Shows (input_of bytes) (words_in bytes) c.open_input.new.cells r =
         λ r e. subst (λ (v : Opened). Shows (input_of bytes) (words_in bytes) c.open_input.new.cells v) e
         c.open_input.ensures in
-    let ready : (let o = c.open_input in
-        let g = c.size-1.given.0 in
-        ShowsReady (input_of bytes) (words_in bytes) o.last.1.1.0 g.0 g.1.0
-        g.1.1.0) =
+    let ready : ShowsReady (input_of bytes) (words_in bytes) c.open_input.new.cells c.in-Ready.size
+        c.in-Ready.first c.in-Ready.last =
         said _ c.in-Ready.is in
     let ends : (c.in-Ready.first ≤ c.in-Ready.last)
         × (4 * c.in-Ready.last ≤ length bytes) =
@@ -156,23 +142,19 @@ run_table-requires c =
         → Shows (input_of bytes) (words_in bytes) c.open_input.new.cells r =
         λ r e. subst (λ (v : Opened). Shows (input_of bytes) (words_in bytes) c.open_input.new.cells v) e
         c.open_input.ensures in
-    let ready : (let o = c.open_input in
-        let g = c.size-1.given.0 in
-        ShowsReady (input_of bytes) (words_in bytes) o.last.1.1.0 g.0 g.1.0
-        g.1.1.0) =
+    let ready : ShowsReady (input_of bytes) (words_in bytes) c.open_input.new.cells c.in-Ready.size
+        c.in-Ready.first c.in-Ready.last =
         said _ c.in-Ready.is in
     let ends : (c.in-Ready.first ≤ c.in-Ready.last)
         × (4 * c.in-Ready.last ≤ length bytes) =
         let r = ready in
         (r.ordered, omega (arith, r.ends, length_words_in bytes)) in
-    let events-are : (let g = c.size-1.given.0.1 in
-        let bs = bytes in
-        words_in (take (4 * g.1.0 - 4 * g.0) (drop (4 * g.0) bs)) ≡ part (words_in bs) g.0 g.1.0) =
+    let events-are : words_in (take (4 * c.in-Ready.last - 4 * c.in-Ready.first) (drop (4 * c.in-Ready.first) bytes))
+        ≡ part (words_in bytes) c.in-Ready.first c.in-Ready.last =
         words_part _ _ bytes ends.0 in
 
     let z = c in
     let r = ready in
-    let g = z.size-1.given.0.1 in
     record {
       table_sound = r.table.sound;
       words_few =
@@ -180,7 +162,7 @@ run_table-requires c =
             arith,
             r.few,
             ap length events-are,
-            length-take (g.1.0 - g.0) (drop g.0 (words_in bytes)),
+            length-take (c.in-Ready.last - c.in-Ready.first) (drop c.in-Ready.first (words_in bytes)),
           );
     }
 
@@ -215,9 +197,7 @@ returns-in-BadImage c =
         c.open_input.ensures in
 
     let o = c in
-    let g = c.number-1.given in
-    calls_as (call_of_lem under bytes lent _ (said _ g.1))
-    (calls_bad_image under lent g.0.0 g.0.1.0)
+    calls_as (call_of_lem under bytes lent _ (said _ c.in-BadImage.is)) (calls_bad_image under lent _ _)
 
 pub returns-in-TooMany : goal.returns-in-TooMany
 returns-in-TooMany c =
@@ -233,8 +213,7 @@ returns-in-TooMany c =
         c.open_input.ensures in
 
     let o = c in
-    let g = c.enum_told-in-TooMany-1.given in
-    calls_as (call_of_lem under bytes lent _ (said _ g.1).holds)
+    calls_as (call_of_lem under bytes lent _ (said _ c.in-TooMany.is).holds)
     (calls_too_many under lent _ _ c.too_many.ensures)
 
 pub returns-in-Ready : goal.returns-in-Ready
@@ -249,24 +228,21 @@ returns-in-Ready c =
         → Shows (input_of bytes) (words_in bytes) c.open_input.new.cells r =
         λ r e. subst (λ (v : Opened). Shows (input_of bytes) (words_in bytes) c.open_input.new.cells v) e
         c.open_input.ensures in
-    let ready : (let o = c.open_input in
-        let g = c.size-1.given.0 in
-        ShowsReady (input_of bytes) (words_in bytes) o.last.1.1.0 g.0 g.1.0
-        g.1.1.0) =
+    let ready : ShowsReady (input_of bytes) (words_in bytes) c.open_input.new.cells c.in-Ready.size
+        c.in-Ready.first c.in-Ready.last =
         said _ c.in-Ready.is in
     let ends : (c.in-Ready.first ≤ c.in-Ready.last)
         × (4 * c.in-Ready.last ≤ length bytes) =
         let r = ready in
         (r.ordered, omega (arith, r.ends, length_words_in bytes)) in
-    let events-are : (let g = c.size-1.given.0.1 in
-        let bs = bytes in
-        words_in (take (4 * g.1.0 - 4 * g.0) (drop (4 * g.0) bs)) ≡ part (words_in bs) g.0 g.1.0) =
+    let events-are : words_in (take (4 * c.in-Ready.last - 4 * c.in-Ready.first) (drop (4 * c.in-Ready.first) bytes))
+        ≡ part (words_in bytes) c.in-Ready.first c.in-Ready.last =
         words_part _ _ bytes ends.0 in
 
     let t = c in
     let z = t in
     let o = z in
-    let table = table_of o.open_input.last.1.1.0 z.in-Ready.size in
+    let table = table_of c.open_input.new.cells z.in-Ready.size in
     calls_as
     (ap (λ (ws : List ℕ). call_for under (Input.Ready table ws) lent) events-are
     ∙ call_of_lem under bytes lent _ ready.holds)
