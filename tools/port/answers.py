@@ -103,7 +103,14 @@ def named(parts, function):
             i = parts.index(kind)
             names = CLAUSES.get(function, ([], []))[k]
             if len(names) > 1 and i + 1 < len(parts) and parts[i + 1].isdigit():
-                parts[i + 1] = names[int(parts[i + 1])] or parts[i + 1]
+                # the clauses were pairs within pairs: 0, 1.0, 1.1.0 .., and the last has no 0
+                j, n = i + 1, 0
+                while n < len(names) - 1 and j < len(parts) and parts[j] == "1":
+                    j, n = j + 1, n + 1
+                if n < len(names) - 1 and j < len(parts) and parts[j] == "0":
+                    j += 1
+                if names[n]:
+                    parts[i + 1 : j] = [names[n]]
     return parts
 
 
@@ -156,6 +163,8 @@ class Function:
                 place = "Start"
         if not parts:
             return var + ".before" * n, place
+        if parts[0] == "pre":
+            parts[0] = "requires"
         at = self.find(place, parts[0]) or self.anywhere(parts[0])
         if at is None:
             if parts[0] in ("args", "ranges") and len(parts) > 1:
@@ -167,6 +176,8 @@ class Function:
             tail = [sub[tail[0]]] + tail[1:]
         elif tail and norm(tail[0]) in {norm(k): v for k, v in sub.items()}:
             tail = [{norm(k): v for k, v in sub.items()}[norm(tail[0])]] + tail[1:]
+        if tail[:2] == ["new", "0"] and self.e["params"].get(self.callee[at]):
+            tail = ["new", self.e["params"][self.callee[at]][0]] + tail[2:]
         return ".".join([var, self.step[at][1]] + named(self.live(at, tail), self.callee[at])), None
 
     def live(self, at, tail):
@@ -437,16 +448,14 @@ def with_helpers(f, var, body):
 
     def calls(t):
         for h in f.helpers:
-            arg = rf"(?:{TOKEN}(?:\.before)*|\({TOKEN}(?:\.before)*\))(?![\w.'\-])"
+            arg = rf"(?!(?:in|_)(?![\w.'\-]))(?:{TOKEN}(?:\.before)*|\({TOKEN}(?:\.before)*\))(?![\w.'\-])"
             if h["to"]:
-                t = re.sub(rf"\({word(h['name'])} ({arg})\)", r"\1", t)
-                t = re.sub(rf"{word(h['name'])} ({arg})", r"\1", t)
+                t = re.sub(rf"\({word(h['name'])} ({arg})\)|{word(h['name'])} ({arg})", lambda m: m.group(1) or m.group(2), t)
                 t = re.sub(rf"({TOKEN})\.before+(?![\w.])", r"\1", t) if False else t
         for h in f.helpers:
-            arg = rf"(?:{TOKEN}(?:\.before)*|\({TOKEN}(?:\.before)*\))(?![\w.'\-])"
+            arg = rf"(?!(?:in|_)(?![\w.'\-]))(?:{TOKEN}(?:\.before)*|\({TOKEN}(?:\.before)*\))(?![\w.'\-])"
             if not h["to"]:
-                t = re.sub(rf"\({word(h['name'])} {arg}\)", h["name"], t)
-                t = re.sub(rf"{word(h['name'])} {arg}", h["name"], t)
+                t = re.sub(rf"\({word(h['name'])} {arg}\)|{word(h['name'])} {arg}", h["name"], t)
         return t
 
     def as_var(t, old):
@@ -539,8 +548,14 @@ def answer(f, name, new, b, place):
             callee = same[0] if len(same) == 1 else None
         several = CLAUSES.get(callee, ([], []))[0]
     if several and len(several) > 1:
-        eq = body.rindex(" in\n") + 3 if lets else body.index("=")
+        eq = body.index("=")
         ps = parts_of(body[eq + 1 :])
+        if ps is None:
+            ins = [m.end() - 1 for m in re.finditer(r"\bin(?=[\s(])", body)]
+            for at in ins:
+                if parts_of(body[at + 1 :]):
+                    eq, ps = at, parts_of(body[at + 1 :])
+                    break
         if ps and len(ps) == len(several):
             body = body[: eq + 1] + " record {\n" + "\n".join(f"  {n} = {p.strip()};" for n, p in zip(several, ps)) + "\n}"
         elif "search rules" not in body[eq:eq+16]:

@@ -9,7 +9,7 @@ ghost use Rattle.machine.specs.Calls.{call_of};
 ghost use Rattle.machine.specs.Exports.{parts_answer_of, word_answer_of, fresh_in, read_in, printed_in};
 ghost use Rattle.cells.specs.View.{rows_of};
 ghost use Rattle.images.specs.Answers.{Writes};
-ghost use Rattle.lent.specs.Contracts.{StepsTo};
+ghost use Rattle.lent.specs.LentStep.{StepsTo};
 ghost use Rattle.runs.specs.Outcomes.{RunsTo};
 ghost use Rattle.rounds.specs.Promises.{RoundsTo};
 

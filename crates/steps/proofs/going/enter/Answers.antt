@@ -34,7 +34,10 @@ entered-requires c =
     let own_room : (let r = c in
         c.raisable.result ≡ raisable r.competitors-c.result r.row_at-r.result.passes) =
         c.raisable.ensures in
- (search rules, sym own_room ∙ not-false _ c.if-not-raisable.false-raw)
+ record {
+  among = search rules;
+  passes_value = sym own_room ∙ not-false _ c.if-not-raisable.false-raw;
+}
 
 pub returns : goal.returns
 unfolding cell_at

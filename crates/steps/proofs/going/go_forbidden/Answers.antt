@@ -27,7 +27,7 @@ returns-then-not-to_push c =
     let row_is = c.row_at-r.ensures in
     let away = sym (ap to_push row_is) ∙ sym c.to_push.ensures ∙ not-true _ c.if-not-to_push.true-raw in
     let one = c.if-settings-ne-ONE_WRITER.false in
-    sym (forbids-away (rows_of a.cells.now) a.p a.settings one inside)
+    sym (forbids-away (rows_of a.cells.now) a.p a.settings one inside away)
 
 pub returns : goal.returns
 returns c =
@@ -42,4 +42,4 @@ returns c =
     let goes = sym (ap to_push row_is) ∙ sym push ∙ not-false _ c.if-not-to_push.false-raw in
     c.has_writer.ensures
     ∙ ap (λ (r : Row). has_writer r.level t) row_is
-    ∙ sym (forbids-by t a.p a.settings c.if-settings-ne-ONE_WRITER.false inside)
+    ∙ sym (forbids-by t a.p a.settings c.if-settings-ne-ONE_WRITER.false inside goes)

@@ -27,18 +27,18 @@ returns-then-asks_turn c =
         c.asks_turn.result ≡ asks_turn (row (rows_of a.cells.now) a.p)) =
         c.asks_turn.ensures ∙ ap asks_turn c.row_at-r.ensures in
     let reconsiders : (let a = c.args in
-        Becomes a.cells.now (gone (rows_of a.cells.now) a.p) c.put_row.new.0) =
+        Becomes a.cells.now (gone (rows_of a.cells.now) a.p) c.put_row.new.cells) =
         let put = c in
         let s = c in
         let turn = ap (λ (q : Row). q.turn) put.row_at-v.ensures in
         becomes_as put.put_row.ensures
-        (put_reconsidered s.args.cells.now s.args.p _ _ c.row_at-r.ensures _ s.pre.there turn
+        (put_reconsidered s.args.cells.now s.args.p _ _ c.row_at-r.ensures _ s.requires.there turn
         put.reconsidered.ensures) in
 
     let k = c in
     let r = k in
     let cell = ap (λ (q : Row). with_cell (turn_read q.level) quiet) r.row_at-r.ensures in
-    goes_asking true r.pre.there (sym asks ∙ c.if-asks_turn.true)
+    goes_asking true r.requires.there (sym asks ∙ c.if-asks_turn.true)
     (c.turn_read.ensures ∙ cell) reconsiders
 
 pub returns : goal.returns
@@ -47,12 +47,12 @@ returns c =
         c.asks_turn.result ≡ asks_turn (row (rows_of a.cells.now) a.p)) =
         c.asks_turn.ensures ∙ ap asks_turn c.row_at-r.ensures in
     let reconsiders : (let a = c.args in
-        Becomes a.cells.now (gone (rows_of a.cells.now) a.p) c.put_row.new.0) =
+        Becomes a.cells.now (gone (rows_of a.cells.now) a.p) c.put_row.new.cells) =
         let put = c in
         let s = c in
         let turn = ap (λ (q : Row). q.turn) put.row_at-v.ensures in
         becomes_as put.put_row.ensures
-        (put_reconsidered s.args.cells.now s.args.p _ _ c.row_at-r.ensures _ s.pre.there turn
+        (put_reconsidered s.args.cells.now s.args.p _ _ c.row_at-r.ensures _ s.requires.there turn
         put.reconsidered.ensures) in
 
     let k = c in

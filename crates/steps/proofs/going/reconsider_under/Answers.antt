@@ -20,7 +20,7 @@ returns-then-go_forbidden c =
 
     let s = c in
     let m = s.args.settings in
-    let none = refused_not (rows_of s.args.cells.now) GO s.args.p 0 may in
+    let none = refused_not (rows_of s.args.cells.now) GO s.args.p 0 may refl in
     takes_forbidden m (sym none) 17 refl
     (go_forbidden_lem m _ GO _ refl (sym c.go_forbidden.ensures ∙ c.if-go_forbidden.true)) (omega arith)
 

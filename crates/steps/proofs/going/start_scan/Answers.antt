@@ -20,7 +20,7 @@ returns-then-r-eq0 c =
         ap (λ (q : Row). q.level) c.row_at-r.ensures in
     let starts : (let put = c in
         let a = put.args in
-        Becomes a.cells.now (gone (rows_of a.cells.now) a.p) put.put_row.new.0) =
+        Becomes a.cells.now (gone (rows_of a.cells.now) a.p) put.put_row.new.cells) =
         let r = c in
         let s = r in
         becomes_as c.put_row.ensures
@@ -39,7 +39,7 @@ returns c =
         ap (λ (q : Row). q.level) c.row_at-r.ensures in
     let starts : (let put = c in
         let a = put.args in
-        Becomes a.cells.now (gone (rows_of a.cells.now) a.p) put.put_row.new.0) =
+        Becomes a.cells.now (gone (rows_of a.cells.now) a.p) put.put_row.new.cells) =
         let r = c in
         let s = r in
         becomes_as c.put_row.ensures

@@ -264,13 +264,13 @@ returns c =
         sym c.formed-2.ensures ∙ not-false _ c.if-not-formed-2.false-raw in
     let not-look : kind_of word ≡ LOOK → ⊥ =
         let e = c in
-        kind_is_not word _ e.is_of.ensures e.if-is_of.false formed-so in
+        kind_is_not word LOOK _ e.is_of.ensures e.if-is_of.false formed-so in
     let not-go : kind_of word ≡ GO → ⊥ =
         let e = c in
-        kind_is_not word _ e.is_of-2.ensures e.if-is_of-2.false formed-so in
+        kind_is_not word GO _ e.is_of-2.ensures e.if-is_of-2.false formed-so in
     let not-stay : kind_of word ≡ STAY → ⊥ =
         let e = c in
-        kind_is_not word _ e.is_of-3.ensures e.if-is_of-3.false formed-so in
+        kind_is_not word STAY _ e.is_of-3.ensures e.if-is_of-3.false formed-so in
 
     let e = c in
     let k = e in
@@ -278,5 +278,5 @@ returns c =
     let last =
     last_kind (kind_of word) (formed_kind word formed-so) not-look not-go not-stay
     (λ i. e.if-kind-eq-FLICKER.false (is ∙ i)) (λ i. e.if-kind-eq-COME.false (is ∙ i)) in
-    taken CANCEL _ _ formed-so
+    taken CANCEL _ _ formed-so last
     (takes_free _ (others_free _ _ CANCEL _ (omega arith) (omega arith)) c.take_cancel.ensures)

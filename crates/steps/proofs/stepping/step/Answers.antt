@@ -29,7 +29,7 @@ returns-then-not-settings_fit c =
 
 pub advance_under-requires : goal.advance_under-requires
 advance_under-requires c =
-    let e = c in (
-      sym e.check-unsound.ensures ∙ e.if-unsound-ne0.false,
-      sym c.settings_fit.ensures ∙ not-false _ c.if-not-settings_fit.false-raw,
-    )
+    record {
+      cells_value = sym c.check-unsound.ensures ∙ c.if-unsound-ne0.false;
+      settings_value = sym c.settings_fit.ensures ∙ not-false _ c.if-not-settings_fit.false-raw;
+    }
