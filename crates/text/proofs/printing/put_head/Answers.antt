@@ -15,16 +15,14 @@ use Rattle.text.proofs.printing.put_head.Goals as goal
 pub put_input-requires : goal.put_input-requires
 put_input-requires c =
     let ready : (r : Opened) → c.args.opened ≡ r → HeadReady r c.args.out.now =
-        λ r e. subst (λ (v : Opened). HeadReady v c.args.out.now) e c.requires in
-
+    λ r e. subst (λ (v : Opened). HeadReady v c.args.out.now) e c.requires in
     let m = c in
     (ready _ m.in-BadBytes.is).room
 
 pub put_image-requires : goal.put_image-requires
 put_image-requires c =
     let ready : (r : Opened) → c.args.opened ≡ r → HeadReady r c.args.out.now =
-        λ r e. subst (λ (v : Opened). HeadReady v c.args.out.now) e c.requires in
-
+    λ r e. subst (λ (v : Opened). HeadReady v c.args.out.now) e c.requires in
     let m = c in
     (ready _ m.in-BadImage.is).room
 
@@ -33,34 +31,32 @@ put_image-requires c =
 pub overflow_cast-size : goal.overflow_cast-size
 overflow_cast-size c =
     let ready : (r : Opened) → c.args.opened ≡ r → HeadReady r c.args.out.now =
-        λ r e. subst (λ (v : Opened). HeadReady v c.args.out.now) e c.requires in
+    λ r e. subst (λ (v : Opened). HeadReady v c.args.out.now) e c.requires in
     let many : HeadReady (Opened.TooMany c.in-TooMany.size) c.args.out.now =
-        ready _ c.in-TooMany.is in
- omega (arith, many.few)
+    ready _ c.in-TooMany.is in
+    omega (arith, many.few)
 
 pub put_posts-at-requires : goal.put_posts-at-requires
 put_posts-at-requires c =
     let ready : (r : Opened) → c.args.opened ≡ r → HeadReady r c.args.out.now =
-        λ r e. subst (λ (v : Opened). HeadReady v c.args.out.now) e c.requires in
+    λ r e. subst (λ (v : Opened). HeadReady v c.args.out.now) e c.requires in
     let many : HeadReady (Opened.TooMany c.in-TooMany.size) c.args.out.now =
-        ready _ c.in-TooMany.is in
+    ready _ c.in-TooMany.is in
     let both : (let n = c.in-TooMany.size in
-        length (head_of (Opened.TooMany n)) ≡ length (line posts_text (n ∷ [])) + length (stop_line 0 too_many_words)) =
-        length-append (line posts_text (c.in-TooMany.size ∷ [])) (stop_line 0 too_many_words) in
-
+    length (head_of (Opened.TooMany n)) ≡ length (line posts_text (n ∷ [])) + length (stop_line 0 too_many_words)) =
+    length-append (line posts_text (c.in-TooMany.size ∷ [])) (stop_line 0 too_many_words) in
     let m = c in
     omega (arith, both, many.room)
 
 pub put_stop-requires : goal.put_stop-requires
 put_stop-requires c =
     let ready : (r : Opened) → c.args.opened ≡ r → HeadReady r c.args.out.now =
-        λ r e. subst (λ (v : Opened). HeadReady v c.args.out.now) e c.requires in
+    λ r e. subst (λ (v : Opened). HeadReady v c.args.out.now) e c.requires in
     let many : HeadReady (Opened.TooMany c.in-TooMany.size) c.args.out.now =
-        ready _ c.in-TooMany.is in
+    ready _ c.in-TooMany.is in
     let both : (let n = c.in-TooMany.size in
-        length (head_of (Opened.TooMany n)) ≡ length (line posts_text (n ∷ [])) + length (stop_line 0 too_many_words)) =
-        length-append (line posts_text (c.in-TooMany.size ∷ [])) (stop_line 0 too_many_words) in
-
+    length (head_of (Opened.TooMany n)) ≡ length (line posts_text (n ∷ [])) + length (stop_line 0 too_many_words)) =
+    length-append (line posts_text (c.in-TooMany.size ∷ [])) (stop_line 0 too_many_words) in
     let p = c in
     let m = p in
     omega (arith, both, many.room, p.put_posts-at.ensures.end_is, p.put_posts-at.auto.out)
@@ -70,16 +66,14 @@ put_stop-requires c =
 pub overflow_cast-size-in-Ready : goal.overflow_cast-size-in-Ready
 overflow_cast-size-in-Ready c =
     let ready : (r : Opened) → c.args.opened ≡ r → HeadReady r c.args.out.now =
-        λ r e. subst (λ (v : Opened). HeadReady v c.args.out.now) e c.requires in
-
+    λ r e. subst (λ (v : Opened). HeadReady v c.args.out.now) e c.requires in
     let m = c in
     omega (arith, (ready _ m.in-Ready.is).few)
 
 pub put_posts-requires : goal.put_posts-requires
 put_posts-requires c =
     let ready : (r : Opened) → c.args.opened ≡ r → HeadReady r c.args.out.now =
-        λ r e. subst (λ (v : Opened). HeadReady v c.args.out.now) e c.requires in
-
+    λ r e. subst (λ (v : Opened). HeadReady v c.args.out.now) e c.requires in
     let m = c in
     (ready _ m.in-Ready.is).room
 
