@@ -77,13 +77,13 @@ overflow_add-end c =
     let printed : (let l = c in
         let o = l.loop-i in
         let put = c.put_word in
-        WordPrinted o.cells o.inside o.line 0 o.i (get_or words o.i 0) put.new.1.1.0
+        WordPrinted o.cells o.inside o.line 0 o.i (get_or words o.i 0) put.new.cells
         put.new.out put.result) =
         let o = c.loop-i in
         let put = c.put_word in
         subst
         (λ (v : ℕ).
-        WordPrinted o.cells o.inside o.line 0 o.i v put.new.1.1.0 put.new.out put.result)
+        WordPrinted o.cells o.inside o.line 0 o.i v put.new.cells put.new.out put.result)
         c.word_at-word.ensures
         put.ensures in
     let small : c.loop-i.end + end_of c.put_word.result ≤ text_room =
@@ -108,13 +108,13 @@ overflow_add-result c =
     let printed : (let l = c in
         let o = l.loop-i in
         let put = c.put_word in
-        WordPrinted o.cells o.inside o.line 0 o.i (get_or words o.i 0) put.new.1.1.0
+        WordPrinted o.cells o.inside o.line 0 o.i (get_or words o.i 0) put.new.cells
         put.new.out put.result) =
         let o = c.loop-i in
         let put = c.put_word in
         subst
         (λ (v : ℕ).
-        WordPrinted o.cells o.inside o.line 0 o.i v put.new.1.1.0 put.new.out put.result)
+        WordPrinted o.cells o.inside o.line 0 o.i v put.new.cells put.new.out put.result)
         c.word_at-word.ensures
         put.ensures in
     let small : c.loop-i.end + end_of c.put_word.result ≤ text_room =
@@ -128,7 +128,7 @@ overflow_add-result c =
 pub shape_of-cells-in-Stopped : goal.shape_of-cells-in-Stopped
 shape_of-cells-in-Stopped c =
     let w = c in
-    w.put_word.auto.1.1.0 ∙ w.loop-i.invariant.2
+    w.put_word.auto.cells ∙ w.loop-i.invariant.2
 
 pub returns-in-Stopped : goal.returns-in-Stopped
 returns-in-Stopped c =
@@ -141,13 +141,13 @@ returns-in-Stopped c =
     let printed : (let l = c in
         let o = l.loop-i in
         let put = c.put_word in
-        WordPrinted o.cells o.inside o.line 0 o.i (get_or words o.i 0) put.new.1.1.0
+        WordPrinted o.cells o.inside o.line 0 o.i (get_or words o.i 0) put.new.cells
         put.new.out put.result) =
         let o = c.loop-i in
         let put = c.put_word in
         subst
         (λ (v : ℕ).
-        WordPrinted o.cells o.inside o.line 0 o.i v put.new.1.1.0 put.new.out put.result)
+        WordPrinted o.cells o.inside o.line 0 o.i v put.new.cells put.new.out put.result)
         c.word_at-word.ensures
         put.ensures in
     let counted : (let l = c in
@@ -189,13 +189,13 @@ loop-i-preserved c =
     let printed : (let l = c in
         let o = l.loop-i in
         let put = c.put_word in
-        WordPrinted o.cells o.inside o.line 0 o.i (get_or words o.i 0) put.new.1.1.0
+        WordPrinted o.cells o.inside o.line 0 o.i (get_or words o.i 0) put.new.cells
         put.new.out put.result) =
         let o = c.loop-i in
         let put = c.put_word in
         subst
         (λ (v : ℕ).
-        WordPrinted o.cells o.inside o.line 0 o.i v put.new.1.1.0 put.new.out put.result)
+        WordPrinted o.cells o.inside o.line 0 o.i v put.new.cells put.new.out put.result)
         c.word_at-word.ensures
         put.ensures in
     let counted : (let l = c in
@@ -219,7 +219,7 @@ loop-i-preserved c =
         end_is = omega (arith, counted, ap end_of is);
       },
       w.put_word.auto.out ∙ l.loop-i.invariant.1,
-      w.put_word.auto.1.1.0 ∙ l.loop-i.invariant.2,
+      w.put_word.auto.cells ∙ l.loop-i.invariant.2,
     )
 
 -- ---- after the last word

@@ -74,8 +74,8 @@ shape_of-out-in-Stopped c =
 
 pub shape_of-cells-in-Stopped : goal.shape_of-cells-in-Stopped
 shape_of-cells-in-Stopped c =
-    let cells-kept : length c.put_word.new.1.1.0 ≡ length c.args.cells.now =
-        c.put_word.auto.1.1.0 ∙ c.loop-i.invariant.2 in
+    let cells-kept : length c.put_word.new.cells ≡ length c.args.cells.now =
+        c.put_word.auto.cells ∙ c.loop-i.invariant.2 in
  cells-kept
 
 pub returns-in-Stopped : goal.returns-in-Stopped
@@ -89,13 +89,13 @@ returns-in-Stopped c =
     let printed : (let l = c in
         let o = l.loop-i in
         let put = c.put_word in
-        WordPrinted o.cells o.inside o.out o.end o.i (get_or words o.i 0) put.new.1.1.0
+        WordPrinted o.cells o.inside o.out o.end o.i (get_or words o.i 0) put.new.cells
         put.new.out put.result) =
         let o = c.loop-i in
         let put = c.put_word in
         subst
         (λ (w : ℕ).
-        WordPrinted o.cells o.inside o.out o.end o.i w put.new.1.1.0 put.new.out put.result)
+        WordPrinted o.cells o.inside o.out o.end o.i w put.new.cells put.new.out put.result)
         c.word_at-word.ensures
         put.ensures in
 
@@ -125,19 +125,19 @@ loop-i-preserved c =
     let printed : (let l = c in
         let o = l.loop-i in
         let put = c.put_word in
-        WordPrinted o.cells o.inside o.out o.end o.i (get_or words o.i 0) put.new.1.1.0
+        WordPrinted o.cells o.inside o.out o.end o.i (get_or words o.i 0) put.new.cells
         put.new.out put.result) =
         let o = c.loop-i in
         let put = c.put_word in
         subst
         (λ (w : ℕ).
-        WordPrinted o.cells o.inside o.out o.end o.i w put.new.1.1.0 put.new.out put.result)
+        WordPrinted o.cells o.inside o.out o.end o.i w put.new.cells put.new.out put.result)
         c.word_at-word.ensures
         put.ensures in
     let out-kept : length c.put_word.new.out ≡ length c.args.out.now =
         c.put_word.auto.out ∙ c.loop-i.invariant.1 in
-    let cells-kept : length c.put_word.new.1.1.0 ≡ length c.args.cells.now =
-        c.put_word.auto.1.1.0 ∙ c.loop-i.invariant.2 in
+    let cells-kept : length c.put_word.new.cells ≡ length c.args.cells.now =
+        c.put_word.auto.cells ∙ c.loop-i.invariant.2 in
 
     let w = c in
     let put = printed in
