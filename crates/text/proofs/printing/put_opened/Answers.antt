@@ -1,46 +1,15 @@
 -- `text::printing::put_opened` meets its contract: the head, and the lines of a run where there is one.
 -- Assumes nothing.
 use native.Mathlib.Omega.{arith}
-use mathlib.Core.Path.{sym, ap, ◌∙◌}
-use mathlib.Core.List.{List, ◌++◌, append-nil}
+use mathlib.Core.Path.{ap}
+use mathlib.Core.List.{List, ◌++◌}
 use Prim.Native.Nat.{ℕ}
 use lib.ListN.{length}
-use lib.Seq.{length-take-le}
 use Rattle.machine.specs.Bytes.{words_in}
 use Rattle.text.specs.Printing.{head_of}
 use Rattle.text.proofs.AppendingLaws.{appended_as, appended_then}
-use Rattle.text.proofs.PrintLaws.{
-  few-processes,
-  length_opened,
-  no_lines,
-  shows_run,
-  events_end,
-  events_few,
-  lines_are,
-}
+use Rattle.text.proofs.PrintLaws.{length_opened, shows_run, events_end, events_few, lines_are}
 use Rattle.text.proofs.printing.put_opened.Goals as goal
-
-pub put_head-at-requires : goal.put_head-at-requires
-put_head-at-requires c =
-    let a = c.args in
-    record {
-      few = few-processes (words_in a.input.now) a.cells.now a.opened c.requires.answers;
-      room = omega (arith, length_opened (words_in a.input.now) a.cells.now a.opened, c.requires.room);
-    }
-
--- ---- a run
-
-pub slice_bounds-put_run-end : goal.slice_bounds-put_run-end
-slice_bounds-put_run-end c =
-    let a = c.args in
-    let shown = shows_run a.input.now a.cells.now a.opened c.requires.answers _ _ _ c.in-Ready.is in
-    shown.table.within
-
-pub slice_bounds-put_run-end-in-Ready : goal.slice_bounds-put_run-end-in-Ready
-slice_bounds-put_run-end-in-Ready c =
-    let a = c.args in
-    let shown = shows_run a.input.now a.cells.now a.opened c.requires.answers _ _ _ c.in-Ready.is in
-    sym (length-take-le c.in-Ready.size a.cells.now shown.table.within)
 
 pub overflow_mul-first : goal.overflow_mul-first
 overflow_mul-first c =
@@ -53,19 +22,6 @@ pub overflow_mul-last : goal.overflow_mul-last
 overflow_mul-last c =
     let a = c.args in
     omega (arith, events_end a.input.now a.cells.now a.opened c.requires.answers _ _ _ c.in-Ready.is)
-
-pub slice_bounds-put_run-count : goal.slice_bounds-put_run-count
-slice_bounds-put_run-count c =
-    let a = c.args in
-    let shown = shows_run a.input.now a.cells.now a.opened c.requires.answers _ _ _ c.in-Ready.is in
-    omega (arith, shown.ordered)
-
-pub slice_bounds-put_run-start : goal.slice_bounds-put_run-start
-slice_bounds-put_run-start c =
-    let a = c.args in
-    let shown = shows_run a.input.now a.cells.now a.opened c.requires.answers _ _ _ c.in-Ready.is in
-    let among = events_end a.input.now a.cells.now a.opened c.requires.answers _ _ _ c.in-Ready.is in
-    omega (arith, shown.ordered, among)
 
 pub slice_bounds-put_run-end-in-Ready-2 : goal.slice_bounds-put_run-end-in-Ready-2
 slice_bounds-put_run-end-in-Ready-2 c =
@@ -93,19 +49,9 @@ put_run-requires c =
       few = events_few a.input.now a.cells.now a.opened c.requires.answers _ _ _ c.in-Ready.is;
     }
 
--- ---- the answers
-
 pub returns-in-Ready : goal.returns-in-Ready
 returns-in-Ready c =
     let a = c.args in
     let lines = lines_are a.input.now a.cells.now a.opened c.requires.answers _ _ _ c.in-Ready.is in
     appended_as (ap (λ (l : List ℕ). head_of a.opened ++ l) lines)
     (appended_then (omega arith) c.put_head-at.ensures c.put_run.ensures)
-
-pub returns-in_default : goal.returns-in_default
-returns-in_default c =
-    let a = c.args in
-    let none = no_lines (words_in a.input.now) a.cells.now a.opened c.in_default.not-Ready in
-    appended_as
-    (sym (append-nil (head_of a.opened)) ∙ ap (λ (l : List ℕ). head_of a.opened ++ l) (sym none))
-    c.put_head-at.ensures
