@@ -5,9 +5,13 @@ use mathlib.Core.Bool.{true, false, false≢true}
 use mathlib.Core.List.{[], ◌∷◌}
 use Prim.Native.Nat.{ℕ}
 use lib.ListN.{length}
-use Rattle.machine.specs.Text.{stop_line, word_line}
-use Rattle.machine.specs.Steps.{answer_of}
-use Rattle.machine.specs.Tables.{Table}
+use Rattle.machine.specs.Text.{stop_line}
+use Rattle.machine.specs.Words.{process_of}
+use Rattle.machine.specs.Census.{critical}
+use Rattle.machine.specs.Runs.{carried}
+use Rattle.machine.specs.declared.Told.{Told}
+use Rattle.machine.specs.Steps.{answer_of, after_word}
+use Rattle.machine.specs.Tables.{Table, row}
 use Rattle.machine.specs.declared.Stepped.{Stepped}
 use Rattle.cells.specs.View.{rows_of}
 use Rattle.text.specs.Appending.{taken_line}
@@ -34,44 +38,54 @@ carried-now_inside-requires c =
     let moved = sym c.advance.ensures.answer_is ∙ c.in-Moved.is in
     may_carry (rows_of c.args.cells.now) c.args.word _ _ moved c.requires.inside_is c.requires.sound
 
+-- its five numbers and its cell are its line
+its-line : (t u : Table) (i w p before after inside n : ℕ) (s : Told)
+    → answer_of t w ≡ Stepped.Moved s
+    → p ≡ process_of w
+    → before ≡ (row t p).location
+    → u ≡ after_word t w
+    → after ≡ (row u p).location
+    → inside ≡ critical t
+    → n ≡ carried s.event inside
+    → taken_line (i ∷ p ∷ before ∷ after ∷ n ∷ []) s.cell ≡ line_of t i w
+its-line t u i w p before after inside n s moved pe be ue ae ie ne =
+    let now = carried-count t w _ _ moved ie ne ue in
+    line_is t u i w p before after n s.cell pe be ue ae now (cell_is t w _ _ moved ie)
+    ∙ sym (line_of_taken t i w (moved-takes t w _ moved))
+
 pub put_taken-end-requires : goal.put_taken-end-requires
 put_taken-end-requires c =
     let a = c.args in
-    let t = rows_of a.cells.now in
-    let moved = sym c.advance.ensures.answer_is ∙ c.in-Moved.is in
-    let taken = moved-takes t a.word _ moved in
-    let next = c.advance.ensures.becomes.rows_are in
-    -- its five numbers and its cell are its line
-    let printed =
-        line_is t (rows_of c.advance.new.cells) a.place a.word _ _ _ _ _
+    let line =
+        its-line (rows_of a.cells.now) (rows_of c.advance.new.cells) a.place a.word _ _ _ _ _ c.in-Moved.told
+        (sym c.advance.ensures.answer_is ∙ c.in-Moved.is)
         c.process_of-p.ensures
         c.location_at-before.ensures
-        next
+        c.advance.ensures.becomes.rows_are
         c.location_at-after.ensures
-        (carried-count t a.word _ _ moved c.requires.inside_is c.carried-now_inside.ensures next)
-        (cell_is t a.word _ _ moved c.requires.inside_is) in
-    omega (arith, ap length printed, ap length (line_of_taken t a.place a.word taken), c.requires.room)
+        c.requires.inside_is
+        c.carried-now_inside.ensures in
+    omega (arith, ap length line, c.requires.room)
 
 pub returns-in-Moved : goal.returns-in-Moved
 returns-in-Moved c =
     let a = c.args in
     let t = rows_of a.cells.now in
     let moved = sym c.advance.ensures.answer_is ∙ c.in-Moved.is in
-    let taken = moved-takes t a.word _ moved in
-    let next = c.advance.ensures.becomes.rows_are in
-    let printed =
-        line_is t (rows_of c.advance.new.cells) a.place a.word _ _ _ _ _
+    let line =
+        its-line t (rows_of c.advance.new.cells) a.place a.word _ _ _ _ _ c.in-Moved.told
+        moved
         c.process_of-p.ensures
         c.location_at-before.ensures
-        next
+        c.advance.ensures.becomes.rows_are
         c.location_at-after.ensures
-        (carried-count t a.word _ _ moved c.requires.inside_is c.carried-now_inside.ensures next)
-        (cell_is t a.word _ _ moved c.requires.inside_is) in
+        c.requires.inside_is
+        c.carried-now_inside.ensures in
     record {
       becomes = c.advance.ensures.becomes;
-      taken_is = sym taken;
+      taken_is = sym (moved-takes t a.word _ moved);
       carries = λ _. carried_event t a.word _ _ moved c.requires.inside_is c.carried-now_inside.ensures;
-      appended = appended_as (printed ∙ sym (line_of_taken t a.place a.word taken)) c.put_taken-end.ensures;
+      appended = appended_as line c.put_taken-end.ensures;
     }
 
 -- ---- a refused word
