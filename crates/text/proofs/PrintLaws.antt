@@ -64,13 +64,6 @@ module _ (ws : List ℕ) (y : List (List ℕ)) where
   pub length_opened : (r : Opened) → length (opened_text r ws y) ≡ length (head_of r) + length (lines_of r ws y)
   length_opened r = length-append (head_of r) (lines_of r ws y)
 
-  -- an answer with no run
-  pub no_lines : (r : Opened) → ((n a b : ℕ) → r ≡ Opened.Ready n a b → ⊥) → lines_of r ws y ≡ []
-  no_lines BadBytes h = refl
-  no_lines (BadImage place number) h = refl
-  no_lines (TooMany n) h = refl
-  no_lines (Ready n a b) h = absurd (h n a b refl)
-
   module _ (r : Opened) (a : Answers r ws y) where
     pub text-is : printed a.input ≡ opened_text r ws y
     unfolding printed

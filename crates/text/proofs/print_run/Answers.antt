@@ -1,29 +1,17 @@
 -- `text::print_run` meets its contract: the text for what the input holds, where it fits. Assumes nothing.
 use native.Mathlib.Omega.{arith}
 use mathlib.Core.Path.{◌≡◌, ap}
-use Prim.Native.Nat.{ℕ, ◌≤◌}
-use lib.ListN.{length, length-replicate}
+use Prim.Native.Nat.{◌≤◌}
+use lib.ListN.{length}
 use Rattle.machine.specs.Bytes.{words_in}
-use Rattle.machine.specs.Images.{image_length}
 use Rattle.machine.specs.Text.{printed}
 use Rattle.text.specs.Printing.{opened_text}
 use Rattle.text.proofs.TextFits.{text_fits}
 use Rattle.text.proofs.PrintLaws.{text-is, short_print, whole_print}
-use borrow.Author.Rules.{rules}
 use Rattle.text.proofs.print_run.Goals as goal
 use Rattle.text.proofs.print_run.Goals.{then-out-lt-TEXT_BYTES+else-out-length, else-out-lt-TEXT_BYTES}
 
-pub open_input-opened-requires : goal.open_input-opened-requires
-open_input-opened-requires c =
-    record {
-      room = λ short. omega (arith, short, length-replicate {A = ℕ} (image_length 16) 0);
-      cells = search rules;
-    }
-
 -- ---- a buffer that may be too short
-
-pub text_length-length-requires : goal.text_length-length-requires
-text_length-length-requires c = record { input = c.args.input.now; opens = c.open_input-opened.ensures }
 
 pub returns-then-out-length : goal.returns-then-out-length
 returns-then-out-length c =
