@@ -1,17 +1,17 @@
 -- `text::running::put_word` meets its contract: one line, of the taken word or of the refused one. Assumes nothing.
 use native.Mathlib.Omega.{arith}
 use mathlib.Core.Path.{◌≡◌, sym, ap, ◌∙◌}
-use mathlib.Core.Bool.{true, false, false≢true}
+use mathlib.Core.Bool.{false, false≢true}
 use mathlib.Core.List.{[], ◌∷◌}
 use Prim.Native.Nat.{ℕ}
 use lib.ListN.{length}
-use Rattle.machine.specs.Text.{stop_line}
+use Rattle.machine.specs.Tables.{Table, row}
 use Rattle.machine.specs.Words.{process_of}
+use Rattle.machine.specs.Steps.{answer_of, after_word}
 use Rattle.machine.specs.Census.{critical}
 use Rattle.machine.specs.Runs.{carried}
+use Rattle.machine.specs.Text.{stop_line}
 use Rattle.machine.specs.declared.Told.{Told}
-use Rattle.machine.specs.Steps.{answer_of, after_word}
-use Rattle.machine.specs.Tables.{Table, row}
 use Rattle.machine.specs.declared.Stepped.{Stepped}
 use Rattle.cells.specs.View.{rows_of}
 use Rattle.text.specs.Appending.{taken_line}
@@ -56,35 +56,33 @@ its-line t u i w p before after inside n s moved pe be ue ae ie ne =
 pub put_taken-end-requires : goal.put_taken-end-requires
 put_taken-end-requires c =
     let a = c.args in
-    let line =
-        its-line (rows_of a.cells.now) (rows_of c.advance.new.cells) a.place a.word _ _ _ _ _ c.in-Moved.told
-        (sym c.advance.ensures.answer_is ∙ c.in-Moved.is)
-        c.process_of-p.ensures
-        c.location_at-before.ensures
-        c.advance.ensures.becomes.rows_are
-        c.location_at-after.ensures
-        c.requires.inside_is
-        c.carried-now_inside.ensures in
+    let t = rows_of a.cells.now in
+    let u = rows_of c.advance.new.cells in
+    let moved = sym c.advance.ensures.answer_is ∙ c.in-Moved.is in
+    let next = c.advance.ensures.becomes.rows_are in
+    let p = c.process_of-p.ensures in
+    let before = c.location_at-before.ensures in
+    let after = c.location_at-after.ensures in
+    let now = c.carried-now_inside.ensures in
+    let line = its-line t u a.place a.word _ _ _ _ _ _ moved p before next after c.requires.inside_is now in
     omega (arith, ap length line, c.requires.room)
 
 pub returns-in-Moved : goal.returns-in-Moved
 returns-in-Moved c =
     let a = c.args in
     let t = rows_of a.cells.now in
+    let u = rows_of c.advance.new.cells in
     let moved = sym c.advance.ensures.answer_is ∙ c.in-Moved.is in
-    let line =
-        its-line t (rows_of c.advance.new.cells) a.place a.word _ _ _ _ _ c.in-Moved.told
-        moved
-        c.process_of-p.ensures
-        c.location_at-before.ensures
-        c.advance.ensures.becomes.rows_are
-        c.location_at-after.ensures
-        c.requires.inside_is
-        c.carried-now_inside.ensures in
+    let next = c.advance.ensures.becomes.rows_are in
+    let p = c.process_of-p.ensures in
+    let before = c.location_at-before.ensures in
+    let after = c.location_at-after.ensures in
+    let now = c.carried-now_inside.ensures in
+    let line = its-line t u a.place a.word _ _ _ _ _ _ moved p before next after c.requires.inside_is now in
     record {
       becomes = c.advance.ensures.becomes;
       taken_is = sym (moved-takes t a.word _ moved);
-      carries = λ _. carried_event t a.word _ _ moved c.requires.inside_is c.carried-now_inside.ensures;
+      carries = λ _. carried_event t a.word _ _ moved c.requires.inside_is now;
       appended = appended_as line c.put_taken-end.ensures;
     }
 
