@@ -107,7 +107,10 @@ module _ (bs l : List ℕ) {s : List ℕ} (text : printed bs ≡ s) where
   buffers b = elim b [ false ↦ l | true ↦ placed l 0 (printed bs) ]
 
   -- too short
-  pub short_print : {r : ℕ} → r ≡ length s → length l < r → (r ≡ (printed_in bs l).number) × (l ≡ (printed_in bs l).lent)
+  pub short_print : {r : ℕ}
+      → r ≡ length s
+      → length l < r
+      → (r ≡ (printed_in bs l).number) × (l ≡ (printed_in bs l).lent)
   unfolding printed_in
   short_print is h =
       let long = ap length text in
