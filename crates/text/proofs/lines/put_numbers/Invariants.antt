@@ -9,7 +9,9 @@ use Rattle.text.proofs.lines.put_numbers.Given as goal
 
 abbrev pub invariant-loop-i : goal.invariant-loop-i
 invariant-loop-i l =
-    (l.i ≤ length l.numbers) × (length l.out ≡ length l.initial.out) × Appended l.initial.out l.at (spaced (take l.i l.numbers)) l.out l.end
+    (l.i ≤ length l.numbers)
+    × (length l.out ≡ length l.initial.out)
+    × Appended l.initial.out l.at (spaced (take l.i l.numbers)) l.out l.end
 
 abbrev pub decreases-loop-i : goal.decreases-loop-i
 decreases-loop-i l = length l.numbers - l.i
