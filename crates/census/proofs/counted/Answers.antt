@@ -119,11 +119,10 @@ pub overflow_sub-result : goal.overflow_sub-result
 overflow_sub-result c =
     let last-count : (let u = rows_of c.args.cells.now in
         get_or c.loop-q.below 15 0 ≡ waiting u + critical u) =
-        let s = c in
-        let u = rows_of s.args.cells.now in
+        let u = rows_of c.args.cells.now in
         let l = c.loop-q in
-        let e : l.q ≡ length u = omega (arith, rows_length s.args.cells.now) in
-        ap (λ (a : List ℕ). get_or a 15 0) (l.invariant.3 ∙ ap (seriesOf below_from u) e) ∙ all_compete u s.requires in
+        let e : l.q ≡ length u = omega (arith, rows_length c.args.cells.now) in
+        ap (λ (a : List ℕ). get_or a 15 0) (l.invariant.3 ∙ ap (seriesOf below_from u) e) ∙ all_compete u c.requires in
     let at-30-is : c.loop-q.at_30 ≡ critical (rows_of c.args.cells.now) =
         let x = c.args.cells.now in
         let l = c.loop-q in
@@ -147,29 +146,25 @@ pub returns : goal.returns
 returns c =
     let last-count : (let u = rows_of c.args.cells.now in
         get_or c.loop-q.below 15 0 ≡ waiting u + critical u) =
-        let s = c in
-        let u = rows_of s.args.cells.now in
+        let u = rows_of c.args.cells.now in
         let l = c.loop-q in
-        let e : l.q ≡ length u = omega (arith, rows_length s.args.cells.now) in
-        ap (λ (a : List ℕ). get_or a 15 0) (l.invariant.3 ∙ ap (seriesOf below_from u) e) ∙ all_compete u s.requires in
+        let e : l.q ≡ length u = omega (arith, rows_length c.args.cells.now) in
+        ap (λ (a : List ℕ). get_or a 15 0) (l.invariant.3 ∙ ap (seriesOf below_from u) e) ∙ all_compete u c.requires in
     let at-30-is : c.loop-q.at_30 ≡ critical (rows_of c.args.cells.now) =
         let x = c.args.cells.now in
         let l = c.loop-q in
         let e : l.q ≡ length (rows_of x) = omega (arith, rows_length x) in
         l.invariant.2 ∙ ap (count (λ i. is_critical (row (rows_of x) i))) e in
-
-    let end = c in
-    let start = end in
-    let x = start.args.cells.now in
+    let x = c.args.cells.now in
     let t = rows_of x in
-    let at = end.loop-q in
+    let at = c.loop-q in
     let n = rows_length x in
     let e : at.q ≡ length t = omega (arith, n) in
     let b = at.invariant.3 ∙ ap (seriesOf below_from t) e in
     let h = at.invariant.4 ∙ ap (seriesOf held_from t) e in
     let w : get_or at.below 15 0 - at.at_30 ≡ waiting t = omega (arith, last-count, at-30-is) in
     rw (
-      census_counted t start.requires,
+      census_counted t c.requires,
       w,
       at-30-is,
       c.figures_in.ensures ∙ ap₂ figures_in (sym n) b ∙ below-figures t,

@@ -33,7 +33,6 @@ pub returns-then-not-settings_fit : goal.returns-then-not-settings_fit
 returns-then-not-settings_fit c =
     let sound : table_refusal (rows_of c.args.cells.now) ≡ 0 =
         sym c.check.ensures ∙ c.if-check-ne0.false in
-
     let a = c.args in
     let m = a.settings in
     let x = a.cells.now in
@@ -61,13 +60,12 @@ advance_under-requires c = let v = c.loop-i.invariant in record { cells_value = 
 
 pub loop-i-preserved : goal.loop-i-preserved
 loop-i-preserved c =
-    let l = c in
-    let v = l.loop-i.invariant in
-    let a = l.args in
+    let v = c.loop-i.invariant in
+    let a = c.args in
     let m = a.settings in
     let ws = a.words.now in
-    let i = l.loop-i.i in
-    let t = rows_of l.loop-i.cells in
+    let i = c.loop-i.i in
+    let t = rows_of c.loop-i.cells in
     let w = get_or ws i 0 in
     let s = c.advance_under.ensures.becomes in (
       search rules,

@@ -37,13 +37,12 @@ loop-q-smaller c = omega arith
 pub loop-q-preserved : goal.loop-q-preserved
 loop-q-preserved c =
     let at = c.loop-q in
-    let s = c in
-    let table = s.args.table.now in
+    let table = c.args.table.now in
     let q = at.q in
     let v = get_or table q [] in
     let next =
-    begun-next (rows_of s.args.rows.now) 0 (rows_of table)
-    (omega (arith, s.requires, rows_length table, rows_length s.args.rows.now)) q (q + 1) q (row_of v) blank
+    begun-next (rows_of c.args.rows.now) 0 (rows_of table)
+    (omega (arith, c.requires, rows_length table, rows_length c.args.rows.now)) q (q + 1) q (row_of v) blank
     (omega arith) (omega arith) (omega (arith, rows_length table)) (sym (rows_row table q)) in (
       omega arith,
       at.invariant.1,

@@ -21,12 +21,11 @@ returns-then-rows-n c =
 
 pub returns : goal.returns
 returns c =
-    let e = c in
-    let a = e.args in
+    let a = c.args in
     let t = rows_of a.table.now in
     let l = rows_of a.rows.now in
     let size = rows_length a.table.now in
-    let is = sym (loaded_all t l (omega (arith, e.if-rows-n.false, size, rows_length a.rows.now))) in
+    let is = sym (loaded_all t l (omega (arith, c.if-rows-n.false, size, rows_length a.rows.now))) in
     record {
       answer_is =
           ap (λ (n : ℕ). record { refusal = accepted; place = 0; size = n }) (sym size)

@@ -24,9 +24,8 @@ returns-then-n c =
 pub returns : goal.returns
 returns c =
     let made = c.make_fresh in
-    let e = c in
-    let x = e.args.rows.now in
-    let size = size_left (length x) e.if-n.false in
+    let x = c.args.rows.now in
+    let size = size_left (length x) c.if-n.false in
     let is = sym (made_in (rows_of x) (omega (arith, size.0, rows_length x)) (omega (arith, size.1, rows_length x))) in (
       ap (λ (m : Made). m.refusal) is,
       made.ensures.rows_are ∙ ap fresh_table (sym (rows_length x)) ∙ ap (λ (m : Made). m.rows) is,

@@ -33,9 +33,7 @@ slice_bounds-load_rows-end c =
         reading.loaded _ _ _ _ _ c.read_cells.ensures c.in-Table.is in
     let within : c.in-Table.n ≤ length c.read_cells.new.cells =
         omega (arith, table.few, c.read_cells.ensures.size_is) in
-
-    let n = c in
-    sym (length-take-le n.in-Table.n n.read_cells.new.cells within)
+    sym (length-take-le c.in-Table.n c.read_cells.new.cells within)
 
 pub load_rows-requires : goal.load_rows-requires
 load_rows-requires c =
@@ -45,12 +43,10 @@ load_rows-requires c =
         reading.loaded _ _ _ _ _ c.read_cells.ensures c.in-Table.is in
     let within : c.in-Table.n ≤ length c.read_cells.new.cells =
         omega (arith, table.few, c.read_cells.ensures.size_is) in
-
-    let n = c in
     omega (
       arith,
       table.few,
-      length-take-le n.in-Table.n n.read_cells.new.cells within,
+      length-take-le c.in-Table.n c.read_cells.new.cells within,
     )
 
 pub returns-in-Table : goal.returns-in-Table
@@ -59,13 +55,9 @@ returns-in-Table c =
         c.args.words.now in
     let table : reading.Loaded words c.read_cells.new.cells c.in-Table.n =
         reading.loaded _ _ _ _ _ c.read_cells.ensures c.in-Table.is in
-
     let load = c.load_rows.ensures in
-    let n = c in
-    let ws = words in
-    let l = rows_of n.args.rows.now in
-    let read = table in
-    let is = ap (λ (t : Table). loaded t l) read.rows_are ∙ sym (read_table ws l read.accepted) in (
+    let l = rows_of c.args.rows.now in
+    let is = ap (λ (t : Table). loaded t l) table.rows_are ∙ sym (read_table words l table.accepted) in (
       load.answer_is ∙ ap (λ (o : Loaded). o.answer) is,
       load.rows_are ∙ ap (λ (o : Loaded). o.rows) is,
     )
@@ -74,15 +66,12 @@ pub returns-in-Refused : goal.returns-in-Refused
 returns-in-Refused c =
     let words : List ℕ =
         c.args.words.now in
-
     let told = c.in-Refused in
-    let r = c in
-    let ws = words in
-    let l = rows_of r.args.rows.now in
+    let l = rows_of c.args.rows.now in
     let number = told.number in
     let place = told.place in
-    let e = sym r.read_cells.ensures.answer_is ∙ told.is in
+    let e = sym c.read_cells.ensures.answer_is ∙ told.is in
     let is =
-    (λ i. unread l (sym (reading.refused_number ws number place e) i) (sym (reading.refused-place ws number place e) i))
-    ∙ sym (read_refused ws l (reading.refused-some ws number place e)) in
+    (λ i. unread l (sym (reading.refused_number words number place e) i) (sym (reading.refused-place words number place e) i))
+    ∙ sym (read_refused words l (reading.refused-some words number place e)) in
     (ap (λ (o : Loaded). o.answer) is, ap (λ (o : Loaded). o.rows) is)

@@ -23,25 +23,23 @@ slice_bounds-step-end-2 c = sym (length-take-le _ _ (search rules))
 
 pub returns-then-answer-ne0 : goal.returns-then-answer-ne0
 returns-then-answer-ne0 c =
-    let d = c in
-    let a = d.args in
-    let made = d.step.ensures in
+    let a = c.args in
+    let made = c.step.ensures in
     moves_none _ a.n a.word a.cells.now (search rules)
-    d.step.new.cells made.becomes.size_is _ (
-      d.to_c-answer.ensures ∙ ap to_c made.answer_is
+    c.step.new.cells made.becomes.size_is _ (
+      c.to_c-answer.ensures ∙ ap to_c made.answer_is
           ∙ answer_to_c _ (rows_of (take a.n a.cells.now)) a.word,
       made.becomes.rows_are,
     ) c.if-answer-ne0.true
 
 pub returns : goal.returns
 returns c =
-    let d = c in
-    let a = d.args in
-    let made = d.step.ensures in
-    let span = d.moved_by-span in
+    let a = c.args in
+    let made = c.step.ensures in
+    let span = c.moved_by-span in
     moves_part _ a.n a.word a.cells.now (search rules)
-    d.step.new.cells made.becomes.size_is span.result span.ensures _ (
-      d.to_c-answer.ensures ∙ ap to_c made.answer_is
+    c.step.new.cells made.becomes.size_is span.result span.ensures _ (
+      c.to_c-answer.ensures ∙ ap to_c made.answer_is
           ∙ answer_to_c _ (rows_of (take a.n a.cells.now)) a.word,
       made.becomes.rows_are,
     )

@@ -20,11 +20,7 @@ first_of-requires c =
         (eqb r.location 22 && not (eqb r.lis 0)) ≡ true) =
         let r = c.row_at-r.result in
         looks_so r c.if-r-eq22.true c.if-r-ne0.true in
-
-    let i = c in
-    let a = i in
-    let s = a in
-    some_member _ _ s.requires _ a.row_at-r.ensures looks
+    some_member _ _ c.requires _ c.row_at-r.ensures looks
 
 pub look-told-requires : goal.look-told-requires
 look-told-requires c =
@@ -32,11 +28,7 @@ look-told-requires c =
         (eqb r.location 22 && not (eqb r.lis 0)) ≡ true) =
         let r = c.row_at-r.result in
         looks_so r c.if-r-eq22.true c.if-r-ne0.true in
-
-    let i = c in
-    let a = i in
-    let s = a in
-    look-sees _ _ s.requires _ a.row_at-r.ensures looks _ c.first_of.ensures
+    look-sees _ _ c.requires _ c.row_at-r.ensures looks _ c.first_of.ensures
 
 pub returns-then-r-eq22 : goal.returns-then-r-eq22
 returns-then-r-eq22 c =
@@ -44,26 +36,17 @@ returns-then-r-eq22 c =
         (eqb r.location 22 && not (eqb r.lis 0)) ≡ true) =
         let r = c.row_at-r.result in
         looks_so r c.if-r-eq22.true c.if-r-ne0.true in
-
-    let f = c in
-    let i = f in
-    let a = i in
-    let s = a in
-    look-moves _ _ s.requires _ a.row_at-r.ensures looks _ f.first_of.ensures _ _ c.look-told.ensures
+    look-moves _ _ c.requires _ c.row_at-r.ensures looks _ c.first_of.ensures _ _ c.look-told.ensures
 
 -- ---- at 10, with a member of lis and without
 
 pub returns-then-rests : goal.returns-then-rests
 returns-then-rests c =
-    let a = c in
-    let s = a in
-    rest_moves _ _ s.requires _ a.row_at-r.ensures (eqb-true _ _ c.if-rests.true-raw)
+    rest_moves _ _ c.requires _ c.row_at-r.ensures (eqb-true _ _ c.if-rests.true-raw)
 
 pub returns-then-rests-2 : goal.returns-then-rests-2
 returns-then-rests-2 c =
-    let a = c in
-    let s = a in
-    rest_moves _ _ s.requires _ a.row_at-r.ensures (eqb-true _ _ c.if-rests-2.true-raw)
+    rest_moves _ _ c.requires _ c.row_at-r.ensures (eqb-true _ _ c.if-rests-2.true-raw)
 
 -- ---- elsewhere, or at 22 with no member of lis
 
@@ -76,12 +59,7 @@ go-requires c =
           then-r-ne0+else-r-eq22+else-rests w ↦ elsewhere r w.if-r-eq22.false
           | else-r-ne0 w ↦ listed_none r w.if-r-ne0.false
         ] in
-
-    let e = c in
-    let j = e in
-    let a = j in
-    let s = a in
-    (go_free _ _ s.requires _ a.row_at-r.ensures (eqb-false _ _ e.if-rests-2.false-raw) looks-not).ready
+    (go_free _ _ c.requires _ c.row_at-r.ensures (eqb-false _ _ c.if-rests-2.false-raw) looks-not).ready
 
 pub returns-in-Moved : goal.returns-in-Moved
 returns-in-Moved c =
@@ -92,14 +70,7 @@ returns-in-Moved c =
           then-r-ne0+else-r-eq22+else-rests w ↦ elsewhere r w.if-r-eq22.false
           | else-r-ne0 w ↦ listed_none r w.if-r-ne0.false
         ] in
-
-    let n = c in
-    let g = n in
-    let e = g in
-    let j = e in
-    let a = j in
-    let s = a in
-    go-moves _ _ s.requires _ a.row_at-r.ensures (eqb-false _ _ e.if-rests-2.false-raw) looks-not _ _
+    go-moves _ _ c.requires _ c.row_at-r.ensures (eqb-false _ _ c.if-rests-2.false-raw) looks-not _ _
     (subst (Takes _ GO _ 0 _) c.in-Moved.is (weakest-takes c.go.ensures))
 
 pub returns-in-Refused : goal.returns-in-Refused
@@ -111,12 +82,5 @@ returns-in-Refused c =
           then-r-ne0+else-r-eq22+else-rests w ↦ elsewhere r w.if-r-eq22.false
           | else-r-ne0 w ↦ listed_none r w.if-r-ne0.false
         ] in
-
-    let n = c in
-    let g = n in
-    let e = g in
-    let j = e in
-    let a = j in
-    let s = a in
-    go-refused _ _ s.requires _ a.row_at-r.ensures (eqb-false _ _ e.if-rests-2.false-raw) looks-not _ _
+    go-refused _ _ c.requires _ c.row_at-r.ensures (eqb-false _ _ c.if-rests-2.false-raw) looks-not _ _
     (subst (Takes _ GO _ 0 _) c.in-Refused.is (weakest-takes c.go.ensures))

@@ -36,36 +36,31 @@ move_on-done-requires c =
 -- the word is refused
 pub returns-then-done-ne0 : goal.returns-then-done-ne0
 returns-then-done-ne0 c =
-    let g = c in
-    let inside = g in
-    let at = inside.loop-p in
+    let at = c.loop-p in
     let v = at.invariant in
-    let m = g.move_on-done.ensures in
+    let m = c.move_on-done.ensures in
     let b = m.becomes in
     let refused = c.if-done-ne0.true in
-    let cut = on_stop (rows_of at.cells) _ _ at.p _ (omega (arith, inside.loop-p-test))
+    let cut = on_stop (rows_of at.cells) _ _ at.p _ (omega (arith, c.loop-p-test))
     (λ e. refused (m.refusal_is ∙ e)) b.rows_are v.5 in
     goes_round _ _ _ _ (b.size_is ∙ v.3) cut m.refusal_is (λ e. absurd (refused e))
 
 pub loop-p-preserved : goal.loop-p-preserved
 loop-p-preserved c =
-    let i = c in
-    let g = i in
-    let inside = g in
-    let at = inside.loop-p in
+    let at = c.loop-p in
     let v = at.invariant in
     let t = rows_of at.cells in
-    let m = g.move_on-done.ensures in
+    let m = c.move_on-done.ensures in
     let b = m.becomes in
-    let ok = sym m.refusal_is ∙ i.if-done-ne0.false in
-    let within : at.p < length t = omega (arith, inside.loop-p-test, rows_length at.cells) in (
-      omega (arith, inside.loop-p-test),
+    let ok = sym m.refusal_is ∙ c.if-done-ne0.false in
+    let within : at.p < length t = omega (arith, c.loop-p-test, rows_length at.cells) in (
+      omega (arith, c.loop-p-test),
       v.1,
       v.2,
       b.size_is ∙ v.3,
       ap table_refusal b.rows_are ∙ word_keeps_sound t _ v.4,
-      on_next t _ _ at.p _ (omega (arith, inside.loop-p-test)) ok b.rows_are v.5,
-      one_more t _ at.p _ _ v.4 within ok b.rows_are v.6 (m.told i.if-done-ne0.false),
+      on_next t _ _ at.p _ (omega (arith, c.loop-p-test)) ok b.rows_are v.5,
+      one_more t _ at.p _ _ v.4 within ok b.rows_are v.6 (m.told c.if-done-ne0.false),
     )
 
 -- each has had its word

@@ -40,11 +40,8 @@ pub returns-then-count_at-eq0 : goal.returns-then-count_at-eq0
 returns-then-count_at-eq0 c =
     let sound : table_refusal (rows_of c.args.cells.now) ≡ 0 =
         sym c.check-refusal.ensures ∙ c.if-refusal-ne0.false in
-
-    let i = c in
-    let e = i in
-    let x = e.args.cells.now in
-    let none = sym i.count_at.ensures ∙ i.if-count_at-eq0.true in
+    let x = c.args.cells.now in
+    let none = sym c.count_at.ensures ∙ c.if-count_at-eq0.true in
     let at-30 = some_is c.critical.result ∙ ap (λ (k : ℕ). ltb 0 k) c.critical.ensures in
     rounds-ended x x _ 0 0 _ refl (rounds_none (rows_of x) sound none) at-30
 
@@ -58,11 +55,8 @@ pub returns : goal.returns
 returns c =
     let sound : table_refusal (rows_of c.args.cells.now) ≡ 0 =
         sym c.check-refusal.ensures ∙ c.if-refusal-ne0.false in
-
-    let i = c in
-    let e = i in
-    let x = e.args.cells.now in
+    let x = c.args.cells.now in
     let t = rows_of x in
-    let some = rounds-some t sound (λ z. i.if-count_at-eq0.false (i.count_at.ensures ∙ z)) in
+    let some = rounds-some t sound (λ z. c.if-count_at-eq0.false (c.count_at.ensures ∙ z)) in
     let all = ap (λ (n : ℕ). rounds_from (round_limit n) 0 t) (sym (rows_length x)) in
     rounds_as (all ∙ sym some) c.run_rounds.ensures

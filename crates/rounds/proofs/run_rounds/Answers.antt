@@ -30,16 +30,15 @@ critical-occupied-requires c = few_cells c.args.cells.now c.requires
 
 pub loop-occupied-init : goal.loop-occupied-init
 loop-occupied-init c =
-    let s = c in
-    let x = s.args.cells.now in
-    let few = few_cells x s.requires in
+    let x = c.args.cells.now in
+    let few = few_cells x c.requires in
     let limit = c.round_limit-limit.ensures in
     let all : round_limit (length x) ≡ c.round_limit-limit.result - 0 = omega (arith, limit) in (
       omega arith,
       omega (arith, limit, limit_low (length x) few),
       few,
       refl,
-      s.requires,
+      c.requires,
       some_is c.critical-occupied.result ∙ ap (λ (k : ℕ). ltb 0 k) c.critical-occupied.ensures,
       ap (λ (b : ℕ). rounds_from b 0 (rows_of x)) all,
     )
@@ -49,47 +48,40 @@ round-done-requires c = c.loop-occupied.invariant.4
 
 pub critical-requires : goal.critical-requires
 critical-requires c =
-    let g = c in
-    let v = g.loop-occupied.invariant in
-    omega (arith, g.round-done.ensures.becomes.size_is, v.3, v.2)
+    let v = c.loop-occupied.invariant in
+    omega (arith, c.round-done.ensures.becomes.size_is, v.3, v.2)
 
 -- a word of the round is refused
 pub returns-then-done-ne0 : goal.returns-then-done-ne0
 returns-then-done-ne0 c =
-    let i = c in
-    let g = i in
-    let inside = g in
-    let at = inside.loop-occupied in
+    let at = c.loop-occupied in
     let v = at.invariant in
     let t = rows_of at.cells in
-    let m = g.round-done.ensures in
+    let m = c.round-done.ensures in
     let b = m.becomes in
-    let limit = inside.round_limit-limit.result in
-    let more = (and-eq-true_iff (not at.occupied) (ltb at.r limit)).0 inside.loop-occupied-test.true in
+    let limit = c.round_limit-limit.result in
+    let more = (and-eq-true_iff (not at.occupied) (ltb at.r limit)).0 c.loop-occupied-test.true in
     let nobody : critical t ≡ 0 = none_is _ (sym v.5 ∙ not-true at.occupied more.0) in
     let at-30 = some_is c.critical.result ∙ ap (λ (k : ℕ). ltb 0 k) c.critical.ensures in
-    let cut = from_cut _ at.r t _ _ (ltb-true _ _ more.1) nobody m.refusal_is i.if-done-ne0.true b.rows_are in
+    let cut = from_cut _ at.r t _ _ (ltb-true _ _ more.1) nobody m.refusal_is c.if-done-ne0.true b.rows_are in
     rounds-ended _ _ _ _ at.r _ (b.size_is ∙ v.3) (v.6 ∙ cut) at-30
 
 pub loop-occupied-smaller : goal.loop-occupied-smaller
 loop-occupied-smaller c =
-    let inside = c in
-    let at = inside.loop-occupied in
-    let limit = inside.round_limit-limit.result in
-    let more = (and-eq-true_iff (not at.occupied) (ltb at.r limit)).0 inside.loop-occupied-test.true in
+    let at = c.loop-occupied in
+    let limit = c.round_limit-limit.result in
+    let more = (and-eq-true_iff (not at.occupied) (ltb at.r limit)).0 c.loop-occupied-test.true in
     omega (arith, ltb-true at.r limit more.1)
 
 pub loop-occupied-preserved : goal.loop-occupied-preserved
 loop-occupied-preserved c =
-    let g = c in
-    let inside = g in
-    let at = inside.loop-occupied in
+    let at = c.loop-occupied in
     let v = at.invariant in
     let t = rows_of at.cells in
-    let m = g.round-done.ensures in
+    let m = c.round-done.ensures in
     let b = m.becomes in
-    let limit = inside.round_limit-limit.result in
-    let more = (and-eq-true_iff (not at.occupied) (ltb at.r limit)).0 inside.loop-occupied-test.true in
+    let limit = c.round_limit-limit.result in
+    let more = (and-eq-true_iff (not at.occupied) (ltb at.r limit)).0 c.loop-occupied-test.true in
     let r-low : at.r < limit = ltb-true _ _ more.1 in
     let nobody : critical t ≡ 0 = none_is _ (sym v.5 ∙ not-true at.occupied more.0) in
     let ok = sym m.refusal_is ∙ c.if-done-ne0.false in (

@@ -25,9 +25,7 @@ pub returns-then-not-settings_fit : goal.returns-then-not-settings_fit
 returns-then-not-settings_fit c =
     let sound : table_refusal (rows_of c.args.cells.now) ≡ 0 =
         sym c.check-unsound.ensures ∙ c.if-unsound-ne0.false in
-
-    let e = c in
-    let a = e.args in
+    let a = c.args in
     let unfit = sym c.settings_fit.ensures ∙ not-true _ c.if-not-settings_fit.true-raw in
     record {
       runnable = λ z. absurd (omega (arith, z));
@@ -40,10 +38,7 @@ returns-then-words-gt-RUN_LIMIT c =
         sym c.check-unsound.ensures ∙ c.if-unsound-ne0.false in
     let fit : settings_fit c.args.settings ≡ true =
         sym c.settings_fit.ensures ∙ not-false _ c.if-not-settings_fit.false-raw in
-
-    let f = c in
-    let e = f in
-    let a = e.args in
+    let a = c.args in
     record {
       runnable = λ z. absurd (omega (arith, z));
       refused = λ n.
@@ -56,8 +51,6 @@ returns c =
         sym c.check-unsound.ensures ∙ c.if-unsound-ne0.false in
     let fit : settings_fit c.args.settings ≡ true =
         sym c.settings_fit.ensures ∙ not-false _ c.if-not-settings_fit.false-raw in
-
-    let f = c in
     record {
       runnable = λ z.
           record { table_sound = sound; settings_fit_lem = fit; words_few = omega arith };

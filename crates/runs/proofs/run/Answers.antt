@@ -20,9 +20,8 @@ run_words-requires c = c.check_run-refusal.ensures.runnable c.if-refusal-ne0.fal
 
 pub returns : goal.returns
 returns c =
-    let e = c in
-    let a = e.args in
-    let r = e.check_run-refusal.ensures.runnable e.if-refusal-ne0.false in
+    let a = c.args in
+    let r = c.check_run-refusal.ensures.runnable c.if-refusal-ne0.false in
     let o = run_of_taken a.settings (rows_of a.cells.now) a.words.now
     r.table_sound r.settings_fit_lem r.words_few in
     runs_as (sym o) c.run_words.ensures.runs

@@ -57,10 +57,9 @@ counted-tally-requires c =
 
 pub returns-in-Refused : goal.returns-in-Refused
 returns-in-Refused c =
-    let l = c in
-    let a = l.args in
+    let a = c.args in
     let ws = a.words.now in
-    let at = l.loop-i in
+    let at = c.loop-i in
     let v = at.invariant in
     let t = rows_of at.cells in
     let w = get_or ws at.i 0 in
@@ -76,22 +75,19 @@ returns-in-Refused c =
 
 pub loop-i-preserved : goal.loop-i-preserved
 loop-i-preserved c =
-    let d = c in
-    let inside = d in
-    let k = inside in
-    let a = k.args in
+    let a = c.args in
     let ws = a.words.now in
-    let at = k.loop-i in
+    let at = c.loop-i in
     let v = at.invariant in
     let t = rows_of at.cells in
     let w = get_or ws at.i 0 in
-    let s = d.advance_under.ensures in
-    let m = under_moved a.settings t w _ (sym s.answer_is ∙ d.in-Moved.is) in
-    let h = d.counted-tally.ensures ∙ ap (λ (o : Told). counted o.event at.tally) m.1 in
+    let s = c.advance_under.ensures in
+    let m = under_moved a.settings t w _ (sym s.answer_is ∙ c.in-Moved.is) in
+    let h = c.counted-tally.ensures ∙ ap (λ (o : Told). counted o.event at.tally) m.1 in
     let counts = count_on at.i (event_of t w) at.tally v.5 in
     let cell = ap (λ (o : Told). o.cell) m.1 in
-    let l : at.i < length ws = omega (arith, inside.loop-i-test) in (
-      omega (arith, inside.loop-i-test),
+    let l : at.i < length ws = omega (arith, c.loop-i-test) in (
+      omega (arith, c.loop-i-test),
       v.1,
       v.2,
       s.becomes.size_is ∙ v.3,

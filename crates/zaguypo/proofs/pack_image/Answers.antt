@@ -27,32 +27,24 @@ image_words-all-requires c =
 pub slice_bounds-pack-end : goal.slice_bounds-pack-end
 slice_bounds-pack-end c =
     let within : c.image_words-all.result ≤ length c.write_cells.new.out =
-        let s = c in
-        let size = ap image_length (rows_length s.args.cells.now) in
-        omega (arith, s.requires.room.long, size, c.write_cells.auto.out, c.image_words-all.ensures) in
+        let size = ap image_length (rows_length c.args.cells.now) in
+        omega (arith, c.requires.room.long, size, c.write_cells.auto.out, c.image_words-all.ensures) in
  within
 
 pub slice_bounds-pack-end-2 : goal.slice_bounds-pack-end-2
 slice_bounds-pack-end-2 c =
     let within : c.image_words-all.result ≤ length c.write_cells.new.out =
-        let s = c in
-        let size = ap image_length (rows_length s.args.cells.now) in
-        omega (arith, s.requires.room.long, size, c.write_cells.auto.out, c.image_words-all.ensures) in
-
-    let i = c in
-    sym (length-take-le _ i.write_cells.new.out within)
+        let size = ap image_length (rows_length c.args.cells.now) in
+        omega (arith, c.requires.room.long, size, c.write_cells.auto.out, c.image_words-all.ensures) in
+    sym (length-take-le _ c.write_cells.new.out within)
 
 pub pack-requires : goal.pack-requires
 pack-requires c =
     let within : c.image_words-all.result ≤ length c.write_cells.new.out =
-        let s = c in
-        let size = ap image_length (rows_length s.args.cells.now) in
-        omega (arith, s.requires.room.long, size, c.write_cells.auto.out, c.image_words-all.ensures) in
-
-    let i = c in
-    let s = i in
-    let words = length-take-le _ i.write_cells.new.out within in
-    omega (arith, words, s.requires.writable.room, ap image_length (rows_length s.args.cells.now), i.image_words-all.ensures)
+        let size = ap image_length (rows_length c.args.cells.now) in
+        omega (arith, c.requires.room.long, size, c.write_cells.auto.out, c.image_words-all.ensures) in
+    let words = length-take-le _ c.write_cells.new.out within in
+    omega (arith, words, c.requires.writable.room, ap image_length (rows_length c.args.cells.now), c.image_words-all.ensures)
 
 pub returns : goal.returns
 returns c =
@@ -60,15 +52,11 @@ returns c =
         let x = c.args.cells.now in
         let facts = sound_rows (rows_of x) c.requires.writable.sound in
         (omega (arith, facts.0, rows_length x), omega (arith, facts.1, rows_length x)) in
-
-    let i = c in
-    let w = i in
-    let s = i in
-    let x = s.args.cells.now in
-    let all = i.image_words-all.result in
+    let x = c.args.cells.now in
+    let all = c.image_words-all.result in
     let image = length_image (rows_of x) (omega (arith, few.0, rows_length x)) in
     let long : length (image_of (rows_of x)) ≡ all =
-    omega (arith, image, ap image_length (rows_length x), i.image_words-all.ensures) in
-    let words : take all w.write_cells.new.out ≡ image_of (rows_of x) =
-    ap (take all) w.write_cells.ensures ∙ take_first _ (image_of (rows_of x)) all long in
-    c.pack.ensures ∙ ap (λ (l : List ℕ). placed s.args.image.now 0 (bytes_of l)) words
+    omega (arith, image, ap image_length (rows_length x), c.image_words-all.ensures) in
+    let words : take all c.write_cells.new.out ≡ image_of (rows_of x) =
+    ap (take all) c.write_cells.ensures ∙ take_first _ (image_of (rows_of x)) all long in
+    c.pack.ensures ∙ ap (λ (l : List ℕ). placed c.args.image.now 0 (bytes_of l)) words

@@ -27,10 +27,9 @@ use Rattle.zaguypo.proofs.run_events.Goals as goal
 
 pub loop-i-init : goal.loop-i-init
 loop-i-init c =
-    let s = c in
-    let p = s.requires in (
+    let p = c.requires in (
       search rules,
-      omega (arith, p.words_few, length_words_in s.args.events.now),
+      omega (arith, p.words_few, length_words_in c.args.events.now),
       refl,
       p.table_sound,
       p.settings_fit_lem,
@@ -49,8 +48,7 @@ overflow_cast-result c =
 
 pub shape_of-cells-in-Refused : goal.shape_of-cells-in-Refused
 shape_of-cells-in-Refused c =
-    let a = c in
-    a.advance_under.auto.cells ∙ a.loop-i.invariant.2
+    c.advance_under.auto.cells ∙ c.loop-i.invariant.2
 
 -- ---- after a word
 
@@ -60,19 +58,16 @@ returns-in-Refused c =
         words_in c.args.events.now in
     let within : c.loop-i.i < length events =
         omega (arith, c.loop-i-test, length_words_in c.args.events.now) in
-
-    let d = c in
-    let l = d in
-    let m = l.args.settings in
-    let at = l.loop-i in
+    let m = c.args.settings in
+    let at = c.loop-i in
     let v = at.invariant in
     let t = rows_of at.cells in
-    let w = d.word_at.result in
-    let is = d.word_at.ensures in
-    let s = d.advance_under.ensures in
+    let w = c.word_at.result in
+    let is = c.word_at.ensures in
+    let s = c.advance_under.ensures in
     let no = under_refused m t w _ (sym s.answer_is ∙ c.in-Refused.is) in
     let halt =
-    run_halt m t (rows_of d.advance_under.new.cells) v.5.tally v.5.cell events at.i _ within
+    run_halt m t (rows_of c.advance_under.new.cells) v.5.tally v.5.cell events at.i _ within
     (λ z. no.0 (ap (refusal_under m t) is ∙ z))
     (s.becomes.rows_are ∙ ap (after_under m t) is)
     (no.1 ∙ ap (refusal_under m t) is) in
@@ -90,26 +85,23 @@ loop-i-preserved c =
         words_in c.args.events.now in
     let within : c.loop-i.i < length events =
         omega (arith, c.loop-i-test, length_words_in c.args.events.now) in
-
-    let d = c in
-    let l = d in
-    let m = l.args.settings in
-    let at = l.loop-i in
+    let m = c.args.settings in
+    let at = c.loop-i in
     let v = at.invariant in
     let t = rows_of at.cells in
-    let w = d.word_at.result in
-    let is = d.word_at.ensures in
-    let s = d.advance_under.ensures in
+    let w = c.word_at.result in
+    let is = c.word_at.ensures in
+    let s = c.advance_under.ensures in
     let yes = under_moved m t w _ (sym s.answer_is ∙ c.in-Moved.is) in
     let word = get_or events at.i 0 in
     let turn =
-    run_turn m t (rows_of d.advance_under.new.cells) v.5.tally (counted (event_of t word) v.5.tally)
+    run_turn m t (rows_of c.advance_under.new.cells) v.5.tally (counted (event_of t word) v.5.tally)
     v.5.cell
     (cell_of t word) events at.i within
     (ap (refusal_under m t) (sym is) ∙ yes.0)
     (s.becomes.rows_are ∙ (accepted_same m t w yes.0).1.table_same ∙ ap (after_word t) is)
     refl refl in (
-      omega (arith, d.loop-i-test),
+      omega (arith, c.loop-i-test),
       v.1,
       s.becomes.size_is ∙ v.2,
       ap table_refusal s.becomes.rows_are ∙ under_keeps_sound m t w v.3,
@@ -134,12 +126,10 @@ pub returns : goal.returns
 returns c =
     let events : List ℕ =
         words_in c.args.events.now in
-
-    let l = c in
-    let m = l.args.settings in
-    let at = l.loop-i in
+    let m = c.args.settings in
+    let at = c.loop-i in
     let v = at.invariant in
-    let bs = l.args.events.now in
+    let bs = c.args.events.now in
     let end =
     v.5.run_is
     ∙ run_past m (rows_of at.cells) v.5.tally v.5.cell events at.i

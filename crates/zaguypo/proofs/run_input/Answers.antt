@@ -45,9 +45,7 @@ slice_bounds-run_table-end c =
     let ready : ShowsReady (input_of bytes) (words_in bytes) c.open_input.new.cells c.in-Ready.size
         c.in-Ready.first c.in-Ready.last =
         said _ c.in-Ready.is in
-
-    let z = c in
-    sym (length-take-le z.in-Ready.size z.open_input.new.cells ready.table.within)
+    sym (length-take-le c.in-Ready.size c.open_input.new.cells ready.table.within)
 
 pub overflow_mul-first : goal.overflow_mul-first
 overflow_mul-first c =
@@ -62,9 +60,8 @@ overflow_mul-first c =
         said _ c.in-Ready.is in
     let ends : (c.in-Ready.first ≤ c.in-Ready.last)
         × (4 * c.in-Ready.last ≤ length bytes) =
-        let r = ready in
-        (r.ordered, omega (arith, r.ends, length_words_in bytes)) in
- let e = ends in omega (arith, e.0, e.1)
+        (ready.ordered, omega (arith, ready.ends, length_words_in bytes)) in
+ omega (arith, ends.0, ends.1)
 
 pub overflow_mul-last : goal.overflow_mul-last
 overflow_mul-last c =
@@ -79,9 +76,8 @@ overflow_mul-last c =
         said _ c.in-Ready.is in
     let ends : (c.in-Ready.first ≤ c.in-Ready.last)
         × (4 * c.in-Ready.last ≤ length bytes) =
-        let r = ready in
-        (r.ordered, omega (arith, r.ends, length_words_in bytes)) in
- let e = ends in omega (arith, e.0, e.1)
+        (ready.ordered, omega (arith, ready.ends, length_words_in bytes)) in
+ omega (arith, ends.0, ends.1)
 
 pub slice_bounds-run_table-count : goal.slice_bounds-run_table-count
 slice_bounds-run_table-count c =
@@ -96,9 +92,8 @@ slice_bounds-run_table-count c =
         said _ c.in-Ready.is in
     let ends : (c.in-Ready.first ≤ c.in-Ready.last)
         × (4 * c.in-Ready.last ≤ length bytes) =
-        let r = ready in
-        (r.ordered, omega (arith, r.ends, length_words_in bytes)) in
- let e = ends in omega (arith, e.0, e.1)
+        (ready.ordered, omega (arith, ready.ends, length_words_in bytes)) in
+ omega (arith, ends.0, ends.1)
 
 pub slice_bounds-run_table-start : goal.slice_bounds-run_table-start
 slice_bounds-run_table-start c =
@@ -113,9 +108,8 @@ slice_bounds-run_table-start c =
         said _ c.in-Ready.is in
     let ends : (c.in-Ready.first ≤ c.in-Ready.last)
         × (4 * c.in-Ready.last ≤ length bytes) =
-        let r = ready in
-        (r.ordered, omega (arith, r.ends, length_words_in bytes)) in
- let e = ends in omega (arith, e.0, e.1)
+        (ready.ordered, omega (arith, ready.ends, length_words_in bytes)) in
+ omega (arith, ends.0, ends.1)
 
 pub slice_bounds-run_table-end-in-Ready : goal.slice_bounds-run_table-end-in-Ready
 slice_bounds-run_table-end-in-Ready c =
@@ -130,9 +124,8 @@ slice_bounds-run_table-end-in-Ready c =
         said _ c.in-Ready.is in
     let ends : (c.in-Ready.first ≤ c.in-Ready.last)
         × (4 * c.in-Ready.last ≤ length bytes) =
-        let r = ready in
-        (r.ordered, omega (arith, r.ends, length_words_in bytes)) in
- let e = ends in omega (arith, e.0, e.1)
+        (ready.ordered, omega (arith, ready.ends, length_words_in bytes)) in
+ omega (arith, ends.0, ends.1)
 
 pub run_table-requires : goal.run_table-requires
 run_table-requires c =
@@ -147,20 +140,16 @@ run_table-requires c =
         said _ c.in-Ready.is in
     let ends : (c.in-Ready.first ≤ c.in-Ready.last)
         × (4 * c.in-Ready.last ≤ length bytes) =
-        let r = ready in
-        (r.ordered, omega (arith, r.ends, length_words_in bytes)) in
+        (ready.ordered, omega (arith, ready.ends, length_words_in bytes)) in
     let events-are : words_in (take (4 * c.in-Ready.last - 4 * c.in-Ready.first) (drop (4 * c.in-Ready.first) bytes))
         ≡ part (words_in bytes) c.in-Ready.first c.in-Ready.last =
         words_part _ _ bytes ends.0 in
-
-    let z = c in
-    let r = ready in
     record {
-      table_sound = r.table.sound;
+      table_sound = ready.table.sound;
       words_few =
           omega (
             arith,
-            r.few,
+            ready.few,
             ap length events-are,
             length-take (c.in-Ready.last - c.in-Ready.first) (drop c.in-Ready.first (words_in bytes)),
           );
@@ -178,8 +167,6 @@ returns-in-BadBytes c =
         → Shows (input_of bytes) (words_in bytes) c.open_input.new.cells r =
         λ r e. subst (λ (v : Opened). Shows (input_of bytes) (words_in bytes) c.open_input.new.cells v) e
         c.open_input.ensures in
-
-    let o = c in
     calls_as (call_of_lem under bytes lent Input.BadBytes (said _ c.in-BadBytes.is))
     (calls_bad_bytes under lent)
 
@@ -195,8 +182,6 @@ returns-in-BadImage c =
         → Shows (input_of bytes) (words_in bytes) c.open_input.new.cells r =
         λ r e. subst (λ (v : Opened). Shows (input_of bytes) (words_in bytes) c.open_input.new.cells v) e
         c.open_input.ensures in
-
-    let o = c in
     calls_as (call_of_lem under bytes lent _ (said _ c.in-BadImage.is)) (calls_bad_image under lent _ _)
 
 pub returns-in-TooMany : goal.returns-in-TooMany
@@ -211,8 +196,6 @@ returns-in-TooMany c =
         → Shows (input_of bytes) (words_in bytes) c.open_input.new.cells r =
         λ r e. subst (λ (v : Opened). Shows (input_of bytes) (words_in bytes) c.open_input.new.cells v) e
         c.open_input.ensures in
-
-    let o = c in
     calls_as (call_of_lem under bytes lent _ (said _ c.in-TooMany.is).holds)
     (calls_too_many under lent _ _ c.too_many.ensures)
 
@@ -233,17 +216,12 @@ returns-in-Ready c =
         said _ c.in-Ready.is in
     let ends : (c.in-Ready.first ≤ c.in-Ready.last)
         × (4 * c.in-Ready.last ≤ length bytes) =
-        let r = ready in
-        (r.ordered, omega (arith, r.ends, length_words_in bytes)) in
+        (ready.ordered, omega (arith, ready.ends, length_words_in bytes)) in
     let events-are : words_in (take (4 * c.in-Ready.last - 4 * c.in-Ready.first) (drop (4 * c.in-Ready.first) bytes))
         ≡ part (words_in bytes) c.in-Ready.first c.in-Ready.last =
         words_part _ _ bytes ends.0 in
-
-    let t = c in
-    let z = t in
-    let o = z in
-    let table = table_of c.open_input.new.cells z.in-Ready.size in
+    let table = table_of c.open_input.new.cells c.in-Ready.size in
     calls_as
     (ap (λ (ws : List ℕ). call_for under (Input.Ready table ws) lent) events-are
     ∙ call_of_lem under bytes lent _ ready.holds)
-    t.run_table.ensures
+    c.run_table.ensures

@@ -34,42 +34,34 @@ pub overflow_mul-image_words : goal.overflow_mul-image_words
 overflow_mul-image_words c =
     let few : length c.args.cells.now ≤ 16 =
         let x = c.args.cells.now in omega (arith, (sound_rows (rows_of x) c.requires.table_sound).1, rows_length x) in
-
     omega (arith, c.image_words.ensures, image_low _ few)
 
 pub returns-then-image-image_words : goal.returns-then-image-image_words
 returns-then-image-image_words c =
     let fit : settings_fit c.args.settings ≡ true =
         sym c.settings_fit.ensures ∙ not-false _ c.if-not-settings_fit.false-raw in
-
-    let i = c in
-    let f = i in
-    let a = f.args in
+    let a = c.args in
     calls-short a.settings (rows_of a.cells.now) (words_in a.events.now) a.image.now fit
-    (omega (arith, ap image_length (rows_length a.cells.now), i.image_words.ensures, c.if-image-image_words.true))
+    (omega (arith, ap image_length (rows_length a.cells.now), c.image_words.ensures, c.if-image-image_words.true))
 
 pub run_events-ended-requires : goal.run_events-ended-requires
 run_events-ended-requires c =
     let fit : settings_fit c.args.settings ≡ true =
         sym c.settings_fit.ensures ∙ not-false _ c.if-not-settings_fit.false-raw in
-
-    let f = c in
-    let p = f.requires in
+    let p = c.requires in
     record { table_sound = p.table_sound; settings_fit_lem = fit; words_few = p.words_few }
 
 pub write_image-requires : goal.write_image-requires
 write_image-requires c =
-    let w = c in
-    let e = w in
     record {
-      sound = w.run_events-ended.ensures.sound_after;
+      sound = c.run_events-ended.ensures.sound_after;
       room =
           omega (
             arith,
-            ap image_length (rows_length w.run_events-ended.new.cells),
-            ap image_length w.run_events-ended.auto.cells,
-            e.if-image-image_words.false,
-            e.image_words.ensures,
+            ap image_length (rows_length c.run_events-ended.new.cells),
+            ap image_length c.run_events-ended.auto.cells,
+            c.if-image-image_words.false,
+            c.image_words.ensures,
           );
     }
 
@@ -77,16 +69,11 @@ pub returns : goal.returns
 returns c =
     let fit : settings_fit c.args.settings ≡ true =
         sym c.settings_fit.ensures ∙ not-false _ c.if-not-settings_fit.false-raw in
-
     let put = c.write_image in
-    let w = c in
-    let e = w in
-    let i = e in
-    let f = i in
-    let a = f.args in
-    let run = w.run_events-ended in
+    let a = c.args in
+    let run = c.run_events-ended in
     calls-ran a.settings (rows_of a.cells.now) (words_in a.events.now) a.image.now fit
-    (omega (arith, ap image_length (rows_length a.cells.now), i.image_words.ensures, e.if-image-image_words.false))
+    (omega (arith, ap image_length (rows_length a.cells.now), c.image_words.ensures, c.if-image-image_words.false))
     (rows_of run.new.cells) put.new.image _ _ c.number_of.result
     run.ensures.becomes.rows_are
     run.ensures.taken_is

@@ -28,11 +28,9 @@ pack_image-requires c =
                 length-replicate {A = ℕ} k 0,
               );
         } in
-
-    let t = c in
-    let s = t in record {
-  writable = s.requires;
-  room = room 5 64 (omega (arith, t.if-cells-le5.true)) (omega arith);
+    record {
+  writable = c.requires;
+  room = room 5 64 (omega (arith, c.if-cells-le5.true)) (omega arith);
 }
 
 pub pack_image-requires-2 : goal.pack_image-requires-2
@@ -53,8 +51,7 @@ pack_image-requires-2 c =
                 length-replicate {A = ℕ} k 0,
               );
         } in
-
-    let s = c in record {
-  writable = s.requires;
+    record {
+  writable = c.requires;
   room = room 16 (image_length 16) few (omega arith);
 }

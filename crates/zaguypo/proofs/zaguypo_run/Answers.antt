@@ -10,14 +10,12 @@ use Rattle.zaguypo.proofs.zaguypo_run.Goals as goal
 
 pub run_input-requires : goal.run_input-requires
 run_input-requires c =
-    let few = c in
-    let m = few in
-    let bs = m.args.input.now in
+    let bs = c.args.input.now in
     λ _.
     omega (
       arith,
-      few.if-image_length-le-FEW.true,
-      split_count (words_in bs) _ m.image_length.ensures,
+      c.if-image_length-le-FEW.true,
+      split_count (words_in bs) _ c.image_length.ensures,
       length-replicate {A = ℕ} 64 0,
     )
 
