@@ -1,115 +1,47 @@
 -- `text::print_run` meets its contract: the text for what the input holds, where it fits. Assumes nothing.
 use native.Mathlib.Omega.{arith}
-use mathlib.Core.Path.{◌≡◌, ap}
-use mathlib.Core.Logic.{⊎_elim}
-use mathlib.Core.List.{List}
-use Prim.Native.Nat.{ℕ, ◌≤◌}
-use lib.ListN.{length, length-replicate}
+use mathlib.Core.Path.{ap}
+use Prim.Native.Nat.{◌≤◌}
+use lib.ListN.{length}
 use Rattle.machine.specs.Bytes.{words_in}
-use Rattle.machine.specs.Images.{image_length}
-use Rattle.machine.specs.Text.{printed}
-use Rattle.text.specs.Printing.{opened_text, Answers}
+use Rattle.text.specs.Printing.{opened_text}
 use Rattle.text.proofs.TextFits.{text_fits}
 use Rattle.text.proofs.PrintLaws.{text-is, short_print, whole_print}
-use borrow.Author.Rules.{rules}
 use Rattle.text.proofs.print_run.Goals as goal
-
-pub open_input-opened-requires : goal.open_input-opened-requires
-open_input-opened-requires c =
-    let input : List ℕ =
-        c.args.input.now in
-    let buffer : List ℕ =
-        c.args.out.now in
-    let answers : Answers c.open_input-opened.result (words_in input) c.open_input-opened.new.cells =
-        record { input = input; opens = c.open_input-opened.ensures } in
-    let text : List ℕ =
-        opened_text c.open_input-opened.result (words_in input) c.open_input-opened.new.cells in
-    let printed-is : printed input ≡ text =
-        text-is (words_in input) c.open_input-opened.new.cells c.open_input-opened.result answers in
-    let room : (let o = c in length text ≤ length buffer) =
-        let o = c in
-        ⊎_elim
-        (λ m. omega (arith, m.1.ensures, m.2.left))
-        (λ e. omega (arith, ap length printed-is, text_fits input, e.left))
-        c.if-out-lt-TEXT_BYTES.branch in
-
-    record {
-      room = λ short. omega (arith, short, length-replicate {A = ℕ} (image_length 16) 0);
-      cells = search rules;
-    }
-
--- ---- what the input holds
+use Rattle.text.proofs.print_run.Goals.{then-out-lt-TEXT_BYTES+else-out-length, else-out-lt-TEXT_BYTES}
 
 -- ---- a buffer that may be too short
 
-pub text_length-length-requires : goal.text_length-length-requires
-text_length-length-requires c =
-    let input : List ℕ =
-        c.args.input.now in
-    let answers : Answers c.open_input-opened.result (words_in input) c.open_input-opened.new.cells =
-        record { input = input; opens = c.open_input-opened.ensures } in
- answers
-
 pub returns-then-out-length : goal.returns-then-out-length
 returns-then-out-length c =
-    let input : List ℕ =
-        c.args.input.now in
-    let buffer : List ℕ =
-        c.args.out.now in
-    let answers : Answers c.open_input-opened.result (words_in input) c.open_input-opened.new.cells =
-        record { input = input; opens = c.open_input-opened.ensures } in
-    let text : List ℕ =
-        opened_text c.open_input-opened.result (words_in input) c.open_input-opened.new.cells in
-    let printed-is : printed input ≡ text =
-        text-is (words_in input) c.open_input-opened.new.cells c.open_input-opened.result answers in
+    let input = c.args.input.now in
+    let o = c.open_input-opened in
+    let is = text-is (words_in input) o.new.cells o.result (record { input = input; opens = o.ensures }) in
+    short_print input c.args.out.now is c.text_length-length.ensures c.if-out-length.true
 
-    let measured = c.text_length-length in
-    let o = c in
-    short_print input buffer printed-is measured.ensures c.if-out-length.true
-
--- ---- a buffer with room
+-- ---- a buffer with room: as was measured, or as every text has
 
 pub put_opened-requires : goal.put_opened-requires
 put_opened-requires c =
-    let input : List ℕ =
-        c.args.input.now in
-    let buffer : List ℕ =
-        c.args.out.now in
-    let answers : Answers c.open_input-opened.result (words_in input) c.open_input-opened.new.cells =
-        record { input = input; opens = c.open_input-opened.ensures } in
-    let text : List ℕ =
-        opened_text c.open_input-opened.result (words_in input) c.open_input-opened.new.cells in
-    let printed-is : printed input ≡ text =
-        text-is (words_in input) c.open_input-opened.new.cells c.open_input-opened.result answers in
-    let room : (let o = c in length text ≤ length buffer) =
-        let o = c in
-        ⊎_elim
-        (λ m. omega (arith, m.1.ensures, m.2.left))
-        (λ e. omega (arith, ap length printed-is, text_fits input, e.left))
-        c.if-out-lt-TEXT_BYTES.branch in
-
-    let j = c in
-    record { answers = answers; room = room }
+    let input = c.args.input.now in
+    let o = c.open_input-opened in
+    let is = text-is (words_in input) o.new.cells o.result (record { input = input; opens = o.ensures }) in
+    record {
+      answers = record { input = input; opens = o.ensures };
+      room = elim c.if-out-lt-TEXT_BYTES.branch [
+        | then-out-lt-TEXT_BYTES+else-out-length w ↦ omega arith
+        | else-out-lt-TEXT_BYTES w ↦ omega (arith, ap length is, text_fits input)
+      ];
+    }
 
 pub returns : goal.returns
 returns c =
-    let input : List ℕ =
-        c.args.input.now in
-    let buffer : List ℕ =
-        c.args.out.now in
-    let answers : Answers c.open_input-opened.result (words_in input) c.open_input-opened.new.cells =
-        record { input = input; opens = c.open_input-opened.ensures } in
-    let text : List ℕ =
-        opened_text c.open_input-opened.result (words_in input) c.open_input-opened.new.cells in
-    let printed-is : printed input ≡ text =
-        text-is (words_in input) c.open_input-opened.new.cells c.open_input-opened.result answers in
-    let room : (let o = c in length text ≤ length buffer) =
-        let o = c in
-        ⊎_elim
-        (λ m. omega (arith, m.1.ensures, m.2.left))
-        (λ e. omega (arith, ap length printed-is, text_fits input, e.left))
-        c.if-out-lt-TEXT_BYTES.branch in
-
-    let j = c in
-    let o = j in
-    whole_print input buffer printed-is room c.put_opened.ensures
+    let input = c.args.input.now in
+    let o = c.open_input-opened in
+    let is = text-is (words_in input) o.new.cells o.result (record { input = input; opens = o.ensures }) in
+    let room : length (opened_text o.result (words_in input) o.new.cells) ≤ length c.args.out.now =
+    elim c.if-out-lt-TEXT_BYTES.branch [
+      | then-out-lt-TEXT_BYTES+else-out-length w ↦ omega arith
+      | else-out-lt-TEXT_BYTES w ↦ omega (arith, ap length is, text_fits input)
+    ] in
+    whole_print input c.args.out.now is room c.put_opened.ensures

@@ -8,7 +8,6 @@ use Rattle.machine.specs.Steps.{forgets}
 use Rattle.machine.specs.declared.Row.{Row}
 use Rattle.cells.specs.View.{rows_of}
 use Rattle.cells.proofs.ViewLaws.{rows_length, written_twice}
-use borrow.Author.Rules.{rules}
 use Rattle.cells.proofs.sweeps.forget_in.Goals as goal
 
 pub returns : goal.returns

@@ -1,5 +1,4 @@
 -- `text::fields::put_byte` meets its contract. Assumes nothing.
-use borrow.Author.Rules.{rules}
 use Rattle.text.proofs.AppendingLaws.{appended_one}
 use Rattle.text.proofs.fields.put_byte.Goals as goal
 

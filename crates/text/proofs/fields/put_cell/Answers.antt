@@ -1,6 +1,5 @@
 -- `text::fields::put_cell` meets its contract. Assumes nothing.
 use native.Mathlib.Omega.{arith}
-use borrow.Author.Rules.{rules}
 use mathlib.Core.Path.{◌≡◌, sym, ap, ap₂, ◌∙◌}
 use mathlib.Core.List.{[], ◌∷◌}
 use Prim.Native.Nat.{ℕ}
@@ -15,16 +14,14 @@ use Rattle.text.proofs.fields.put_cell.Goals as goal
 pub put_byte-requires : goal.put_byte-requires
 put_byte-requires c =
     let none : cell_text c.args.cell ≡ 45 ∷ [] =
-        cell_none c.args.cell c.if-cell-eq0.true in
-
+    cell_none c.args.cell c.if-cell-eq0.true in
     let d = c in
     omega (arith, ap length none, d.requires)
 
 pub returns-then-cell-eq0 : goal.returns-then-cell-eq0
 returns-then-cell-eq0 c =
     let none : cell_text c.args.cell ≡ 45 ∷ [] =
-        cell_none c.args.cell c.if-cell-eq0.true in
-
+    cell_none c.args.cell c.if-cell-eq0.true in
     let p = c in
     appended_as (sym none) p.put_byte.ensures
 
@@ -33,18 +30,16 @@ returns-then-cell-eq0 c =
 pub put_byte-second-requires : goal.put_byte-second-requires
 put_byte-second-requires c =
     let some : (let cell = c.args.cell in
-        cell_text cell ≡ lettered cell) =
-        cell_some c.args.cell c.if-cell-eq0.false in
-
+    cell_text cell ≡ lettered cell) =
+    cell_some c.args.cell c.if-cell-eq0.false in
     let d = c in
     omega (arith, ap length some, d.requires)
 
 pub put_byte-third-requires : goal.put_byte-third-requires
 put_byte-third-requires c =
     let some : (let cell = c.args.cell in
-        cell_text cell ≡ lettered cell) =
-        cell_some c.args.cell c.if-cell-eq0.false in
-
+    cell_text cell ≡ lettered cell) =
+    cell_some c.args.cell c.if-cell-eq0.false in
     let first = c in
     let d = first in
     omega (
@@ -58,9 +53,8 @@ put_byte-third-requires c =
 pub put_number-requires : goal.put_number-requires
 put_number-requires c =
     let some : (let cell = c.args.cell in
-        cell_text cell ≡ lettered cell) =
-        cell_some c.args.cell c.if-cell-eq0.false in
-
+    cell_text cell ≡ lettered cell) =
+    cell_some c.args.cell c.if-cell-eq0.false in
     let second = c in
     let first = second in
     let d = first in
@@ -77,9 +71,8 @@ put_number-requires c =
 pub returns : goal.returns
 returns c =
     let some : (let cell = c.args.cell in
-        cell_text cell ≡ lettered cell) =
-        cell_some c.args.cell c.if-cell-eq0.false in
-
+    cell_text cell ≡ lettered cell) =
+    cell_some c.args.cell c.if-cell-eq0.false in
     let number = c in
     let second = number in
     let first = second in

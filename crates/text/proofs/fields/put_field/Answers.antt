@@ -1,6 +1,5 @@
 -- `text::fields::put_field` meets its contract. Assumes nothing.
 use native.Mathlib.Omega.{arith}
-use borrow.Author.Rules.{rules}
 use Rattle.text.proofs.AppendingLaws.{appended_then}
 use Rattle.text.proofs.fields.put_field.Goals as goal
 

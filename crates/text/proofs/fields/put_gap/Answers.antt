@@ -1,6 +1,5 @@
 -- `text::fields::put_gap` meets its contract. Assumes nothing.
 use native.Mathlib.Omega.{arith}
-use borrow.Author.Rules.{rules}
 use mathlib.Core.Path.{sym, ap}
 use lib.ListN.{length}
 use Rattle.text.proofs.AppendingLaws.{appended_none, appended_as}

@@ -1,6 +1,5 @@
 -- `text::lines::put_line` meets its contract. Assumes nothing.
 use native.Mathlib.Omega.{arith}
-use borrow.Author.Rules.{rules}
 use mathlib.Core.Path.{◌≡◌}
 use Prim.Native.Nat.{◌+◌}
 use lib.ListN.{length}
@@ -13,18 +12,17 @@ use Rattle.text.proofs.lines.put_line.Goals as goal
 pub put_text-first-requires : goal.put_text-first-requires
 put_text-first-requires c =
     let long : (let a = c.args in
-        length (line_with a.head.now a.numbers.now a.tail.now)
-        ≡ length a.head.now + (length (spaced a.numbers.now) + length a.tail.now)) =
-        length-line_with c.args.head.now c.args.numbers.now c.args.tail.now in
- omega (arith, long)
+    length (line_with a.head.now a.numbers.now a.tail.now)
+    ≡ length a.head.now + (length (spaced a.numbers.now) + length a.tail.now)) =
+    length-line_with c.args.head.now c.args.numbers.now c.args.tail.now in
+    omega (arith, long)
 
 pub put_numbers-last-requires : goal.put_numbers-last-requires
 put_numbers-last-requires c =
     let long : (let a = c.args in
-        length (line_with a.head.now a.numbers.now a.tail.now)
-        ≡ length a.head.now + (length (spaced a.numbers.now) + length a.tail.now)) =
-        length-line_with c.args.head.now c.args.numbers.now c.args.tail.now in
-
+    length (line_with a.head.now a.numbers.now a.tail.now)
+    ≡ length a.head.now + (length (spaced a.numbers.now) + length a.tail.now)) =
+    length-line_with c.args.head.now c.args.numbers.now c.args.tail.now in
     let put = c.put_text-first in
     let s = c in
     omega (arith, long, put.ensures.end_is, put.auto.out, s.requires)
@@ -32,10 +30,9 @@ put_numbers-last-requires c =
 pub put_text-requires : goal.put_text-requires
 put_text-requires c =
     let long : (let a = c.args in
-        length (line_with a.head.now a.numbers.now a.tail.now)
-        ≡ length a.head.now + (length (spaced a.numbers.now) + length a.tail.now)) =
-        length-line_with c.args.head.now c.args.numbers.now c.args.tail.now in
-
+    length (line_with a.head.now a.numbers.now a.tail.now)
+    ≡ length a.head.now + (length (spaced a.numbers.now) + length a.tail.now)) =
+    length-line_with c.args.head.now c.args.numbers.now c.args.tail.now in
     let n = c in
     let t = n in
     let s = t in
@@ -52,10 +49,9 @@ put_text-requires c =
 pub returns : goal.returns
 returns c =
     let long : (let a = c.args in
-        length (line_with a.head.now a.numbers.now a.tail.now)
-        ≡ length a.head.now + (length (spaced a.numbers.now) + length a.tail.now)) =
-        length-line_with c.args.head.now c.args.numbers.now c.args.tail.now in
-
+    length (line_with a.head.now a.numbers.now a.tail.now)
+    ≡ length a.head.now + (length (spaced a.numbers.now) + length a.tail.now)) =
+    length-line_with c.args.head.now c.args.numbers.now c.args.tail.now in
     let e = c in
     let n = e in
     let t = n in

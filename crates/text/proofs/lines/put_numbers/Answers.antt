@@ -3,11 +3,10 @@
 use native.Mathlib.Omega.{arith}
 use native.Mathlib.Numerals.{add-one}
 use mathlib.Core.Path.{◌≡◌, refl, sym, ap, ◌∙◌}
-use Prim.Native.Nat.{ℕ, ◌-◌, ◌≤◌}
+use Prim.Native.Nat.{ℕ, ◌≤◌}
 use lib.ListN.{length, take}
 use lib.Seq.{take-length}
 use Rattle.machine.specs.Text.{spaced}
-use Rattle.text.specs.Appending.{Appended}
 use Rattle.text.proofs.AppendingLaws.{appended_none, appended_as, appended_then}
 use Rattle.text.proofs.LineLaws.{spaced_next, room_next}
 use Rattle.text.proofs.lines.put_numbers.Goals as goal

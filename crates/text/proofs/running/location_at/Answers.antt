@@ -5,7 +5,6 @@ use Rattle.machine.specs.declared.Row.{Row}
 use Rattle.machine.proofs.TableLaws.{row_over}
 use Rattle.cells.specs.View.{rows_of}
 use Rattle.cells.proofs.ViewLaws.{rows_length}
-use borrow.Author.Rules.{rules}
 use Rattle.text.proofs.running.location_at.Goals as goal
 
 pub returns-then-p-cells : goal.returns-then-p-cells

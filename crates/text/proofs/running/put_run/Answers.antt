@@ -1,14 +1,16 @@
--- `text::running::put_run` meets its contract. The invariant of its loop: how far the printing has come, and what has
--- been carried (ProgressLaws). Assumes nothing.
+-- `text::running::put_run` meets its contract. Assumes nothing.
 use native.Mathlib.Omega.{arith}
-use borrow.Author.Rules.{rules}
 use mathlib.Core.Path.{◌≡◌, refl, sym, ap, subst, ◌∙◌}
 use mathlib.Core.List.{List, []}
-use Prim.Native.Nat.{ℕ, ◌-◌, ◌/◌, ◌<◌}
+use Prim.Native.Nat.{ℕ, ◌+◌, ◌≤◌, ◌<◌}
 use lib.ListN.{length, get_or}
+use Rattle.machine.specs.Tables.{Table}
 use Rattle.machine.specs.Bytes.{words_in}
+use Rattle.machine.specs.Text.{run_lines}
 use Rattle.cells.specs.View.{rows_of}
 use Rattle.octets.proofs.ByteLaws.{length_words_in}
+use Rattle.text.specs.Appending.{Appended}
+use Rattle.text.specs.declared.running.Line.{Line}
 use Rattle.text.specs.Running.{line_goes_on, end_of, inside_of, WordReady, WordPrinted}
 use Rattle.text.proofs.RunLaws.{few_cells}
 use Rattle.text.proofs.AppendingLaws.{appended_none, appended_as, appended_to, appended_then}
@@ -24,172 +26,93 @@ use Rattle.text.proofs.ProgressLaws.{
 }
 use Rattle.text.proofs.running.put_run.Goals as goal
 
+-- ---- before the loop
+
 pub count_critical-inside-requires : goal.count_critical-inside-requires
-count_critical-inside-requires c =
-    let s = c in
-    few_cells s.args.cells.now s.requires.sound
+count_critical-inside-requires c = few_cells c.args.cells.now c.requires.sound
 
 pub loop-i-init : goal.loop-i-init
 loop-i-init c =
-    let s = c in
-    let a = s.args in
+    let a = c.args in
     let ws = words_in a.events.now in
-    let none = progress_none (rows_of a.cells.now) ws s.requires.sound c.count_critical-inside.ensures in
+    let none = progress_none (rows_of a.cells.now) ws c.requires.sound c.count_critical-inside.ensures in
     (record { text = []; progress = none; appended = appended_none a.out.now a.at }, refl, refl)
 
-pub word_at-word-requires : goal.word_at-word-requires
-word_at-word-requires c = omega arith
+-- ---- the line of a word
 
 pub overflow_cast-i : goal.overflow_cast-i
-overflow_cast-i c =
-    let l = c in
-    omega (arith, l.loop-i.invariant.0.progress.within, l.requires.few)
+overflow_cast-i c = omega (arith, c.loop-i.invariant.0.progress.within, c.requires.few)
 
 pub put_word-requires : goal.put_word-requires
 put_word-requires c =
-    let words : List ℕ =
-        words_in c.args.events.now in
-    let count : length words ≡ length c.args.events.now / 4 =
-        length_words_in c.args.events.now in
-
-    let l = c in
-    let p = l.loop-i.invariant.0 in
-    let next = progress_room p.progress (omega (arith, count)) in
-    let o = l.loop-i in
+    let o = c.loop-i in
+    let p = o.invariant.0 in
+    let next = progress_room p.progress (omega (arith, length_words_in c.args.events.now)) in
     subst (λ (w : ℕ). WordReady o.cells o.inside o.out o.end o.i w)
     (sym c.word_at-word.ensures)
     (record {
       sound = p.progress.sound;
       inside_is = progress_critical p.progress;
-      room = omega (arith, next, p.appended.end_is, o.invariant.1, l.requires.room);
+      room = omega (arith, next, p.appended.end_is, o.invariant.1, c.requires.room);
     })
 
--- ---- after the line of a word
+-- ---- after it: v is word i, at the table of x, and r the answer to its line
 
-pub shape_of-out-in-Stopped : goal.shape_of-out-in-Stopped
-shape_of-out-in-Stopped c =
-    let out-kept : length c.put_word.new.out ≡ length c.args.out.now =
-        c.put_word.auto.out ∙ c.loop-i.invariant.1 in
- out-kept
+module _ {at end n i v : ℕ} {t : Table} {x y : List (List ℕ)} {ws d e f : List ℕ} {r : Line} (inside : at ≤ length d)
+    (p : Printed d at t ws e (rows_of x) end n i) (more : i < length ws) (word_is : v ≡ get_or ws i 0)
+    (put : WordPrinted x n e end i v y f r) where
+  printed : WordPrinted x n e end i (get_or ws i 0) y f r
+  printed = subst (λ (w : ℕ). WordPrinted x n e end i w y f r) word_is put
 
-pub shape_of-cells-in-Stopped : goal.shape_of-cells-in-Stopped
-shape_of-cells-in-Stopped c =
-    let cells-kept : length c.put_word.new.1.1.0 ≡ length c.args.cells.now =
-        c.put_word.auto.1.1.0 ∙ c.loop-i.invariant.2 in
- cells-kept
+  -- the word was taken
+  goes_on : {next m : ℕ} → r ≡ Line.Taken next m → Printed d at t ws f (rows_of y) next m (i + 1)
+  goes_on is =
+      let taken = sym printed.taken_is ∙ ap line_goes_on is in
+      let kept = sym (ap inside_of is) ∙ printed.carries taken in
+      record {
+        text = _;
+        progress = progress_taken p.progress more taken printed.becomes.rows_are kept;
+        appended = appended_then inside p.appended (appended_to (ap end_of is) printed.appended);
+      }
+
+  -- or refused
+  stops : {last : ℕ} → r ≡ Line.Stopped last → Appended d at (run_lines t 0 ws) f last
+  stops is =
+      appended_as (progress_stopped p.progress more (sym printed.taken_is ∙ ap line_goes_on is))
+      (appended_then inside p.appended (appended_to (ap end_of is) printed.appended))
 
 pub returns-in-Stopped : goal.returns-in-Stopped
 returns-in-Stopped c =
-    let words : List ℕ =
-        words_in c.args.events.now in
-    let count : length words ≡ length c.args.events.now / 4 =
-        length_words_in c.args.events.now in
-    let more : (let l = c in l.loop-i.i < length words) =
-        omega (arith, count) in
-    let printed : (let l = c in
-        let o = l.loop-i in
-        let put = c.put_word in
-        WordPrinted o.cells o.inside o.out o.end o.i (get_or words o.i 0) put.new.1.1.0
-        put.new.out put.result) =
-        let o = c.loop-i in
-        let put = c.put_word in
-        subst
-        (λ (w : ℕ).
-        WordPrinted o.cells o.inside o.out o.end o.i w put.new.1.1.0 put.new.out put.result)
-        c.word_at-word.ensures
-        put.ensures in
-
-    let w = c in
-    let put = printed in
-    let l = w in
-    let p = l.loop-i.invariant.0 in
-    let is = c.in-Stopped.is in
-    let whole = progress_stopped p.progress more (sym put.taken_is ∙ ap line_goes_on is) in
-    appended_as whole
-    (appended_then (omega (arith, l.requires.room)) p.appended (appended_to (ap end_of is) put.appended))
-
-pub overflow_add-i : goal.overflow_add-i
-overflow_add-i c = omega arith
-
-pub loop-i-smaller : goal.loop-i-smaller
-loop-i-smaller c = omega arith
+    let ws = words_in c.args.events.now in
+    let more : c.loop-i.i < length ws = omega (arith, length_words_in c.args.events.now) in
+    let inside : c.args.at ≤ length c.args.out.now = omega (arith, c.requires.room) in
+    stops inside c.loop-i.invariant.0 more c.word_at-word.ensures c.put_word.ensures c.in-Stopped.is
 
 pub loop-i-preserved : goal.loop-i-preserved
 loop-i-preserved c =
-    let words : List ℕ =
-        words_in c.args.events.now in
-    let count : length words ≡ length c.args.events.now / 4 =
-        length_words_in c.args.events.now in
-    let more : (let l = c in l.loop-i.i < length words) =
-        omega (arith, count) in
-    let printed : (let l = c in
-        let o = l.loop-i in
-        let put = c.put_word in
-        WordPrinted o.cells o.inside o.out o.end o.i (get_or words o.i 0) put.new.1.1.0
-        put.new.out put.result) =
-        let o = c.loop-i in
-        let put = c.put_word in
-        subst
-        (λ (w : ℕ).
-        WordPrinted o.cells o.inside o.out o.end o.i w put.new.1.1.0 put.new.out put.result)
-        c.word_at-word.ensures
-        put.ensures in
-    let out-kept : length c.put_word.new.out ≡ length c.args.out.now =
-        c.put_word.auto.out ∙ c.loop-i.invariant.1 in
-    let cells-kept : length c.put_word.new.1.1.0 ≡ length c.args.cells.now =
-        c.put_word.auto.1.1.0 ∙ c.loop-i.invariant.2 in
-
-    let w = c in
-    let put = printed in
-    let l = w in
-    let p = l.loop-i.invariant.0 in
-    let is = c.in-Taken.is in
-    let taken = sym put.taken_is ∙ ap line_goes_on is in
-    let inside = sym (ap inside_of is) ∙ put.carries taken in (
-      record {
-        text = _;
-        progress = progress_taken p.progress more taken put.becomes.rows_are inside;
-        appended =
-            appended_then (omega (arith, l.requires.room)) p.appended (appended_to (ap end_of is) put.appended);
-      },
-      out-kept,
-      cells-kept,
+    let o = c.loop-i in
+    let ws = words_in c.args.events.now in
+    let more : o.i < length ws = omega (arith, length_words_in c.args.events.now) in
+    let inside : c.args.at ≤ length c.args.out.now = omega (arith, c.requires.room) in (
+      goes_on inside o.invariant.0 more c.word_at-word.ensures c.put_word.ensures c.in-Taken.is,
+      c.put_word.auto.out ∙ o.invariant.1,
+      c.put_word.auto.cells ∙ o.invariant.2,
     )
 
 -- ---- after the last word
 
 pub overflow_cast-i-2 : goal.overflow_cast-i-2
-overflow_cast-i-2 c =
-    let l = c in
-    omega (arith, l.loop-i.invariant.0.progress.within, l.requires.few)
+overflow_cast-i-2 c = omega (arith, c.loop-i.invariant.0.progress.within, c.requires.few)
 
 pub put_done-requires : goal.put_done-requires
 put_done-requires c =
-    let words : List ℕ =
-        words_in c.args.events.now in
-    let count : length words ≡ length c.args.events.now / 4 =
-        length_words_in c.args.events.now in
-
-    let l = c in
-    let p = l.loop-i.invariant.0 in
-    let last = progress_last p.progress (omega (arith, p.progress.within, count)) in
-    omega (arith, p.appended.end_is, l.loop-i.invariant.1, l.requires.room)
-
-pub shape_of-out : goal.shape_of-out
-shape_of-out c = c.put_done.auto.out ∙ c.loop-i.invariant.1
-
-pub shape_of-cells : goal.shape_of-cells
-shape_of-cells c = c.loop-i.invariant.2
+    let p = c.loop-i.invariant.0 in
+    let last = progress_last p.progress (omega (arith, p.progress.within, length_words_in c.args.events.now)) in
+    omega (arith, p.appended.end_is, c.loop-i.invariant.1, c.requires.room)
 
 pub returns : goal.returns
 returns c =
-    let words : List ℕ =
-        words_in c.args.events.now in
-    let count : length words ≡ length c.args.events.now / 4 =
-        length_words_in c.args.events.now in
-
-    let l = c in
-    let p = l.loop-i.invariant.0 in
-    let whole = progress_done p.progress (omega (arith, p.progress.within, count)) in
-    appended_as whole
-    (appended_then (omega (arith, l.requires.room)) p.appended c.put_done.ensures)
+    let p = c.loop-i.invariant.0 in
+    appended_as
+    (progress_done p.progress (omega (arith, p.progress.within, length_words_in c.args.events.now)))
+    (appended_then (omega (arith, c.requires.room)) p.appended c.put_done.ensures)

@@ -1,27 +1,11 @@
 -- `text::running::put_run` meets its contract. The invariant of its loop: how far the printing has come, and what has
 -- been carried (ProgressLaws). Assumes nothing.
-use native.Mathlib.Omega.{arith}
-use borrow.Author.Rules.{rules}
-use mathlib.Core.Path.{◌≡◌, refl, sym, ap, subst, ◌∙◌}
-use mathlib.Core.List.{List, []}
-use Prim.Native.Nat.{ℕ, ◌-◌, ◌/◌, ◌<◌}
-use lib.ListN.{length, get_or}
+use mathlib.Core.Path.{◌≡◌}
+use Prim.Native.Nat.{◌-◌}
+use lib.ListN.{length}
 use Rattle.machine.specs.Bytes.{words_in}
 use Rattle.cells.specs.View.{rows_of}
-use Rattle.octets.proofs.ByteLaws.{length_words_in}
-use Rattle.text.specs.Running.{line_goes_on, end_of, inside_of, WordReady, WordPrinted}
-use Rattle.text.proofs.RunLaws.{few_cells}
-use Rattle.text.proofs.AppendingLaws.{appended_none, appended_as, appended_to, appended_then}
-use Rattle.text.proofs.ProgressLaws.{
-  Printed,
-  progress_none,
-  progress_critical,
-  progress_taken,
-  progress_stopped,
-  progress_done,
-  progress_room,
-  progress_last,
-}
+use Rattle.text.proofs.ProgressLaws.{Printed}
 use Rattle.text.proofs.running.put_run.Given as goal
 
 abbrev pub invariant-loop-i : goal.invariant-loop-i

@@ -1,11 +1,17 @@
 -- `text::running::put_word` meets its contract: one line, of the taken word or of the refused one. Assumes nothing.
 use native.Mathlib.Omega.{arith}
 use mathlib.Core.Path.{◌≡◌, sym, ap, ◌∙◌}
-use mathlib.Core.Bool.{true, false, false≢true}
+use mathlib.Core.Bool.{false, false≢true}
 use mathlib.Core.List.{[], ◌∷◌}
+use Prim.Native.Nat.{ℕ}
 use lib.ListN.{length}
-use Rattle.machine.specs.Text.{stop_line, word_line}
-use Rattle.machine.specs.Steps.{answer_of}
+use Rattle.machine.specs.Tables.{Table, row}
+use Rattle.machine.specs.Words.{process_of}
+use Rattle.machine.specs.Steps.{answer_of, after_word}
+use Rattle.machine.specs.Census.{critical}
+use Rattle.machine.specs.Runs.{carried}
+use Rattle.machine.specs.Text.{stop_line}
+use Rattle.machine.specs.declared.Told.{Told}
 use Rattle.machine.specs.declared.Stepped.{Stepped}
 use Rattle.cells.specs.View.{rows_of}
 use Rattle.text.specs.Appending.{taken_line}
@@ -23,152 +29,87 @@ use Rattle.text.proofs.RunLaws.{
   carried-count,
   cell_is,
 }
-use borrow.Author.Rules.{rules}
 use Rattle.text.proofs.running.put_word.Goals as goal
-
--- ---- after the step
 
 -- ---- a taken word
 
 pub carried-now_inside-requires : goal.carried-now_inside-requires
 carried-now_inside-requires c =
-    let moved : (let a = c.args in
-        answer_of (rows_of a.cells.now) a.word ≡ Stepped.Moved c.told-1.given.0.0) =
-        sym c.advance.ensures.answer_is ∙ c.in-Moved.is in
+    let moved = sym c.advance.ensures.answer_is ∙ c.in-Moved.is in
+    may_carry (rows_of c.args.cells.now) c.args.word _ _ moved c.requires.inside_is c.requires.sound
 
-    let told = c in
-    let s = told in
-    may_carry (rows_of s.args.cells.now) s.args.word _ _ moved s.requires.inside_is s.requires.sound
+-- its five numbers and its cell are its line
+its-line : (t u : Table) (i w p before after inside n : ℕ) (s : Told)
+    → answer_of t w ≡ Stepped.Moved s
+    → p ≡ process_of w
+    → before ≡ (row t p).location
+    → u ≡ after_word t w
+    → after ≡ (row u p).location
+    → inside ≡ critical t
+    → n ≡ carried s.event inside
+    → taken_line (i ∷ p ∷ before ∷ after ∷ n ∷ []) s.cell ≡ line_of t i w
+its-line t u i w p before after inside n s moved pe be ue ae ie ne =
+    let now = carried-count t w _ _ moved ie ne ue in
+    line_is t u i w p before after n s.cell pe be ue ae now (cell_is t w _ _ moved ie)
+    ∙ sym (line_of_taken t i w (moved-takes t w _ moved))
 
 pub put_taken-end-requires : goal.put_taken-end-requires
 put_taken-end-requires c =
-    let moved : (let a = c.args in
-        answer_of (rows_of a.cells.now) a.word ≡ Stepped.Moved c.told-1.given.0.0) =
-        sym c.advance.ensures.answer_is ∙ c.in-Moved.is in
-    let taken : (let a = c.args in
-        takes (rows_of a.cells.now) a.word ≡ true) =
-        let a = c.args in
-        moved-takes (rows_of a.cells.now) a.word _ moved in
-    let printed : (let d = c in
-        let l = d in
-        let step = l in
-        let first = step in
-        let a = step.args in
-        taken_line (a.place ∷ first.process_of-p.result ∷ first.location_at-before.result
-        ∷ l.location_at-after.result ∷ d.carried-now_inside.result ∷ []) l.told-1.given.0.0.cell
-        ≡ word_line (rows_of a.cells.now) a.place a.word) =
-        let d = c in
-        let l = d in
-        let told = l in
-        let step = told in
-        let first = step in
-        let s = step in
-        let a = s.args in
-        let t = rows_of a.cells.now in
-        let next = step.advance.ensures.becomes.rows_are in
-        line_is t (rows_of step.advance.last.0) a.place a.word _ _ _ _ _
-        first.process_of-p.ensures
-        first.location_at-before.ensures
-        next
-        l.location_at-after.ensures
-        (carried-count t a.word _ _ moved s.requires.inside_is d.carried-now_inside.ensures next)
-        (cell_is t a.word _ _ moved s.requires.inside_is) in
-
-    let put = c in
-    let told = put in
-    let s = told in
-    let is = line_of_taken (rows_of s.args.cells.now) s.args.place s.args.word taken in
-    omega (arith, ap length printed, ap length is, s.requires.room)
-
--- ---- a refused word
-
-pub put_stop-requires : goal.put_stop-requires
-put_stop-requires c =
-    let stopped : (let a = c.args in
-        takes (rows_of a.cells.now) a.word ≡ false) =
-        let a = c.args in
-        let answer = sym c.advance.ensures.answer_is ∙ c.in-Refused.is in
-        refused_takes (rows_of a.cells.now) a.word _ answer in
-    let last-is : (let a = c.args in
-        stop_line a.place c.in-Refused.number ≡ line_of (rows_of a.cells.now) a.place a.word) =
-        let a = c.args in
-        let t = rows_of a.cells.now in
-        let answer = sym c.advance.ensures.answer_is ∙ c.in-Refused.is in
-        sym (ap (stop_line a.place) (refused_number t a.word _ answer))
-        ∙ sym (line_of_stopped t a.place a.word stopped) in
-
-    let why = c in
-    omega (arith, ap length last-is, why.requires.room)
-
--- ---- the answers
+    let a = c.args in
+    let t = rows_of a.cells.now in
+    let u = rows_of c.advance.new.cells in
+    let moved = sym c.advance.ensures.answer_is ∙ c.in-Moved.is in
+    let next = c.advance.ensures.becomes.rows_are in
+    let p = c.process_of-p.ensures in
+    let before = c.location_at-before.ensures in
+    let after = c.location_at-after.ensures in
+    let now = c.carried-now_inside.ensures in
+    let line = its-line t u a.place a.word _ _ _ _ _ _ moved p before next after c.requires.inside_is now in
+    omega (arith, ap length line, c.requires.room)
 
 pub returns-in-Moved : goal.returns-in-Moved
 returns-in-Moved c =
-    let moved : (let a = c.args in
-        answer_of (rows_of a.cells.now) a.word ≡ Stepped.Moved c.told-1.given.0.0) =
-        sym c.advance.ensures.answer_is ∙ c.in-Moved.is in
-    let taken : (let a = c.args in
-        takes (rows_of a.cells.now) a.word ≡ true) =
-        let a = c.args in
-        moved-takes (rows_of a.cells.now) a.word _ moved in
-    let printed : (let d = c in
-        let l = d in
-        let step = l in
-        let first = step in
-        let a = step.args in
-        taken_line (a.place ∷ first.process_of-p.result ∷ first.location_at-before.result
-        ∷ l.location_at-after.result ∷ d.carried-now_inside.result ∷ []) l.told-1.given.0.0.cell
-        ≡ word_line (rows_of a.cells.now) a.place a.word) =
-        let d = c in
-        let l = d in
-        let told = l in
-        let step = told in
-        let first = step in
-        let s = step in
-        let a = s.args in
-        let t = rows_of a.cells.now in
-        let next = step.advance.ensures.becomes.rows_are in
-        line_is t (rows_of step.advance.last.0) a.place a.word _ _ _ _ _
-        first.process_of-p.ensures
-        first.location_at-before.ensures
-        next
-        l.location_at-after.ensures
-        (carried-count t a.word _ _ moved s.requires.inside_is d.carried-now_inside.ensures next)
-        (cell_is t a.word _ _ moved s.requires.inside_is) in
-
-    let put = c in
-    let told = put in
-    let step = told in
-    let s = step in
-    let a = s.args in
+    let a = c.args in
     let t = rows_of a.cells.now in
-    let is = line_of_taken t a.place a.word taken in
+    let u = rows_of c.advance.new.cells in
+    let moved = sym c.advance.ensures.answer_is ∙ c.in-Moved.is in
+    let next = c.advance.ensures.becomes.rows_are in
+    let p = c.process_of-p.ensures in
+    let before = c.location_at-before.ensures in
+    let after = c.location_at-after.ensures in
+    let now = c.carried-now_inside.ensures in
+    let line = its-line t u a.place a.word _ _ _ _ _ _ moved p before next after c.requires.inside_is now in
     record {
-      becomes = step.advance.ensures.becomes;
-      taken_is = sym taken;
-      carries = λ _. carried_event t a.word _ _ moved s.requires.inside_is put.carried-now_inside.ensures;
-      appended = appended_as (printed ∙ sym is) c.put_taken-end.ensures;
+      becomes = c.advance.ensures.becomes;
+      taken_is = sym (moved-takes t a.word _ moved);
+      carries = λ _. carried_event t a.word _ _ moved c.requires.inside_is now;
+      appended = appended_as line c.put_taken-end.ensures;
     }
+
+-- ---- a refused word
+
+-- the last line is its line
+last-is : (t : Table) (place word : ℕ) {n : ℕ} → answer_of t word ≡ Stepped.Refused n
+    → (takes t word ≡ false) × (stop_line place n ≡ line_of t place word)
+last-is t place word answer =
+    let stopped = refused_takes t word _ answer in (
+      stopped,
+      sym (ap (stop_line place) (refused_number t word _ answer)) ∙ sym (line_of_stopped t place word stopped),
+    )
+
+pub put_stop-requires : goal.put_stop-requires
+put_stop-requires c =
+    let a = c.args in
+    let last = last-is (rows_of a.cells.now) a.place a.word (sym c.advance.ensures.answer_is ∙ c.in-Refused.is) in
+    omega (arith, ap length last.1, c.requires.room)
 
 pub returns-in-Refused : goal.returns-in-Refused
 returns-in-Refused c =
-    let stopped : (let a = c.args in
-        takes (rows_of a.cells.now) a.word ≡ false) =
-        let a = c.args in
-        let answer = sym c.advance.ensures.answer_is ∙ c.in-Refused.is in
-        refused_takes (rows_of a.cells.now) a.word _ answer in
-    let last-is : (let a = c.args in
-        stop_line a.place c.in-Refused.number ≡ line_of (rows_of a.cells.now) a.place a.word) =
-        let a = c.args in
-        let t = rows_of a.cells.now in
-        let answer = sym c.advance.ensures.answer_is ∙ c.in-Refused.is in
-        sym (ap (stop_line a.place) (refused_number t a.word _ answer))
-        ∙ sym (line_of_stopped t a.place a.word stopped) in
-
-    let why = c in
+    let a = c.args in
+    let last = last-is (rows_of a.cells.now) a.place a.word (sym c.advance.ensures.answer_is ∙ c.in-Refused.is) in
     record {
-      becomes = why.advance.ensures.becomes;
-      taken_is = sym stopped;
-      carries = λ h. absurd (false≢true (sym stopped ∙ h));
-      appended = appended_as last-is c.put_stop.ensures;
+      becomes = c.advance.ensures.becomes;
+      taken_is = sym last.0;
+      carries = λ h. absurd (false≢true (sym last.0 ∙ h));
+      appended = appended_as last.1 c.put_stop.ensures;
     }
