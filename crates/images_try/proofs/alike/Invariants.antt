@@ -1,7 +1,5 @@
 -- `images_try::alike` is safe and ends: the count is at most the index. Assumes nothing.
-use Prim.Native.Nat.{◌-◌, ◌≤◌}
-use lib.ListN.{length}
-use borrow.Author.Rules.{rules}
+use Rattle.std.proofs.Common.{length, ◌-◌, ◌≤◌}
 use Rattle.images_try.proofs.alike.Given as goal
 
 abbrev pub invariant-loop-i : goal.invariant-loop-i

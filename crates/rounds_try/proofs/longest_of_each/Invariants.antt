@@ -1,5 +1,5 @@
 -- `longest_of_each` is safe and ends. Assumes nothing.
-use Prim.Native.Nat.{◌-◌, ◌≤◌}
+use Rattle.std.proofs.Common.{◌-◌, ◌≤◌}
 use Rattle.rounds_try.proofs.longest_of_each.Given as goal
 
 abbrev pub invariant-loop-n : goal.invariant-loop-n

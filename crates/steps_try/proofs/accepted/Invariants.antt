@@ -1,10 +1,5 @@
 -- `accepted` is safe and ends: no more words are accepted than were given. Assumes nothing.
-use Prim.Native.Nat.{◌-◌, ◌≤◌}
-use mathlib.Core.Path.{◌≡◌}
-use mathlib.Core.Logic.{⊎_elim}
-use native.Mathlib.Omega.{arith}
-use lib.ListN.{length}
-use borrow.Author.Rules.{rules}
+use Rattle.std.proofs.Common.{length, ◌-◌, ◌≤◌, ◌≡◌}
 use Rattle.steps_try.proofs.accepted.Given as goal
 
 abbrev pub invariant-loop-i : goal.invariant-loop-i
