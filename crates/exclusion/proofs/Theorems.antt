@@ -51,7 +51,11 @@ pub exclusion : (t : Table) (ws : List ℕ)
     × (length (after_words t ws) ≡ length t)
     × ((k : ℕ) → held k (after_words t ws) ≤ k)
     × (critical (after_words t ws) ≤ 1)
-exclusion t ws h = (stays_sound t ws (fresh-sound t h), words_keep_length t ws, at_most_k t ws h, at_most_one t ws h)
+-- The bounds come from the invariant, as in the theorems above: so an edit of one of those is refused there alone.
+exclusion t ws h =
+    let u = after_words t ws in
+    let i = invariant_after t ws h in
+    (stays_sound t ws (fresh-sound t h), words_keep_length t ws, invariant_held u i, invariant_critical u i)
 
 -- ---- under settings
 

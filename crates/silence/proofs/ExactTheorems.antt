@@ -53,5 +53,5 @@ pub silence_least : (t : Table) (b : ℕ)
     → silence_bound (length t) ≤ b
 silence_least t b h enough =
     first_least (silence_bound (length t)) b (after_words t (all_coming (length t)))
-    (silence_attained t h)
+    (come_first t h)
     (enough (all_coming (length t)) (silence_there t h) (silence_unbroken t h))
