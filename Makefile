@@ -51,4 +51,4 @@ spin:
 
 fmt:
 	@tools/need rt
-	@rt fmt
+	@for crate in $$(tools/crates); do (cd crates/$$crate && rt fmt) || exit 1; done

@@ -195,7 +195,7 @@ static void broken_rounds(const uint32_t *image) {
 
 /* The cycle of section 4.1 of the paper, as often as can be counted. Process 1 sees act 1 of process 0, which then gives up, and
    comes to 24, where it stays; process 0 passes it again and again. Each run goes on from the image that the one before left.
-   Last, process 0 shows act 1 at 20 and process 1 waits for it, which rounds do not end (broken-rounds-end-nothing). */
+   Last, process 0 shows act 1 at 20 and process 1 waits for it, which rounds do not end (broken-rounds_end_nothing). */
 static void passed(void) {
     static const uint32_t to_24[10] = {0x20000000, 0x30000001, 0x20010000, 0x40010000, 0x40010000,
                                        0x50010000, 0x40010000, 0x40010000, 0x60000000, 0x40000000};

@@ -94,6 +94,46 @@ def clauses():
 
 
 CLAUSES = {}
+PARAMS = {}
+FIELDS = {}
+
+
+def sources():
+    """For each function the parameters that come back, and for each variant of an enum its fields."""
+    for folder, _dirs, files in os.walk("crates"):
+        if "/src" not in folder:
+            continue
+        for name in files:
+            if not name.endswith(".rt"):
+                continue
+            crate = folder.split("/")[1]
+            module = os.path.relpath(os.path.join(folder, name), f"crates/{crate}/src")[:-3].replace("/", "::")
+            head = crate if module in ("lib", "main") else f"{crate}::{module}"
+            text = open(os.path.join(folder, name)).read()
+            for m in re.finditer(r"\bfn (\w+)\(((?:[^()]|\([^()]*\))*)\)", text):
+                back = []
+                for one in re.split(r",(?![^\[]*\])", m.group(2)):
+                    w = re.match(r"\s*(?:mut )?(\w+): (.*)", one.strip(), re.S)
+                    if w and not re.match(r"(u8|u16|u32|u64|usize|bool)$", w.group(2).strip()):
+                        back.append(w.group(1))
+                PARAMS[f"{head}::{m.group(1)}"] = back
+            for m in re.finditer(r"\benum \w+ \{(.*?)^\}", text, re.S | re.M):
+                for v in re.finditer(r"^    (\w+)(?: \{(.*?)\}|\((.*?)\))?,", m.group(1), re.S | re.M):
+                    if v.group(2):
+                        FIELDS[v.group(1)] = re.findall(r"(\w+):", v.group(2))
+
+
+def indexed(tail):
+    """How far a path into a tuple goes: 0, 1.0, 1.1.0; and how many parts it takes."""
+    k = 0
+    for n, x in enumerate(tail):
+        if x == "1":
+            k += 1
+        elif x == "0":
+            return k, n + 1
+        else:
+            return None
+    return None
 
 
 def named(parts, function):
@@ -103,7 +143,14 @@ def named(parts, function):
             i = parts.index(kind)
             names = CLAUSES.get(function, ([], []))[k]
             if len(names) > 1 and i + 1 < len(parts) and parts[i + 1].isdigit():
-                parts[i + 1] = names[int(parts[i + 1])] or parts[i + 1]
+                # the clauses were pairs within pairs: 0, 1.0, 1.1.0 .., and the last has no 0
+                j, n = i + 1, 0
+                while n < len(names) - 1 and j < len(parts) and parts[j] == "1":
+                    j, n = j + 1, n + 1
+                if n < len(names) - 1 and j < len(parts) and parts[j] == "0":
+                    j += 1
+                if names[n]:
+                    parts[i + 1 : j] = [names[n]]
     return parts
 
 
@@ -156,6 +203,8 @@ class Function:
                 place = "Start"
         if not parts:
             return var + ".before" * n, place
+        if parts[0] == "pre":
+            parts[0] = "requires"
         at = self.find(place, parts[0]) or self.anywhere(parts[0])
         if at is None:
             if parts[0] in ("args", "ranges") and len(parts) > 1:
@@ -167,7 +216,39 @@ class Function:
             tail = [sub[tail[0]]] + tail[1:]
         elif tail and norm(tail[0]) in {norm(k): v for k, v in sub.items()}:
             tail = [{norm(k): v for k, v in sub.items()}[norm(tail[0])]] + tail[1:]
+        tail, step = self.arm(at, tail)
+        tail = self.back(at, tail)
+        if step:
+            return ".".join([var, step] + tail), None
+        up = self.parent[at]
+        if not tail and self.callee[at] is None and up is not None and self.step[up][0] == "match":
+            return var + "." + self.step[up][1], None
         return ".".join([var, self.step[at][1]] + named(self.live(at, tail), self.callee[at])), None
+
+    def back(self, at, tail):
+        """What a call gave back, by the names of its parameters."""
+        if tail[:1] in (["new"], ["auto"]) and indexed(tail[1:]) and self.callee[at] in PARAMS:
+            k, n = indexed(tail[1:])
+            back = PARAMS[self.callee[at]]
+            if k < len(back):
+                tail = [tail[0], back[k]] + tail[1 + n :]
+        return tail
+
+    def arm(self, at, tail):
+        """A value that a match has made known is now a part of the arm."""
+        tail = [re.sub(r"^keys\d+$", "is", t) for t in tail]
+        tail = ["invariant" if t == "inv" else t for t in tail]
+        up = self.parent[at]
+        if tail[:1] == ["given"] and up is not None and self.step[up][0] == "match":
+            step = self.step[up][1]
+            if tail[1:2] == ["1"]:
+                return ["is"] + tail[2:], step
+            if tail[1:2] == ["0"]:
+                fields = FIELDS.get(re.sub(r"^in-|-\d+$", "", step), [])
+                got = indexed(tail[2:])
+                if got and got[0] < len(fields):
+                    return [fields[got[0]]] + tail[2 + got[1] :], step
+        return tail, None
 
     def live(self, at, tail):
         """The names of a loop's variables are those of the source."""
@@ -190,9 +271,12 @@ class Function:
             return ("args", None)
         at = self.find(place, parts[0]) or self.anywhere(parts[0])
         if at is None:
-            if parts[-1:] == ["requires"] and len(parts) == 1:
+            if parts == ["requires"]:
                 return ("clauses", [self.own, 0])
             return None
+        up = self.parent[at]
+        if len(parts) == 1 and self.callee[at] is None and up is not None and self.step[up][0] == "match":
+            return ("arm", at)
         if len(parts) == 1:
             return ("step", at)
         if parts[1:] == ["ensures"]:
@@ -227,7 +311,10 @@ class Function:
                 return self.path_of(var, known[1], rest[1:])[0]
             if known[0] == "args":
                 parts[0] = self.args.get(parts[0], parts[0])
+            elif known[0] == "arm":
+                parts = self.arm(known[1], parts)[0]
             elif known[0] == "step":
+                parts = self.back(known[1], ["invariant" if t == "inv" else t for t in parts])
                 sub = {norm(k): v for k, v in self.sub[known[1]].items()}
                 parts[0] = sub.get(norm(parts[0]), parts[0])
                 parts = named(self.live(known[1], parts), self.callee[known[1]])
@@ -244,6 +331,7 @@ class Function:
 def main():
     names, crate, only = sys.argv[1], sys.argv[2], sys.argv[3:]
     CLAUSES.update(clauses())
+    sources()
     entries = json.load(open(names))
     root = f"crates/{crate}/proofs"
     for folder, _dirs, files in sorted(os.walk(root)):
@@ -436,17 +524,15 @@ def with_helpers(f, var, body):
     used.sort(key=f.helpers.index)
 
     def calls(t):
-        for h in f.helpers:
-            arg = rf"(?:{TOKEN}(?:\.before)*|\({TOKEN}(?:\.before)*\))(?![\w.'\-])"
+        for h in f.helpers * 4:
+            arg = rf"(?!(?:in|_)(?![\w.'\-]))(?:{TOKEN}(?:\.before)*|\({TOKEN}(?:\.before)*\))(?![\w.'\-])"
             if h["to"]:
-                t = re.sub(rf"\({word(h['name'])} ({arg})\)", r"\1", t)
-                t = re.sub(rf"{word(h['name'])} ({arg})", r"\1", t)
+                t = re.sub(rf"\({word(h['name'])} ({arg})\)|{word(h['name'])} ({arg})", lambda m: m.group(1) or m.group(2), t)
                 t = re.sub(rf"({TOKEN})\.before+(?![\w.])", r"\1", t) if False else t
         for h in f.helpers:
-            arg = rf"(?:{TOKEN}(?:\.before)*|\({TOKEN}(?:\.before)*\))(?![\w.'\-])"
+            arg = rf"(?!(?:in|_)(?![\w.'\-]))(?:{TOKEN}(?:\.before)*|\({TOKEN}(?:\.before)*\))(?![\w.'\-])"
             if not h["to"]:
-                t = re.sub(rf"\({word(h['name'])} {arg}\)", h["name"], t)
-                t = re.sub(rf"{word(h['name'])} {arg}", h["name"], t)
+                t = re.sub(rf"\({word(h['name'])} {arg}\)|{word(h['name'])} {arg}", h["name"], t)
         return t
 
     def as_var(t, old):
@@ -539,8 +625,14 @@ def answer(f, name, new, b, place):
             callee = same[0] if len(same) == 1 else None
         several = CLAUSES.get(callee, ([], []))[0]
     if several and len(several) > 1:
-        eq = body.rindex(" in\n") + 3 if lets else body.index("=")
+        eq = body.index("=")
         ps = parts_of(body[eq + 1 :])
+        if ps is None:
+            ins = [m.end() - 1 for m in re.finditer(r"\bin(?=[\s(])", body)]
+            for at in ins:
+                if parts_of(body[at + 1 :]):
+                    eq, ps = at, parts_of(body[at + 1 :])
+                    break
         if ps and len(ps) == len(several):
             body = body[: eq + 1] + " record {\n" + "\n".join(f"  {n} = {p.strip()};" for n, p in zip(several, ps)) + "\n}"
         elif "search rules" not in body[eq:eq+16]:

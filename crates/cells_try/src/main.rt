@@ -3,74 +3,69 @@
 #![tactic(auto)]
 
 use cells::making::fresh;
-use libc::STDOUT_FILENO;
 use machine::Row;
 use sets::Lowest;
+use std::io;
 
 // A number and a space before it.
-fn put(n: u16) {
-    io::write_all(STDOUT_FILENO, b" ");
-    io::print_decimal(STDOUT_FILENO, n as u64);
+fn put(rt: &impl Print, n: u16) -> io::Result<()> {
+    print!(rt; " {n}")
 }
 
 // A set and a process: whether it is a member, the number of members, the set without it, the lowest
 // member.
-fn show_set(s: u16, q: u16) {
-    io::write_all(STDOUT_FILENO, b"set");
-    put(s);
-    put(q);
-    io::write_all(STDOUT_FILENO, b":");
-    put(sets::has(s, q) as u16);
-    put(sets::size(s));
-    put(sets::without(s, q));
+fn show_set(rt: &impl Print, s: u16, q: u16) -> io::Result<()> {
+    print!(rt; "set")?;
+    put(rt, s)?;
+    put(rt, q)?;
+    print!(rt; ":")?;
+    put(rt, sets::has(s, q) as u16)?;
+    put(rt, sets::size(s))?;
+    put(rt, sets::without(s, q))?;
     match sets::lowest_member(s) {
-        Lowest::Member(lowest) => {
-            put(lowest);
-        }
-        Lowest::Empty => {
-            io::write_all(STDOUT_FILENO, b" none");
-        }
+        Lowest::Member(lowest) => put(rt, lowest)?,
+        Lowest::Empty => print!(rt; " none")?,
     }
-    io::write_all(STDOUT_FILENO, b"\n");
+    println!(rt; "")
 }
 
 // The cells of a row.
-fn show_row(r: Row) {
-    io::write_all(STDOUT_FILENO, b", row");
-    put(r.location);
-    put(r.act);
-    put(r.bb);
-    put(r.level);
-    put(r.est);
-    put(r.lis);
-    put(r.ahead);
-    put(r.turn);
+fn show_row(rt: &impl Print, r: Row) -> io::Result<()> {
+    print!(rt; ", row")?;
+    put(rt, r.location)?;
+    put(rt, r.act)?;
+    put(rt, r.bb)?;
+    put(rt, r.level)?;
+    put(rt, r.est)?;
+    put(rt, r.lis)?;
+    put(rt, r.ahead)?;
+    put(rt, r.turn)
 }
 
 // A fresh table: refusal, place, size, and its first, second, third and last row.
-fn show_fresh(n: u32) {
+fn show_fresh(rt: &impl Print, n: u32) -> io::Result<()> {
     let t = fresh(n);
-    io::write_all(STDOUT_FILENO, b"fresh");
-    put(t.refusal);
-    put(t.place);
-    put(t.size);
-    show_row(t.rows[0]);
-    show_row(t.rows[1]);
-    show_row(t.rows[2]);
-    show_row(t.rows[15]);
-    io::write_all(STDOUT_FILENO, b"\n");
+    print!(rt; "fresh")?;
+    put(rt, t.refusal)?;
+    put(rt, t.place)?;
+    put(rt, t.size)?;
+    show_row(rt, t.rows[0])?;
+    show_row(rt, t.rows[1])?;
+    show_row(rt, t.rows[2])?;
+    show_row(rt, t.rows[15])?;
+    println!(rt; "")
 }
 
-fn main() {
-    show_set(0, 0);
-    show_set(1, 0);
-    show_set(32769, 15);
-    show_set(32768, 14);
-    show_set(65535, 16);
-    show_set(65535, 65535);
-    show_fresh(1);
-    show_fresh(2);
-    show_fresh(16);
-    show_fresh(17);
-    show_fresh(4294967295);
+fn main(rt: HostRuntime) -> io::Result<()> {
+    show_set(&rt, 0, 0)?;
+    show_set(&rt, 1, 0)?;
+    show_set(&rt, 32769, 15)?;
+    show_set(&rt, 32768, 14)?;
+    show_set(&rt, 65535, 16)?;
+    show_set(&rt, 65535, 65535)?;
+    show_fresh(&rt, 1)?;
+    show_fresh(&rt, 2)?;
+    show_fresh(&rt, 16)?;
+    show_fresh(&rt, 17)?;
+    show_fresh(&rt, 4294967295)
 }

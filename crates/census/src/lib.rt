@@ -154,8 +154,7 @@ pub fn census(cells: &[[u16; 24]]) -> Census
 
 // The census for C (include/zaguypo.h). Its waiting figure counts 21 to 24; up to version 1.1.0 it
 // counted 20 to 24.
-#[unsafe(no_mangle)]
-pub extern "C" fn zaguypo_census(rows: &[[u16; 24]]) -> Census
+pub fn zaguypo_census(rows: &[[u16; 24]]) -> Census
     ensures { result ≡ census_of (rows_of rows.now) }
 {
     census(rows)

@@ -1,4 +1,4 @@
--- Theorems.antt says what is proved; the others prove it, each from those above it.
+-- Theorems.antt and WholeTheorems.antt say what is proved; the others prove it, each from those above it.
 pub mod Reaching
 pub mod Bounded
 pub mod Effects
@@ -8,4 +8,5 @@ pub mod BoundClause
 pub mod Fresh
 pub mod Exclusion
 pub mod Theorems
+pub mod WholeTheorems
 pub mod Controls

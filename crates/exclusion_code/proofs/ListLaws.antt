@@ -9,7 +9,7 @@ use Rattle.machine.specs.Settings.{refusal_under, after_under, list_under}
 use Rattle.machine.specs.Census.{held, critical}
 use Rattle.machine.specs.declared.Settings.{Settings}
 use Rattle.machine.proofs.SettingTheorems.{refused_under}
-use Rattle.exclusion.proofs.Theorems.{exclusion_under}
+use Rattle.exclusion.proofs.WholeTheorems.{exclusion_under}
 use Rattle.cells.specs.View.{rows_of}
 use Rattle.exclusion_code.specs.Lists.{Listed}
 

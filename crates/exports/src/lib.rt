@@ -18,8 +18,7 @@ use words::{put_together, take_apart};
 // ---- event words
 
 // Takes a word apart: its parts; or 8, then 9, and no parts.
-#[unsafe(no_mangle)]
-pub extern "C" fn zaguypo_apart(word: u32) -> PartsAnswer
+pub fn zaguypo_apart(word: u32) -> PartsAnswer
     ensures { result ≡ parts_answer_of word }
 {
     match take_apart(word) {
@@ -39,8 +38,7 @@ pub extern "C" fn zaguypo_apart(word: u32) -> PartsAnswer
 }
 
 // Puts a word together: the word; or 8, then 9, then 11, and no word.
-#[unsafe(no_mangle)]
-pub extern "C" fn zaguypo_together(kind: u32, process: u32, argument: u32) -> WordAnswer
+pub fn zaguypo_together(kind: u32, process: u32, argument: u32) -> WordAnswer
     ensures { result ≡ word_answer_of kind process argument }
 {
     match put_together(kind, process, argument) {
@@ -56,8 +54,7 @@ pub extern "C" fn zaguypo_together(kind: u32, process: u32, argument: u32) -> Wo
 
 // The lent rows become the fresh table of that many processes; 6 for other than 2 to 16, which are
 // left as they are.
-#[unsafe(no_mangle)]
-pub extern "C" fn zaguypo_fresh(rows: &mut [[u16; 24]]) -> u16
+pub fn zaguypo_fresh(rows: &mut [[u16; 24]]) -> u16
     ensures { (result ≡ (fresh_in (rows_of rows.old)).refusal)
         × (rows_of rows.new ≡ (fresh_in (rows_of rows.old)).rows) }
 {
@@ -107,8 +104,7 @@ fn load_rows(table: &[[u16; 24]], rows: &mut [[u16; 24]]) -> ReadAnswer
 
 // Reads an image into the first of the lent rows: its table, or the refusal 1 to 5 with its place, then
 // 13 where the rows are too few; a refusal leaves them.
-#[unsafe(no_mangle)]
-pub extern "C" fn zaguypo_read(words: &[u32], rows: &mut [[u16; 24]]) -> ReadAnswer
+pub fn zaguypo_read(words: &[u32], rows: &mut [[u16; 24]]) -> ReadAnswer
     ensures { (result ≡ (read_in words.now (rows_of rows.old)).answer)
         × (rows_of rows.new ≡ (read_in words.now (rows_of rows.old)).rows) }
 {
@@ -127,8 +123,7 @@ pub extern "C" fn zaguypo_read(words: &[u32], rows: &mut [[u16; 24]]) -> ReadAns
 }
 
 // Writes the image of a table into the first of the lent words: 6, 7, then 13, which leave them.
-#[unsafe(no_mangle)]
-pub extern "C" fn zaguypo_write(rows: &[[u16; 24]], words: &mut [u32]) -> u16
+pub fn zaguypo_write(rows: &[[u16; 24]], words: &mut [u32]) -> u16
     ensures { Writes (rows_of rows.now) words.old words.new result }
 {
     images::encoding::write(rows, words)
@@ -138,8 +133,7 @@ pub extern "C" fn zaguypo_write(rows: &[[u16; 24]], words: &mut [u32]) -> u16
 
 // The length of the text of the run that the input holds; the text is put at the start of the lent
 // bytes where these have room for all of it, and else they are left.
-#[unsafe(no_mangle)]
-pub extern "C" fn zaguypo_print(input: &[u8], text: &mut [u8]) -> usize
+pub fn zaguypo_print(input: &[u8], text: &mut [u8]) -> usize
     ensures { (result ≡ (printed_in input.now text.old).number)
         × (text.new ≡ (printed_in input.now text.old).lent) }
 {

@@ -141,7 +141,8 @@ module _ (n : ℕ) (ws : List ℕ) (q : ℕ) where
   pub passes_start : passes_refusal ws n q ≡ fromCount 0
   unfolding passes_refusal
   passes_start =
-      ap (λ (m : ℕ). first_refusal n (pass_place n q 0) (pass_row q 0 m) (drop (pass_place n q 0) ws)) {x = n} {y = n - 0}
+      ap (λ (m : ℕ). first_refusal n (pass_place n q 0) (pass_row q 0 m) (drop (pass_place n q 0) ws)) {x = n}
+      {y = n - 0}
       (omega arith)
 
   pub passes_end : fromCount n ≡ record { refusal = 0; place = 0 }

@@ -21,7 +21,10 @@ module _ (ws : List ℕ) where
 
   abbrev answered : Bool → Reading
   answered b =
-      elim b [ true ↦ Reading.Table (size_in (get_or ws 0 0)) | false ↦ Reading.Refused refusal (image_refusal ws).place ]
+      elim b [
+        | true ↦ Reading.Table (size_in (get_or ws 0 0))
+        | false ↦ Reading.Refused refusal (image_refusal ws).place
+      ]
 
   pub reading_by : (b : Bool) → eqb refusal 0 ≡ b → reading_of ws ≡ answered b
   unfolding reading_of

@@ -154,7 +154,8 @@ module _ (n : ℕ) (ws : List ℕ) where
 
     pub rows_on : bare_length n ≤ length ws → (ofRow q).refusal ≡ 0 → fromRow q ≡ fromRow (q + 1)
     rows_on long =
-        groups-on n ws row_place oneRow row_slots no_rows first-row q l (omega (arith, length-row_slots q 1)) (omega arith)
+        groups-on n ws row_place oneRow row_slots no_rows first-row q l (omega (arith, length-row_slots q 1))
+        (omega arith)
 
 -- ---- the rows that the cells stand for
 

@@ -1,6 +1,7 @@
 -- Writing an image: the words of its rows, turn cells and passes where they stand, and what writing leaves.
 --
---   length-rows_part, length-turns_part, length-passes_part    how many words of the rows, turn cells and passes there are
+--   length-rows_part, length-turns_part, length-passes_part
+--                  how many words of the rows, turn cells and passes there are
 --   row_words, turn_word, pass_words_lem    which
 --   passes_start, passes-next, passes_end    the loop that puts the passes, process by process
 --   image-placed           header, rows, turn cells and passes put one after the other are the image
@@ -196,7 +197,8 @@ module _ (t : Table) (l : List ℕ) where
     pub written-few : r ≡ 0 → length l < image_length (length t) → Writes t l l 13
     unfolding written_of
     written-few z few =
-        let e = ap₂ outcome (eq-eqb (table_refusal t) 0 (sym is ∙ z)) (lt-leb (image_length (length t)) (length l) few) in
+        let e =
+        ap₂ outcome (eq-eqb (table_refusal t) 0 (sym is ∙ z)) (lt-leb (image_length (length t)) (length l) few) in
         record {
           refusal_is = sym (ap (λ (w : Written). w.refusal) e);
           words_are = sym

@@ -18,7 +18,8 @@
 --                            turn cells, and of the passes.
 --
 -- Assumes nothing.
-use Rattle.std.specs.Prelude.{ℕ, ◌+◌, ◌-◌, ◌*◌, ◌^◌, ◌≤◌, ◌<◌, ◌≡◌, Bool, true, cond, List, [], ◌∷◌, map, eqb, length, get_or, take, drop, set}
+use Rattle.std.specs.Prelude.{ℕ, ◌+◌, ◌-◌, ◌*◌, ◌^◌, ◌≤◌, ◌<◌, ◌≡◌, Bool, true, cond, eqb}
+use Rattle.std.specs.Prelude.{List, [], ◌∷◌, map, length, get_or, take, drop, set}
 use Rattle.counting.specs.Ranges.{up_to}
 use Rattle.machine.specs.Images.{
   Slot,

@@ -10,6 +10,7 @@ use images::encoding::write;
 use images::sizes::image_words;
 use images::tables::read;
 use machine::Reading;
+use std::io;
 
 // The bare fresh image of two processes.
 const FRESH: [u32; 10] = [
@@ -70,48 +71,42 @@ const DEEP: [[u16; 24]; 3] = [
 // ---- lines
 
 // A space and a number below 1000.
-fn put(value: usize) {
-    let digits = [
-        b' ',
-        48 + (value / 100 % 10) as u8,
-        48 + (value / 10 % 10) as u8,
-        48 + (value % 10) as u8,
-    ];
-    io::write_all(1, &digits);
+fn put(rt: &impl Print, value: usize) -> io::Result<()> {
+    print!(rt; " {value:03}")
 }
 
-fn say(label: &[u8], value: usize) {
-    io::write_all(1, label);
-    put(value);
-    io::write_all(1, b"\n");
+fn say(rt: &impl Print, label: &str, value: usize) -> io::Result<()> {
+    print!(rt; "{label}")?;
+    put(rt, value)?;
+    println!(rt; "")
 }
 
 // What reading answers.
-fn say_read(label: &[u8], words: &[u32]) {
+fn say_read(rt: &impl Print, label: &str, words: &[u32]) -> io::Result<()> {
     let t = read(words);
-    io::write_all(1, label);
-    put(t.refusal as usize);
-    put(t.place as usize);
-    put(t.size as usize);
-    io::write_all(1, b"\n");
+    print!(rt; "{label}")?;
+    put(rt, t.refusal as usize)?;
+    put(rt, t.place as usize)?;
+    put(rt, t.size as usize)?;
+    println!(rt; "")
 }
 
 // The answer to the fresh image with the word at a place changed.
-fn say_changed(label: &[u8], place: usize, word: u32)
+fn say_changed(rt: &impl Print, label: &str, place: usize, word: u32) -> io::Result<()>
     requires { place < 10 }
 {
     let mut words = FRESH;
     words[place] = word;
-    say_read(label, &words);
+    say_read(rt, label, &words)
 }
 
 // The answer to the image with passes with the word at a place changed.
-fn say_counted(label: &[u8], place: usize, word: u32)
+fn say_counted(rt: &impl Print, label: &str, place: usize, word: u32) -> io::Result<()>
     requires { place < 14 }
 {
     let mut words = COUNTED;
     words[place] = word;
-    say_read(label, &words);
+    say_read(rt, label, &words)
 }
 
 // ---- words that stand alike
@@ -144,7 +139,7 @@ fn answer_of(answer: Reading) -> usize {
 }
 
 // A table is written, read and written again into 340 words that held 7.
-fn say_around(label: &[u8], cells: &[[u16; 24]])
+fn say_around(rt: &impl Print, label: &str, cells: &[[u16; 24]]) -> io::Result<()>
     requires { length cells.now ≤ 16 }
 {
     let n = cells.len();
@@ -152,82 +147,91 @@ fn say_around(label: &[u8], cells: &[[u16; 24]])
     let mut first = [7u32; 340];
     let mut again = [7u32; 340];
     let mut back = [[0u16; 24]; 16];
-    say(label, write(cells, &mut first) as usize);
-    say(b"  read", answer_of(read_cells(&first[..all], &mut back)));
-    say(b"  written again", write(&back[..n], &mut again) as usize);
-    say(b"  words alike", alike(&first, &again));
-    say(b"  words kept", alike(&first, &[7u32; 340]));
+    say(rt, label, write(cells, &mut first) as usize)?;
+    say(
+        rt,
+        "  read",
+        answer_of(read_cells(&first[..all], &mut back)),
+    )?;
+    say(
+        rt,
+        "  written again",
+        write(&back[..n], &mut again) as usize,
+    )?;
+    say(rt, "  words alike", alike(&first, &again))?;
+    say(rt, "  words kept", alike(&first, &[7u32; 340]))
 }
 
 // ---- the cases
 
 // Refusals 1 and 2.
-fn headers() {
-    say_read(b"fresh", &FRESH);
-    say_read(b"no words", &FRESH[..0]);
-    say_read(b"header 80000001", &[0x8000_0001]);
-    say_read(b"header 80000011", &[0x8000_0011]);
-    say_read(b"header 80000010 alone", &[0x8000_0010]);
-    say_read(b"cut to 9", &FRESH[..9]);
-    say_read(b"with passes", &COUNTED);
-    say_read(b"header 81000001", &[0x8100_0001]);
-    say_read(b"header 81000011", &[0x8100_0011]);
-    say_read(b"with passes, cut to 10", &COUNTED[..10]);
+fn headers(rt: &impl Print) -> io::Result<()> {
+    say_read(rt, "fresh", &FRESH)?;
+    say_read(rt, "no words", &FRESH[..0])?;
+    say_read(rt, "header 80000001", &[0x8000_0001])?;
+    say_read(rt, "header 80000011", &[0x8000_0011])?;
+    say_read(rt, "header 80000010 alone", &[0x8000_0010])?;
+    say_read(rt, "cut to 9", &FRESH[..9])?;
+    say_read(rt, "with passes", &COUNTED)?;
+    say_read(rt, "header 81000001", &[0x8100_0001])?;
+    say_read(rt, "header 81000011", &[0x8100_0011])?;
+    say_read(rt, "with passes, cut to 10", &COUNTED[..10])
 }
 
 // Refusal 3.
-fn shapes() {
-    say_changed(b"kind", 2, 0xb000_0000);
-    say_changed(b"number", 5, 0x9000_0000);
-    say_changed(b"spare bit 24", 8, 0xc101_0000);
-    say_changed(b"spare bit 10", 1, 0x9000_0400);
-    say_changed(b"turn word of 0", 9, 0xd000_0000);
-    say_changed(b"spare bit 11 and level 2", 1, 0x9000_0802);
+fn shapes(rt: &impl Print) -> io::Result<()> {
+    say_changed(rt, "kind", 2, 0xb000_0000)?;
+    say_changed(rt, "number", 5, 0x9000_0000)?;
+    say_changed(rt, "spare bit 24", 8, 0xc101_0000)?;
+    say_changed(rt, "spare bit 10", 1, 0x9000_0400)?;
+    say_changed(rt, "turn word of 0", 9, 0xd000_0000)?;
+    say_changed(rt, "spare bit 11 and level 2", 1, 0x9000_0802)
 }
 
 // Refusals 4 and 5.
-fn ranges() {
-    say_changed(b"code 8", 1, 0x9000_8000);
-    say_changed(b"level 2 at 30", 5, 0x9001_6002);
-    say_changed(b"est has 2", 2, 0xa000_0004);
-    say_changed(b"turn 2", 9, 0xd001_0002);
-    say_changed(b"22 at level 0", 1, 0x9000_3000);
-    say_changed(b"30 at level 1", 5, 0x9001_6001);
+fn ranges(rt: &impl Print) -> io::Result<()> {
+    say_changed(rt, "code 8", 1, 0x9000_8000)?;
+    say_changed(rt, "level 2 at 30", 5, 0x9001_6002)?;
+    say_changed(rt, "est has 2", 2, 0xa000_0004)?;
+    say_changed(rt, "turn 2", 9, 0xd001_0002)?;
+    say_changed(rt, "22 at level 0", 1, 0x9000_3000)?;
+    say_changed(rt, "30 at level 1", 5, 0x9001_6001)
 }
 
 // Refusals 3 and 4 of words with passes.
-fn counts() {
-    say_counted(b"passes in another order", 11, 0xe100_0000);
-    say_counted(b"passes of 2", 12, 0xe200_0000);
-    say_counted(b"spare bit 20", 11, 0xe011_0000);
-    say_counted(b"passes over itself", 13, 0xe101_0001);
+fn counts(rt: &impl Print) -> io::Result<()> {
+    say_counted(rt, "passes in another order", 11, 0xe100_0000)?;
+    say_counted(rt, "passes of 2", 12, 0xe200_0000)?;
+    say_counted(rt, "spare bit 20", 11, 0xe011_0000)?;
+    say_counted(rt, "passes over itself", 13, 0xe101_0001)
 }
 
 // Round trips: the largest table, and three processes under way.
-fn round_trips() {
+fn round_trips(rt: &impl Print) -> io::Result<()> {
     let mut largest = [LARGEST; 16];
     largest[0] = LARGEST_FIRST;
-    say_around(b"largest", &largest);
-    say_around(b"three under way", &DEEP);
+    say_around(rt, "largest", &largest)?;
+    say_around(rt, "three under way", &DEEP)
 }
 
 // Refused writes leave the lent words as they were.
-fn refused_writes() {
+fn refused_writes(rt: &impl Print) -> io::Result<()> {
     let mut lent = [7u32; 23];
-    say(b"one row", write(&DEEP[..1], &mut lent) as usize);
+    say(rt, "one row", write(&DEEP[..1], &mut lent) as usize)?;
     say(
-        b"row 0 with a turn",
+        rt,
+        "row 0 with a turn",
         write(&[LARGEST; 2], &mut lent) as usize,
-    );
-    say(b"24 words, 23 lent", write(&DEEP, &mut lent) as usize);
-    say(b"  words kept", alike(&lent, &[7u32; 23]));
+    )?;
+    say(rt, "24 words, 23 lent", write(&DEEP, &mut lent) as usize)?;
+    say(rt, "  words kept", alike(&lent, &[7u32; 23]))
 }
 
-fn main() {
-    headers();
-    shapes();
-    ranges();
-    counts();
-    round_trips();
-    refused_writes();
+fn main(rt: HostRuntime) -> io::Result<()> {
+    headers(&rt)?;
+    shapes(&rt)?;
+    ranges(&rt)?;
+    counts(&rt)?;
+    round_trips(&rt)?;
+    refused_writes(&rt)
 }

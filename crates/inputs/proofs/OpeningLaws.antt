@@ -6,7 +6,7 @@ use Prim.Native.Nat.{ℕ, zero, suc, ◌-◌, ◌≤◌, ◌<◌}
 use native.Mathlib.Omega.{arith}
 use lib.ListN.{length, get_or, take, drop, length-drop, length-take}
 use lib.Seq.{take_all}
-use Rattle.machine.specs.Refusals.{accepted, no_header}
+use Rattle.machine.specs.Refusals.{no_header}
 use Rattle.machine.specs.Runs.{limit}
 use Rattle.machine.specs.Images.{says_passes, size_in, is_header, image_length, length_in, image_refusal, table_in}
 use Rattle.machine.specs.Inputs.{image_part, event_part, Input, words_hold}

@@ -5,39 +5,24 @@
 --   exchange_under                  two words in either order, where turn is not to have one writer
 --
 -- Assumes nothing.
-use Prim.Native.Nat.{ℕ, zero, suc, ◌≤◌, ◌<◌}
+use Prim.Native.Nat.{ℕ, zero, suc, ◌<◌}
 use mathlib.Core.Path.{◌≡◌, refl, sym, ap, ◌∙◌, subst}
-use mathlib.Core.Bool.{Bool, true, false, cond, not, false≢true, and-eq-true_iff}
-use mathlib.Core.Logic.{◌≢◌, ◌⊎◌, inl, inr, ⊎_elim, by_cases}
+use mathlib.Core.Bool.{Bool, false, cond}
+use mathlib.Core.Logic.{◌≢◌, by_cases}
 use mathlib.Core.List.{List, [], ◌∷◌}
-use native.Mathlib.Decide.{ℕ_discrete, dec_lt}
+use native.Mathlib.Decide.{ℕ_discrete}
 use native.Mathlib.Omega.{arith}
-use lib.Dec.{eqb, leb}
 use lib.ListN.{length, get_or, take}
-use borrow.Author.Tests.{eqb-true, eqb-false, leb-true, eq-eqb, ne_eqb, le-leb, not-true}
-use Rattle.counting.proofs.TestLaws.{fails}
-use Rattle.counting.proofs.RangeLaws.{some_one}
-use Rattle.machine.specs.Tables.{Table, row, sound, table_refusal}
-use Rattle.machine.specs.Words.{FLICKER, GO, kind_of, process_of}
-use Rattle.machine.specs.Shared.{no_cell, clash, but_history}
-use Rattle.machine.specs.Steps.{gone, moved, refusal_of, after_word, after_words, cell_of, answer_of, step_answer_of}
-use Rattle.machine.specs.Settings.{weakest, settings_fit, flicker_forbidden, other_writer, goes_to24}
+use borrow.Author.Tests.{eq-eqb, ne_eqb}
+use Rattle.machine.specs.Tables.{Table, row}
+use Rattle.machine.specs.Words.{kind_of, process_of}
+use Rattle.machine.specs.Shared.{clash, but_history}
+use Rattle.machine.specs.Steps.{refusal_of, after_word, after_words, cell_of}
 use Rattle.machine.specs.Settings.{forbidden_by, refusal_under, after_under, list_under, accepted_of}
-use Rattle.machine.specs.Settings.{answer_under, step_answer_under, SameStep}
-use Rattle.machine.specs.System.{Step, step_word, StepAllowed}
 use Rattle.machine.specs.declared.Row.{Row}
 use Rattle.machine.specs.declared.Settings.{Settings}
-use Rattle.machine.proofs.SoundRows.{sound-accepted, accepted-sound}
-use Rattle.machine.proofs.Accepted as Accepted
-use Rattle.machine.proofs.Soundness.{word_keeps_sound}
-use Rattle.machine.proofs.FullLaws.{full_word}
-use Rattle.machine.proofs.CellLaws.{refused_cell}
 use Rattle.machine.proofs.CellTheorems.{others_kept, exchange}
-use Rattle.machine.proofs.WordsAreSteps.{word_is_step, one_word}
-use Rattle.machine.proofs.AllowedSteps.{allowed_free, free_allowed, beside_forbidden}
-use Rattle.machine.proofs.SettingLaws as Laws
-use Rattle.machine.proofs.SettingLaws.{weakest_free, forbidden_cases}
-use Rattle.machine.proofs.SettingLaws.{Under, under_cases, accepted_under, under_accepted}
+use Rattle.machine.proofs.SettingLaws.{accepted_under, under_accepted}
 use Rattle.machine.proofs.SettingLaws.{full_under}
 use Rattle.machine.proofs.SettingTheorems.{accepted_same, refused_under}
 

@@ -22,7 +22,8 @@ fours_is (suc i) = omega (arith, fours_is i)
 
 -- the word whose lowest byte stands at place k
 abbrev pub word_at : List ℕ → ℕ → ℕ
-word_at bs k = word_of (get_or bs k 0) (get_or bs (suc k) 0) (get_or bs (suc (suc k)) 0) (get_or bs (suc (suc (suc k))) 0)
+word_at bs k =
+    word_of (get_or bs k 0) (get_or bs (suc k) 0) (get_or bs (suc (suc k)) 0) (get_or bs (suc (suc (suc k))) 0)
 
 -- ---- lengths
 
@@ -52,7 +53,8 @@ get_d_words_in (suc i) (a ∷ b ∷ c ∷ d ∷ bs) h = get_d_words_in i bs (ome
 
 -- the word that the code reads is word i of the bytes
 pub read_is : (bytes : List ℕ) (i : ℕ) → i < length bytes / 4
-    → word_of (get_or bytes (4 * i) 0) (get_or bytes (4 * i + 1) 0) (get_or bytes (4 * i + 2) 0) (get_or bytes (4 * i + 3) 0)
+    → word_of (get_or bytes (4 * i) 0) (get_or bytes (4 * i + 1) 0) (get_or bytes (4 * i + 2) 0)
+    (get_or bytes (4 * i + 3) 0)
     ≡ get_or (words_in bytes) i 0
 read_is bytes i h =
     let first : 4 * i ≡ fours i = sym (fours_is i) in

@@ -1,35 +1,28 @@
 // The printing program: standard input is an image and event words, and their run is printed on
 // standard output. Where the input cannot be read to its end nothing is printed; that, and an output
-// that cannot be written whole, is said in a line on standard error. A program has no exit status.
+// that cannot be written whole, is said in a line on standard error. The exit status is 0 all the same.
 #![tactic(auto)]
 
 mod reading;
 
-use libc::{STDERR_FILENO, STDIN_FILENO, STDOUT_FILENO};
 use reading::Got;
 
-fn main() {
+fn main(rt: HostRuntime) {
     // A word more than an input may have: a longer one is cut here, and is refused all the same.
     let mut input = [0u8; machine::INPUT_BYTES + 4];
-    match reading::read_all(STDIN_FILENO, &mut input) {
-        Got::Bytes(count) => print(&input[..count]),
+    match reading::read_all(&mut rt.stdin(), &mut input) {
+        Got::Bytes(count) => print(&rt, &input[..count]),
         Got::Failed => {
-            io::write_all(
-                STDERR_FILENO,
-                b"zaguypo-replay: standard input cannot be read\n",
-            );
+            let _ = eprintln!(rt; "zaguypo-replay: standard input cannot be read");
         }
     }
 }
 
 // The text of the run that the input holds, on standard output.
-fn print(input: &[u8]) {
+fn print(rt: &(impl Print + Eprint), input: &[u8]) {
     let mut out = [0u8; machine::TEXT_BYTES];
     let length = text::print_run(input, &mut out);
-    if !io::write_all(STDOUT_FILENO, &out[..length]) {
-        io::write_all(
-            STDERR_FILENO,
-            b"zaguypo-replay: standard output cannot be written whole\n",
-        );
+    if rt.write_all(&out[..length]).is_err() {
+        let _ = eprintln!(rt; "zaguypo-replay: standard output cannot be written whole");
     }
 }

@@ -154,8 +154,7 @@ pub fn rounds(cells: &mut [[u16; 24]]) -> RoundsAnswer
 }
 
 // Rounds for C (include/zaguypo.h), in the lent rows.
-#[unsafe(no_mangle)]
-pub extern "C" fn zaguypo_rounds(rows: &mut [[u16; 24]]) -> RoundsAnswer
+pub fn zaguypo_rounds(rows: &mut [[u16; 24]]) -> RoundsAnswer
     ensures { RoundsTo result (rows_of rows.old) (rows_of rows.new) }
 {
     rounds(rows)

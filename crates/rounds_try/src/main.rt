@@ -2,8 +2,8 @@
 // processes, then rounds that are not done, refused, used up or broken.
 #![tactic(auto)]
 
-use libc::STDOUT_FILENO;
 use machine::{RoundsAnswer, Settings};
+use std::io;
 
 // COME of each of sixteen processes.
 const COMES: [u32; 16] = [
@@ -43,86 +43,96 @@ fn fresh() -> [u16; 24] {
 }
 
 // A number and what stands before it.
-fn figure(before: &[u8], n: u16) {
-    io::write_all(STDOUT_FILENO, before);
-    io::print_decimal(STDOUT_FILENO, n as u64);
+fn figure(rt: &impl Print, before: &str, n: u16) -> io::Result<()> {
+    print!(rt; "{before}{n}")
 }
 
 // An answer: the refusal or 0, the rounds done, and 1 where some process is at 30.
-fn show(a: RoundsAnswer) {
-    figure(b" refusal ", a.refusal);
-    figure(b" rounds ", a.rounds);
-    figure(b" occupied ", a.occupied);
-    io::write_all(STDOUT_FILENO, b"\n");
+fn show(rt: &impl Print, a: RoundsAnswer) -> io::Result<()> {
+    figure(rt, " refusal ", a.refusal)?;
+    figure(rt, " rounds ", a.rounds)?;
+    figure(rt, " occupied ", a.occupied)?;
+    println!(rt; "")
 }
 
 // Rounds from fresh rows of n processes, once each has come.
-fn longest(n: u16, comes: &[u32], cells: &mut [[u16; 24]]) {
+fn longest(rt: &impl Print, n: u16, comes: &[u32], cells: &mut [[u16; 24]]) -> io::Result<()> {
     let _ran = runs::run(cells, comes, Settings::WEAKEST);
-    figure(b"processes ", n);
-    show(rounds::rounds(cells));
+    figure(rt, "processes ", n)?;
+    show(rt, rounds::rounds(cells))
 }
 
 // So of 2 to 16 processes.
-fn longest_of_each() {
+fn longest_of_each(rt: &impl Print) -> io::Result<()> {
     let comes = COMES;
     let r = fresh();
     let mut n = 2;
     while n < 17 {
         let mut cells = [r; 16];
-        longest(n as u16, &comes[..n], &mut cells[..n]);
+        longest(rt, n as u16, &comes[..n], &mut cells[..n])?;
         n += 1;
     }
+    Ok(())
 }
 
 // Rounds from two rows.
-fn from(name: &[u8], first: [u16; 24], second: [u16; 24]) {
+fn from(rt: &impl Print, name: &str, first: [u16; 24], second: [u16; 24]) -> io::Result<()> {
     let mut cells = [first, second];
-    io::write_all(STDOUT_FILENO, name);
-    show(rounds::rounds(&mut cells));
-    figure(b"locations ", cells[0][0]);
-    figure(b" ", cells[1][0]);
-    io::write_all(STDOUT_FILENO, b"\n");
+    print!(rt; "{name}")?;
+    show(rt, rounds::rounds(&mut cells))?;
+    figure(rt, "locations ", cells[0][0])?;
+    figure(rt, " ", cells[1][0])?;
+    println!(rt; "")
 }
 
 // Rounds that are not done, or refused.
-fn not_done() {
+fn not_done(rt: &impl Print) -> io::Result<()> {
     from(
-        b"at 30 before",
+        rt,
+        "at 30 before",
         row(20, 0, 0, 0, 0, 0),
         row(30, 1, 0, 0, 0, 0),
-    );
-    from(b"nobody", row(40, 1, 0, 0, 0, 0), fresh());
-    from(b"unsound", row(20, 2, 0, 0, 0, 0), fresh());
+    )?;
+    from(rt, "nobody", row(40, 1, 0, 0, 0, 0), fresh())?;
+    from(rt, "unsound", row(20, 2, 0, 0, 0, 0), fresh())?;
     let mut one = [fresh()];
-    longest(1, &COMES[..1], &mut one);
+    longest(rt, 1, &COMES[..1], &mut one)
 }
 
-fn main() {
-    longest_of_each();
+fn main(rt: HostRuntime) -> io::Result<()> {
+    longest_of_each(&rt)?;
     from(
-        b"within a round",
+        &rt,
+        "within a round",
         row(21, 1, 0, 0, 0, 0),
         row(20, 0, 0, 0, 0, 0),
-    );
+    )?;
     // no list of words makes this table: process 1 rests and shows act
-    from(b"used up", row(21, 1, 1, 1, 2, 0), row(10, 1, 0, 0, 0, 0));
-    not_done();
     from(
-        b"broken",
+        &rt,
+        "used up",
+        row(21, 1, 1, 1, 2, 0),
+        row(10, 1, 0, 0, 0, 0),
+    )?;
+    not_done(&rt)?;
+    from(
+        &rt,
+        "broken",
         row(20, 0, 0, 0, 0, 0),
         row(20, 0, 0, 0, 0, 65535),
-    );
+    )?;
     from(
-        b"broken at 30",
+        &rt,
+        "broken at 30",
         row(21, 1, 0, 0, 0, 0),
         row(20, 0, 0, 0, 0, 65535),
-    );
+    )?;
     from(
-        b"room for one",
+        &rt,
+        "room for one",
         row(20, 0, 0, 0, 0, 0),
         row(20, 0, 0, 0, 0, 65534),
-    );
+    )?;
     // nobody competes whom process 1 would pass
-    from(b"nobody to pass", fresh(), row(20, 0, 0, 0, 0, 65535));
+    from(&rt, "nobody to pass", fresh(), row(20, 0, 0, 0, 0, 65535))
 }

@@ -1,5 +1,4 @@
--- Laws of runs, and the calls in the walk of the run on lent rows.
+-- Laws of runs.
 pub mod RunLaws
 pub mod StandLaws
 pub mod OneByOne
-pub mod RunCalls

@@ -230,8 +230,7 @@ fn count_word(tally: &mut Tally, event: Event)
 // taken, the refusal or 0, and the shared cell of the last word taken. The rows are left as the
 // taken words make them. The tally is set to zero, whatever it held, and each accepted word is
 // counted in it. Proved by hand, as `count_word` is.
-#[unsafe(no_mangle)]
-pub extern "C" fn zaguypo_run_rows(
+pub fn zaguypo_run_rows(
     rows: &mut [[u16; 24]],
     words: &[u32],
     tally: &mut Tally,

@@ -1,9 +1,9 @@
 // Runs of two processes (MANUAL, "Runs"): what each answers, a line each.
 #![tactic(auto)]
 
-use libc::STDOUT_FILENO;
 use machine::Settings;
 use runs::RunAnswer;
+use std::io;
 
 // A row of eight cells with no passes.
 fn row(c: [u16; 8]) -> [u16; 24] {
@@ -25,55 +25,56 @@ fn rests() -> [u16; 24] {
 }
 
 // A number and what stands before it.
-fn figure(before: &[u8], n: u32) {
-    io::write_all(STDOUT_FILENO, before);
-    io::print_decimal(STDOUT_FILENO, n as u64);
+fn figure(rt: &impl Print, before: &str, n: u32) -> io::Result<()> {
+    print!(rt; "{before}{n}")
 }
 
 // A number of 16 bits and what stands before it.
-fn place(before: &[u8], n: u16) {
-    figure(before, n as u32);
+fn place(rt: &impl Print, before: &str, n: u16) -> io::Result<()> {
+    figure(rt, before, n as u32)
 }
 
 // A run: words taken, the refusal or 0, the shared cell of the last word as access, variable and
 // index, then its tally.
-fn show(name: &[u8], r: RunAnswer) {
-    io::write_all(STDOUT_FILENO, name);
-    figure(b" taken ", r.ran.taken);
-    figure(b" refusal ", r.ran.refusal);
-    place(b" cell ", r.ran.cell.access);
-    place(b" ", r.ran.cell.variable);
-    place(b" ", r.ran.cell.index);
-    figure(b" words ", r.tally.words);
-    figure(b" comes ", r.tally.comes);
-    figure(b" arrivals ", r.tally.arrivals);
-    io::write_all(STDOUT_FILENO, b"\n");
+fn show(rt: &impl Print, name: &str, r: RunAnswer) -> io::Result<()> {
+    print!(rt; "{name}")?;
+    figure(rt, " taken ", r.ran.taken)?;
+    figure(rt, " refusal ", r.ran.refusal)?;
+    place(rt, " cell ", r.ran.cell.access)?;
+    place(rt, " ", r.ran.cell.variable)?;
+    place(rt, " ", r.ran.cell.index)?;
+    figure(rt, " words ", r.tally.words)?;
+    figure(rt, " comes ", r.tally.comes)?;
+    figure(rt, " arrivals ", r.tally.arrivals)?;
+    println!(rt; "")
 }
 
 // The locations of two processes.
-fn locations(cells: [[u16; 24]; 2]) {
-    place(b"locations ", cells[0][0]);
-    place(b" ", cells[1][0]);
-    io::write_all(STDOUT_FILENO, b"\n");
+fn locations(rt: &impl Print, cells: [[u16; 24]; 2]) -> io::Result<()> {
+    place(rt, "locations ", cells[0][0])?;
+    place(rt, " ", cells[1][0])?;
+    println!(rt; "")
 }
 
 // STAYs of process 0, up to and over the most words of a run, and none.
-fn stays() {
+fn stays(rt: &impl Print) -> io::Result<()> {
     let words = [0x1000_0000; 8193];
     let mut cells = [rests(), rests()];
     show(
-        b"none",
+        rt,
+        "none",
         runs::run(&mut cells, &words[..0], Settings::WEAKEST),
-    );
+    )?;
     show(
-        b"most",
+        rt,
+        "most",
         runs::run(&mut cells, &words[..8192], Settings::WEAKEST),
-    );
-    show(b"over", runs::run(&mut cells, &words, Settings::WEAKEST));
+    )?;
+    show(rt, "over", runs::run(&mut cells, &words, Settings::WEAKEST))
 }
 
 // Process 0 comes and goes to the critical section; the eighth word names no process.
-fn arrival() {
+fn arrival(rt: &impl Print) -> io::Result<()> {
     let words = [
         0x2000_0000,
         0x4000_0000,
@@ -86,76 +87,101 @@ fn arrival() {
         0x4000_0000,
     ];
     let mut cells = [rests(), rests()];
-    show(b"arrival", runs::run(&mut cells, &words, Settings::WEAKEST));
-    locations(cells);
+    show(
+        rt,
+        "arrival",
+        runs::run(&mut cells, &words, Settings::WEAKEST),
+    )?;
+    locations(rt, cells)
 }
 
 // Process 0 comes and gives up: two words, and no event but the COME. A second CANCEL stops the run.
-fn cancel() {
+fn cancel(rt: &impl Print) -> io::Result<()> {
     let words = [0x2000_0000, 0x6000_0000, 0x6000_0000];
     let mut cells = [rests(), rests()];
-    show(b"cancel", runs::run(&mut cells, &words, Settings::WEAKEST));
-    locations(cells);
+    show(
+        rt,
+        "cancel",
+        runs::run(&mut cells, &words, Settings::WEAKEST),
+    )?;
+    locations(rt, cells)
 }
 
 // Process 0 in the critical section: a word of no kind, a word not allowed and a bad argument.
-fn stops() {
+fn stops(rt: &impl Print) -> io::Result<()> {
     let mut cells = [row([30, 1, 0, 0, 0, 0, 0, 0]), rests()];
     show(
-        b"kind",
+        rt,
+        "kind",
         runs::run(&mut cells, &[0x7000_0000], Settings::WEAKEST),
-    );
+    )?;
     show(
-        b"allowed",
+        rt,
+        "allowed",
         runs::run(&mut cells, &[0x4000_0000, 0x1000_0000], Settings::WEAKEST),
-    );
+    )?;
     show(
-        b"argument",
+        rt,
+        "argument",
         runs::run(&mut cells, &[0x3000_0001, 0x3000_0002], Settings::WEAKEST),
-    );
+    )
 }
 
 // The last word taken reads or writes a shared cell; a refused word after it changes nothing.
-fn shared() {
+fn shared(rt: &impl Print) -> io::Result<()> {
     let mut at_22 = [row([22, 1, 0, 1, 2, 2, 0, 0]), rests()];
     show(
-        b"looks",
+        rt,
+        "looks",
         runs::run(&mut at_22, &[0x5000_0001], Settings::WEAKEST),
-    );
+    )?;
     let mut at_23 = [row([23, 1, 1, 1, 2, 0, 0, 0]), rests()];
     show(
-        b"reconsiders",
+        rt,
+        "reconsiders",
         runs::run(&mut at_23, &[0x4000_0000], Settings::WEAKEST),
-    );
+    )?;
     let mut at_24 = [row([24, 1, 0, 1, 2, 0, 0, 0]), rests()];
     show(
-        b"flickers",
+        rt,
+        "flickers",
         runs::run(&mut at_24, &[0x3000_0001, 0x1000_0000], Settings::WEAKEST),
-    );
+    )
 }
 
 // Tables that are refused before any word is taken, and before the words are counted.
-fn tables() {
+fn tables(rt: &impl Print) -> io::Result<()> {
     let words = [0x1000_0000; 8193];
     let mut one = [rests()];
     let mut unsound = [rests(), row([11, 0, 0, 0, 0, 0, 0, 0])];
     show(
-        b"one row",
+        rt,
+        "one row",
         runs::run(&mut one, &words[..1], Settings::WEAKEST),
-    );
+    )?;
     show(
-        b"unsound",
+        rt,
+        "unsound",
         runs::run(&mut unsound, &words[..1], Settings::WEAKEST),
-    );
+    )?;
     show(
-        b"unsound, over",
+        rt,
+        "unsound, over",
         runs::run(&mut unsound, &words, Settings::WEAKEST),
-    );
+    )
 }
 
 // A run under settings.
-fn under(name: &[u8], cells: &mut [[u16; 24]], words: &[u32], act: u32, turn: u32) {
+fn under(
+    rt: &impl Print,
+    name: &str,
+    cells: &mut [[u16; 24]],
+    words: &[u32],
+    act: u32,
+    turn: u32,
+) -> io::Result<()> {
     show(
+        rt,
         name,
         runs::run(
             cells,
@@ -165,31 +191,31 @@ fn under(name: &[u8], cells: &mut [[u16; 24]], words: &[u32], act: u32, turn: u3
                 turn: turn,
             },
         ),
-    );
+    )
 }
 
 // Process 0 at 24, process 1 at 23 of the same level: a FLICKER, then a GO from 23 to 24. Then settings
 // that do not fit, before too many words and after an unsound table.
-fn settings() {
+fn settings(rt: &impl Print) -> io::Result<()> {
     let words = [0x3000_0001, 0x4001_0000];
     let many = [0x1000_0000; 8193];
     let at_24 = row([24, 1, 0, 1, 2, 0, 0, 0]);
     let at_23 = row([23, 1, 0, 1, 1, 0, 0, 0]);
     let mut cells = [at_24, at_23];
-    under(b"turn plain", &mut cells, &words, 0, 2);
-    under(b"one writer", &mut cells, &words, 1, 1);
-    under(b"act plain", &mut cells, &words, 1, 0);
-    under(b"act 2", &mut cells, &many, 2, 0);
+    under(rt, "turn plain", &mut cells, &words, 0, 2)?;
+    under(rt, "one writer", &mut cells, &words, 1, 1)?;
+    under(rt, "act plain", &mut cells, &words, 1, 0)?;
+    under(rt, "act 2", &mut cells, &many, 2, 0)?;
     let mut unsound = [rests(), row([11, 0, 0, 0, 0, 0, 0, 0])];
-    under(b"unsound, turn 3", &mut unsound, &words, 0, 3);
+    under(rt, "unsound, turn 3", &mut unsound, &words, 0, 3)
 }
 
-fn main() {
-    stays();
-    arrival();
-    cancel();
-    stops();
-    shared();
-    tables();
-    settings();
+fn main(rt: HostRuntime) -> io::Result<()> {
+    stays(&rt)?;
+    arrival(&rt)?;
+    cancel(&rt)?;
+    stops(&rt)?;
+    shared(&rt)?;
+    tables(&rt)?;
+    settings(&rt)
 }

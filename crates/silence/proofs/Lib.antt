@@ -1,4 +1,4 @@
--- Theorems.antt and ExactTheorems.antt say what is proved; the others prove it, each from those above it.
+-- The four files of theorems say what is proved; the others prove it, each from those above it.
 pub mod Steady
 pub mod ArrivalLaws
 pub mod Kept
@@ -27,4 +27,6 @@ pub mod AllCome
 pub mod FrontEnds
 pub mod LongestSilence
 pub mod Theorems
+pub mod AskedTheorems
 pub mod ExactTheorems
+pub mod LeastTheorems

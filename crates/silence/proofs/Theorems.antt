@@ -5,7 +5,7 @@
 -- once. Its premise `Unbroken` says that no GO at 20 of the first round meets 15; then no word of a later round is
 -- refused either: `later_unbroken` in machine/proofs/RoundTheorems.antt. Nothing is said of words in another order, or
 -- of who comes to 30. Assumes nothing.
-use Prim.Native.Nat.{ℕ, ◌+◌, ◌*◌, ◌≤◌}
+use Prim.Native.Nat.{ℕ, ◌≤◌}
 use mathlib.Core.Path.{◌≡◌, subst}
 use mathlib.Core.Bool.{true}
 use mathlib.Core.List.{List}
@@ -13,20 +13,11 @@ use lib.ListN.{length}
 use Rattle.machine.specs.Tables.{Table, fresh}
 use Rattle.machine.specs.Steps.{after_words}
 use Rattle.machine.specs.Census.{critical}
-use Rattle.machine.specs.Rounds.{rounds, Silent, Unbroken, round_limit, silence_bound}
+use Rattle.machine.specs.Rounds.{rounds, Silent, Unbroken, silence_bound}
 use Rattle.machine.proofs.Soundness.{words_keep_length}
 use Rattle.silence.proofs.Steady.{Arrives}
-use Rattle.silence.proofs.ArrivalLaws.{arrives_mono}
 use Rattle.silence.proofs.Kept.{steady_after}
-use Rattle.silence.proofs.PhaseLaws.{bound_fits}
 use Rattle.silence.proofs.Silence.{within_bound}
-
--- What both theorems below rest on, each by itself: so an edit of one of them is refused there alone.
-arrival : (t : Table) (ws : List ℕ) → fresh t ≡ true → Silent (after_words t ws) → Unbroken (after_words t ws)
-    → Arrives (after_words t ws) (silence_bound (length t))
-arrival t ws h s whole =
-    subst (λ (n : ℕ). Arrives (after_words t ws) (silence_bound n)) (words_keep_length t ws)
-    (within_bound (after_words t ws) (steady_after t ws h) whole s.0 s.1)
 
 -- A silence ends. After any list of words from a fresh table, if nobody is at 30, somebody is at 20 to 24 and the first
 -- round is unbroken, some process is at 30 after r rounds, for an r of at most 2 n n + 3 n - 3, where n is the number
@@ -37,16 +28,6 @@ arrival t ws h s whole =
 -- `silence_attained` there.
 pub silence_ends : (t : Table) (ws : List ℕ) → fresh t ≡ true → Silent (after_words t ws) → Unbroken (after_words t ws)
     → (r : ℕ) × (r ≤ silence_bound (length t)) × (1 ≤ critical (rounds r (after_words t ws)))
-silence_ends t ws h s whole = arrival t ws h s whole
-
--- The same with the limit of the engine, 4 n n (n + 3), which is `round_limit`: it is not used up without an arrival.
--- Excludes: as above; and a limit that is below the longest silence.
--- Not empty: as above.
-pub silence_ends_as_asked : (t : Table) (ws : List ℕ)
-    → fresh t ≡ true
-    → Silent (after_words t ws)
-    → Unbroken (after_words t ws)
-    → (r : ℕ) × (r ≤ 4 * length t * length t * (length t + 3)) × (1 ≤ critical (rounds r (after_words t ws)))
-silence_ends_as_asked t ws h s whole =
-    arrives_mono (after_words t ws) (silence_bound (length t)) (round_limit (length t)) (bound_fits (length t))
-    (arrival t ws h s whole)
+silence_ends t ws h s whole =
+    subst (λ (n : ℕ). Arrives (after_words t ws) (silence_bound n)) (words_keep_length t ws)
+    (within_bound (after_words t ws) (steady_after t ws h) whole s.0 s.1)

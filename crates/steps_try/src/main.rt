@@ -6,6 +6,7 @@ use cells::access::row_at;
 use cells::making::make_fresh;
 use exclusion_code::step_all;
 use machine::{Row, Settings, Stepped};
+use std::io;
 use steps::stepping::step;
 
 // Processes 0 and 1 of two, each led to 24 with the other in est, and a GO of each.
@@ -79,14 +80,8 @@ fn row(c: [u16; 8]) -> [u16; 24] {
 }
 
 // Writes a label and a number below 100.
-fn say(label: &[u8], value: usize) {
-    io::write_all(1, label);
-    if 10 <= value {
-        let tens = [48 + (value / 10 % 10) as u8];
-        io::write_all(1, &tens);
-    }
-    let last = [48 + (value % 10) as u8, b'\n'];
-    io::write_all(1, &last);
+fn say(rt: &impl Print, label: &str, value: usize) -> io::Result<()> {
+    println!(rt; "{label}{value}")
 }
 
 // A cell as the number that `say` takes.
@@ -124,28 +119,29 @@ fn accepted(cells: &mut [[u16; 24]], words: &[u32]) -> usize {
 }
 
 // Both led to 24 seeing each other, GO for 0, GO for 1; then one more pass each.
-fn pair() {
+fn pair(rt: &impl Print) -> io::Result<()> {
     let mut cells = [[0u16; 24]; 2];
     make_fresh(&mut cells);
     say(
-        b"both to 24, words accepted ",
+        rt,
+        "both to 24, words accepted ",
         accepted(&mut cells, &BOTH_TO_24),
-    );
-    show_sets(&cells);
+    )?;
+    show_sets(rt, &cells)?;
     step_all(&mut cells, &ONE_PASS, Settings::WEAKEST);
-    show_levels(&cells);
+    show_levels(rt, &cells)
 }
 
-fn show_sets(cells: &[[u16; 24]]) {
-    say(b"turn[1] ", row_of(cells, 1).turn as usize);
-    say(b"ahead of 0 ", row_of(cells, 0).ahead as usize);
-    say(b"ahead of 1 ", row_of(cells, 1).ahead as usize);
+fn show_sets(rt: &impl Print, cells: &[[u16; 24]]) -> io::Result<()> {
+    say(rt, "turn[1] ", row_of(cells, 1).turn as usize)?;
+    say(rt, "ahead of 0 ", row_of(cells, 0).ahead as usize)?;
+    say(rt, "ahead of 1 ", row_of(cells, 1).ahead as usize)
 }
 
-fn show_levels(cells: &[[u16; 24]]) {
-    say(b"level of 0 ", row_of(cells, 0).level as usize);
-    say(b"level of 1 ", row_of(cells, 1).level as usize);
-    say(b"location of 1 ", row_of(cells, 1).location as usize);
+fn show_levels(rt: &impl Print, cells: &[[u16; 24]]) -> io::Result<()> {
+    say(rt, "level of 0 ", row_of(cells, 0).level as usize)?;
+    say(rt, "level of 1 ", row_of(cells, 1).level as usize)?;
+    say(rt, "location of 1 ", row_of(cells, 1).location as usize)
 }
 
 // How many words bring a lone process to 30; 0 where it is not there.
@@ -168,38 +164,40 @@ fn alone_among(room: &mut [[u16; 24]], n: usize) -> usize {
 }
 
 // For each number of processes.
-fn every_size() {
+fn every_size(rt: &impl Print) -> io::Result<()> {
     let mut room = [[0u16; 24]; 16];
     let mut n = 2;
     while n <= 16 {
-        say(b"processes ", n);
-        say(b"words to 30 ", alone_among(&mut room, n));
+        say(rt, "processes ", n)?;
+        say(rt, "words to 30 ", alone_among(&mut room, n))?;
         n += 1;
     }
+    Ok(())
 }
 
 // GO at 24 of process 1 at level 1, whose own row holds the turn cell.
-fn own_turn() {
+fn own_turn(rt: &impl Print) -> io::Result<()> {
     let mut cells = [[0u16; 24]; 3];
     make_fresh(&mut cells);
     cells[1] = row([24, 1, 0, 1, 5, 0, 0, 0]);
     say(
-        b"own turn cell, refusal ",
+        rt,
+        "own turn cell, refusal ",
         refusal_of(step(&mut cells, 0x4001_0000, Settings::WEAKEST)),
-    );
-    show_row(row_of(&cells, 1));
+    )?;
+    show_row(rt, row_of(&cells, 1))
 }
 
-fn show_row(r: Row) {
-    say(b"location ", r.location as usize);
-    say(b"bb ", r.bb as usize);
-    say(b"est ", r.est as usize);
-    say(b"turn[1] ", r.turn as usize);
+fn show_row(rt: &impl Print, r: Row) -> io::Result<()> {
+    say(rt, "location ", r.location as usize)?;
+    say(rt, "bb ", r.bb as usize)?;
+    say(rt, "est ", r.est as usize)?;
+    say(rt, "turn[1] ", r.turn as usize)
 }
 
 // CANCEL of process 0 at 20, with every cell of its row set to what it may hold there, and with 0 in
 // the ahead set of process 1, which has passed it: the location alone changes.
-fn cancels() {
+fn cancels(rt: &impl Print) -> io::Result<()> {
     let mut cells = [
         row([20, 1, 1, 1, 3, 3, 2, 0]),
         row([21, 1, 0, 1, 1, 0, 1, 1]),
@@ -208,26 +206,28 @@ fn cancels() {
     cells[1][8] = 1;
     let mut was = cells;
     say(
-        b"cancel, refusal ",
+        rt,
+        "cancel, refusal ",
         refusal_of(step(&mut cells, 0x6000_0000, Settings::WEAKEST)),
-    );
-    say(b"location ", wide(cells[0][0]));
+    )?;
+    say(rt, "location ", wide(cells[0][0]))?;
     was[0][0] = 40;
     if same_row(was[0], cells[0]) & same_row(was[1], cells[1]) {
-        io::write_all(1, b"all else kept\n");
+        println!(rt; "all else kept")?;
     }
+    Ok(())
 }
 
 // Process 0 enters while process 1 competes, which is counted; 1 leaves, which clears the count.
-fn passes() {
+fn passes(rt: &impl Print) -> io::Result<()> {
     let mut cells = [
         row([20, 0, 0, 0, 0, 0, 0, 0]),
         row([30, 1, 0, 0, 0, 0, 0, 0]),
     ];
     step_all(&mut cells, &[0x4000_0000], Settings::WEAKEST);
-    say(b"passes of 0 over 1 ", wide(cells[0][9]));
+    say(rt, "passes of 0 over 1 ", wide(cells[0][9]))?;
     step_all(&mut cells, &[0x4001_0000], Settings::WEAKEST);
-    say(b"passes of 0 over 1 ", wide(cells[0][9]));
+    say(rt, "passes of 0 over 1 ", wide(cells[0][9]))
 }
 
 // Whether two rows are the same, cells and passes.
@@ -251,78 +251,95 @@ fn step_among(room: &mut [[u16; 24]], n: usize, word: u32, settings: Settings) -
 
 // The refusal of a word at two rows, of which the step is lent the first n; then whether both rows
 // are as before.
-fn refuses(first: [u16; 24], second: [u16; 24], n: usize, word: u32) {
+fn refuses(
+    rt: &impl Print,
+    first: [u16; 24],
+    second: [u16; 24],
+    n: usize,
+    word: u32,
+) -> io::Result<()> {
     let mut cells = [first, second];
     say(
-        b"refusal ",
+        rt,
+        "refusal ",
         step_among(&mut cells, n, word, Settings::WEAKEST),
-    );
+    )?;
     if same_row(first, cells[0]) & same_row(second, cells[1]) {
-        io::write_all(1, b"rows kept\n");
+        println!(rt; "rows kept")?;
     }
+    Ok(())
 }
 
 // The refusal of a word under settings at two rows; then whether both rows are as before.
-fn answers(first: [u16; 24], second: [u16; 24], word: u32, act: u32, turn: u32) {
+fn answers(
+    rt: &impl Print,
+    first: [u16; 24],
+    second: [u16; 24],
+    word: u32,
+    act: u32,
+    turn: u32,
+) -> io::Result<()> {
     let mut cells = [first, second];
     let settings = Settings {
         act: act,
         turn: turn,
     };
     say(
-        b"under settings ",
+        rt,
+        "under settings ",
         step_among(&mut cells, 2, word, settings),
-    );
+    )?;
     if same_row(first, cells[0]) & same_row(second, cells[1]) {
-        io::write_all(1, b"rows kept\n");
+        println!(rt; "rows kept")?;
     }
+    Ok(())
 }
 
 // FLICKERs of plain cells, a second writer, settings that do not fit; and what other settings do not
 // forbid.
-fn settings() {
+fn settings(rt: &impl Print) -> io::Result<()> {
     let rests = row([10, 0, 0, 0, 0, 0, 0, 0]);
     let enters = row([20, 0, 0, 0, 0, 0, 0, 0]);
     let pushes = row([24, 1, 0, 1, 2, 0, 0, 0]);
     let next = row([23, 1, 0, 1, 1, 0, 0, 0]);
     let pushed = row([23, 1, 1, 1, 1, 0, 0, 0]);
-    answers(enters, rests, 0x3000_0001, 1, 0);
-    answers(enters, rests, 0x3000_0002, 1, 0);
-    answers(enters, rests, 0x3000_0001, 0, 2);
-    answers(pushes, next, 0x3000_0001, 0, 2);
-    answers(pushes, next, 0x3000_0001, 1, 1);
-    answers(pushes, next, 0x4001_0000, 0, 1);
-    answers(pushes, next, 0x4001_0001, 0, 1);
-    answers(pushes, next, 0x4001_0000, 0, 2);
-    answers(pushes, pushed, 0x4001_0000, 0, 1);
-    answers(rests, next, 0x4001_0000, 0, 1);
-    answers(rests, rests, 0x2000_0000, 256, 0);
-    answers(rests, rests, 0x0000_0000, 0, 3);
+    answers(rt, enters, rests, 0x3000_0001, 1, 0)?;
+    answers(rt, enters, rests, 0x3000_0002, 1, 0)?;
+    answers(rt, enters, rests, 0x3000_0001, 0, 2)?;
+    answers(rt, pushes, next, 0x3000_0001, 0, 2)?;
+    answers(rt, pushes, next, 0x3000_0001, 1, 1)?;
+    answers(rt, pushes, next, 0x4001_0000, 0, 1)?;
+    answers(rt, pushes, next, 0x4001_0001, 0, 1)?;
+    answers(rt, pushes, next, 0x4001_0000, 0, 2)?;
+    answers(rt, pushes, pushed, 0x4001_0000, 0, 1)?;
+    answers(rt, rests, next, 0x4001_0000, 0, 1)?;
+    answers(rt, rests, rests, 0x2000_0000, 256, 0)?;
+    answers(rt, rests, rests, 0x0000_0000, 0, 3)
 }
 
-fn main() {
-    pair();
-    every_size();
-    own_turn();
-    cancels();
-    passes();
+fn main(rt: HostRuntime) -> io::Result<()> {
+    pair(&rt)?;
+    every_size(&rt)?;
+    own_turn(&rt)?;
+    cancels(&rt)?;
+    passes(&rt)?;
     let rests = row([10, 0, 0, 0, 0, 0, 0, 0]);
     let mut writes = row([20, 0, 0, 0, 0, 0, 0, 0]);
     let competes = row([21, 1, 0, 1, 2, 0, 0, 0]);
     let lost = row([11, 0, 0, 0, 0, 0, 0, 0]);
-    refuses(rests, rests, 1, 0x2000_0000);
-    refuses(lost, rests, 2, 0x2000_0000);
-    refuses(rests, rests, 2, 0x0000_0000);
-    refuses(rests, rests, 2, 0x2002_0000);
-    refuses(rests, rests, 2, 0x4000_0000);
-    refuses(rests, rests, 2, 0x2000_0001);
-    refuses(writes, rests, 2, 0x7000_0000);
-    refuses(rests, rests, 2, 0x6000_0001);
-    refuses(competes, rests, 2, 0x6000_0000);
-    refuses(writes, rests, 2, 0x6000_0001);
+    refuses(&rt, rests, rests, 1, 0x2000_0000)?;
+    refuses(&rt, lost, rests, 2, 0x2000_0000)?;
+    refuses(&rt, rests, rests, 2, 0x0000_0000)?;
+    refuses(&rt, rests, rests, 2, 0x2002_0000)?;
+    refuses(&rt, rests, rests, 2, 0x4000_0000)?;
+    refuses(&rt, rests, rests, 2, 0x2000_0001)?;
+    refuses(&rt, writes, rests, 2, 0x7000_0000)?;
+    refuses(&rt, rests, rests, 2, 0x6000_0001)?;
+    refuses(&rt, competes, rests, 2, 0x6000_0000)?;
+    refuses(&rt, writes, rests, 2, 0x6000_0001)?;
     // the most passes over process 1, which competes: 15, and 11 before it
     writes[9] = 65535;
-    refuses(writes, competes, 2, 0x4000_0000);
-    refuses(writes, competes, 2, 0x4000_0001);
-    settings();
+    refuses(&rt, writes, competes, 2, 0x4000_0000)?;
+    refuses(&rt, writes, competes, 2, 0x4000_0001)?;
+    settings(&rt)
 }

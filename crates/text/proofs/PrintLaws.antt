@@ -1,7 +1,6 @@
 -- The text for what opening an input answers, and what printing it into a lent buffer leaves there. Assumes nothing.
-use mathlib.Core.Path.{◌≡◌, refl, sym, ap, ◌∙◌, subst}
+use mathlib.Core.Path.{◌≡◌, sym, ap, ◌∙◌, subst}
 use mathlib.Core.Bool.{Bool, true, false}
-use mathlib.Core.Logic.{inl, inr}
 use mathlib.Core.List.{List, [], ◌∷◌, ◌++◌, append-nil}
 use Prim.Native.Nat.{ℕ, ◌+◌, ◌-◌, ◌*◌, ◌≤◌, ◌<◌}
 use native.Mathlib.Nat.{zero-add}
@@ -9,8 +8,6 @@ use native.Mathlib.Omega.{arith}
 use lib.ListN.{length, take, drop, length-append, length-take}
 use lib.Seq.{length-take-le}
 use borrow.Author.Tests.{le-leb, lt-leb}
-use types.Run.{OneOf}
-use denote.Enum.Declared.{tag_of}
 use Rattle.counting.specs.Placing.{placed}
 use Rattle.machine.specs.Refusals.{too_many_words}
 use Rattle.machine.specs.Runs.{limit}
@@ -23,7 +20,6 @@ use Rattle.octets.proofs.ByteLaws.{length_words_in, words_part}
 use Rattle.inputs.specs.Opening.{table_of, part, Shows, ShowsReady}
 use Rattle.inputs.specs.declared.Opened.{Opened}
 use Rattle.inputs.specs.declared.Opened.TheVariants.{BadBytes, BadImage, TooMany, Ready}
-use Rattle.inputs.specs.contracts.Opened.{the_type}
 use Rattle.text.specs.Appending.{Appended}
 use Rattle.text.specs.Running.{head_room}
 use Rattle.text.specs.Printing.{head_of, lines_of, opened_text, size_of, Answers}
@@ -68,15 +64,6 @@ module _ (ws : List ℕ) (y : List (List ℕ)) where
   pub length_opened : (r : Opened) → length (opened_text r ws y) ≡ length (head_of r) + length (lines_of r ws y)
   length_opened r = length-append (head_of r) (lines_of r ws y)
 
-  -- an answer with no run
-  pub no_lines : (r : Opened) → OneOf (0 ∷ 1 ∷ 2 ∷ []) (tag_of the_type r) → lines_of r ws y ≡ []
-  no_lines BadBytes h = refl
-  no_lines (BadImage place number) h = refl
-  no_lines (TooMany n) h = refl
-  no_lines (Ready n a b) (inl h) = absurd (omega arith)
-  no_lines (Ready n a b) (inr (inl h)) = absurd (omega arith)
-  no_lines (Ready n a b) (inr (inr h)) = absurd (omega arith)
-
   module _ (r : Opened) (a : Answers r ws y) where
     pub text-is : printed a.input ≡ opened_text r ws y
     unfolding printed
@@ -120,7 +107,10 @@ module _ (bs l : List ℕ) {s : List ℕ} (text : printed bs ≡ s) where
   buffers b = elim b [ false ↦ l | true ↦ placed l 0 (printed bs) ]
 
   -- too short
-  pub short_print : {r : ℕ} → r ≡ length s → length l < r → (r ≡ (printed_in bs l).number) × (l ≡ (printed_in bs l).lent)
+  pub short_print : {r : ℕ}
+      → r ≡ length s
+      → length l < r
+      → (r ≡ (printed_in bs l).number) × (l ≡ (printed_in bs l).lent)
   unfolding printed_in
   short_print is h =
       let long = ap length text in

@@ -12,8 +12,9 @@ use Rattle.counting.proofs.TestLaws.{split, cond_le}
 use Rattle.machine.specs.Refusals.{accepted}
 use Rattle.machine.specs.Tables.{level_fits, table_refusal}
 use Rattle.machine.specs.Runs.{limit}
-use Rattle.machine.specs.Images.{Slot, STATE, says_passes, size_in, is_header, length_in, slots_in, location_in, level_in}
-use Rattle.machine.specs.Images.{in_range, off_diagonal, fits_slot, slot_refusal, first_refusal, image_refusal}
+use Rattle.machine.specs.Images.{Slot, STATE, says_passes, size_in, is_header, length_in, slots_in}
+use Rattle.machine.specs.Images.{location_in, level_in, in_range, off_diagonal, fits_slot}
+use Rattle.machine.specs.Images.{slot_refusal, first_refusal, image_refusal}
 use Rattle.machine.specs.Bytes.{words_in, bytes_fit}
 use Rattle.machine.specs.Inputs.{image_part, event_part, Input, input_of}
 use Rattle.machine.specs.Inputs.Input.{BadBytes, BadImage, TooMany, Ready}
@@ -74,7 +75,11 @@ image_low ws = go (is_header head) refl (ℕ_discrete (length ws) (length_in hea
   go true e (yes l) =
       subst (Low 336) (sym (refused_words ws e l))
       (first_low (size_in head) 1 336 (slots_in head) (drop 1 ws)
-      (omega (arith, long e, length-slots (says_passes head) (size_in head) (omega (arith, (header_facts head e).some)))))
+      (omega (
+        arith,
+        long e,
+        length-slots (says_passes head) (size_in head) (omega (arith, (header_facts head e).some)),
+      )))
   go true e (no l) =
       subst (Low 336) (sym (refused_length ws e l))
       (record { number = omega arith; place = omega (arith, long e, min-le_right (length ws) (length_in head)) })

@@ -9,7 +9,7 @@
 -- one more there. Assumes `Logic`.
 use mathlib.Core.List.{List, [], ◌∷◌}
 use seplogic.Ra.Ura.{Ura}
-use mir.Syntax.{Name, Place, Opd as Operand, Body, seq, call}
+use mir.Syntax.{Callee, Place, Opd as Operand, Body, seq, call}
 use mir.Val.{Val}
 use base.Logic.{ent, sep, emp, via, emp∗, mono∗, id⊢}
 use prog.Wp.{Env, Calls, Loops}
@@ -47,7 +47,7 @@ module _ {M : Type 1} {𝓤 : Ura M} {𝓛 : Logic 𝓤} {K : Type 0} {Γ : List
   hears t soaks T c κs qs bounds a vs g v φ says next =
       let result = type_at T.signature.result κs in
       use1 𝓛 (later (some (λ (r : Res T.signature κs).
-      (raw (alive 𝓛 T.signature κs qs) ⊛ ‵ (result.own r (v ∷ []))) ⊛ raw (ensured 𝓛 T c κs a g r))))
+      (raw (alive 𝓛 T.signature κs qs) ⊛ ‵ (result.own_val r (v ∷ []))) ⊛ raw (ensured 𝓛 T c κs a g r))))
       (id⊢ 𝓤 _) $ await t soaks $ pick t (λ r. split t $ move t (1 ∷ []) $
       use1 𝓛 (some (λ (ws : Lasts T κs a). ‵ (lasts T κs a ws) ⊛ raw ((c κs a).ensures g r (at_exit T κs a ws))))
       (id⊢ 𝓤 _) $ pick t (λ ws. split t $ move t (1 ∷ []) $ use1 𝓛 (raw (fact 𝓤 (φ r ws))) (says r ws) $
@@ -58,7 +58,7 @@ module _ {M : Type 1} {𝓤 : Ura M} {𝓛 : Logic 𝓤} {K : Type 0} {Γ : List
 
 module _ {M : Type 1} {𝓤 : Ura M} {𝓛 : Logic 𝓤} {K : Type 0} {Γ : List (Item 𝓤)}
     {E : Env 𝓤 𝓛.H} {C : Calls 𝓤 𝓛.H} {Λ : Loops 𝓤 𝓛.H} {q : Post 𝓤 𝓛.H}
-    {f : Name} {xs : List Operand} {d : Place} {rest : Body} where
+    {f : Callee} {xs : List Operand} {d : Place} {rest : Body} where
   open 𝓛 use {H}
 
   pub calls_plain : K → FmC 𝓤 H 𝓛.laws C

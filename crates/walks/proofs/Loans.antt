@@ -17,26 +17,31 @@ use mathlib.Core.List.{List, [], ◌∷◌}
 use lib.Dec.{T}
 use lib.ListN.{length, replicate, length-replicate}
 use seplogic.Ra.Ura.{Ura}
-use seplogic.Ra.TreeShare.{full_share}
+use base.Fraction.{full_share}
 use mir.Syntax.{Ty, Lifetime, ty_array}
 use mir.Val.{Val, has_ty, WT}
 use base.Logic.{SProp, ent, sep, ex}
-use base.Fml.{Lft, Share, GName, Fml, fsep, fat, froom, flft, flent, fobs, fauth, fobor}
+use base.Fml.{Lft, Share, GName, Fml, fsep, fat, froom, flft, flent, fobs, fauth, fobor, fhide}
 use types.Logic.{Logic, sem}
-use types.Kit.{Item, Goal, Soaks, Seq, Go, ‵, ◌⊛◌, some, later, ◌$◌, ◌∵◌, !, qed, by, move, use1, use3, rewrite}
-use types.Kit.{drop, split, pick, fsplit, fjoin, fpick, fpack, feq_l, feq_i, await, done}
+use types.Kit.{Item, Goal, Soaks, Seq, Go, ‵, ◌⊛◌, some, later, ◌$◌, ◌∵◌, !, qed, by, move, use1, use3}
+use types.Kit.{rewrite, drop, split, pick, fsplit, fjoin, fpick, fpack, feq_l, feq_i, await, updating, done}
+use types.Kit.{now as at_once}
 use types.Tokens.{lft_new, lft_end, lent_back}
 use types.SemTy.{cells, Arr}
-use types.Share.{PartsLaws, arr_parts, arr_laws}
+use types.Share.{PartsLaws, parts as elements, arr_parts, arr_laws}
 use denote.RattleType.{RattleType}
 use denote.Shadow.{shadow, pure_i}
 use denote.Laws.{Is, Tells, Makes, Copy, shows}
+use denote.Copied.{Copied, each_lends}
 use denote.Memory.{lone, cell_at, part_at, part_of, mem, shares, share_laws}
 use denote.Array.{Array, each, array_val, Array-Makes}
 use denote.ArrayMemory.{Single, Array-apart, Array-whole}
-use denote.Ref.{MutBor}
-use denote.Slice.{slice_val, MutSlice, ShrSlice, Room, finally, heres, coded_holeys, shr_slice_at}
-use denote.Lend.{Held, lends_slice, slice_back, lends_shr_slice}
+use denote.Bor.{Bor}
+use denote.MutBor.{MutBor}
+use denote.Slice.{slice_val, MutSlice, ShrSlice, Room, finally, heres, coded_holeys}
+use denote.Slice.{mut_slice_at, shr_slice_at, elements_shared}
+use denote.Lend.{Held, lends_slice, slice_back}
+use denote.Lends.{Lent-map}
 use denote.Index.{opens_slice, closes_slice}
 use denote.Steps.{owned, facts}
 
@@ -46,10 +51,11 @@ pub record Elements {M : Type 1} {𝓤 : Ura M} (𝓛 : Logic 𝓤) (R : RattleT
   pub tells : Tells R (Is R) (λ x. mach x ∷ [])
   pub makes : Makes 𝓛 R (Is R)
   pub copies : Copy 𝓛 R
+  pub copied : Copied 𝓛 R
   pub typed : (x : R.Denot) (v : Val) → Is R x (v ∷ []) → T (has_ty (lone R.mir) v) × WT v
 
 module _ (R : RattleType) (x : R.Denot) (u : Val) (is : Is R x (u ∷ [])) where
-  each-rep : (n : ℕ) → shadow (each R.Denot R.own (replicate n x) (replicate n u))
+  each-rep : (n : ℕ) → shadow (each R.Denot R.own_val (replicate n x) (replicate n u))
   each-rep zero = tt
   each-rep (suc n) = (is, each-rep n)
 
@@ -68,8 +74,11 @@ module _ (R : RattleType) (n b o : ℕ) where
   abbrev pub Mut : Lifetime → Lft → GName → List R.Denot → Fml
   Mut ℓ κ γ xs = (MutSlice ℓ κ R).own_val (sliceRef γ xs) (slice_val (b, o) n ∷ [])
 
-  abbrev pub Shr : Lifetime → Lft → GName → List R.Denot → Fml
-  Shr ℓ κ γ xs = (ShrSlice ℓ κ R).own_val (sliceRef γ xs) (slice_val (b, o) n ∷ [])
+  abbrev pub sharedRef : List R.Denot → Bor (List R.Denot)
+  sharedRef xs = record { ref_ptr = (b, o); now = xs }
+
+  abbrev pub Shr : Lifetime → Lft → List R.Denot → Fml
+  Shr ℓ κ xs = (ShrSlice ℓ κ R).own_val (sharedRef xs) (slice_val (b, o) n ∷ [])
 
 -- ---- loans
 
@@ -118,8 +127,8 @@ module _ {M : Type 1} {𝓤 : Ura M} (𝓛 : Logic 𝓤) (R : RattleType) (n b o
     abbrev MutLent : Lft → List R.Denot → ℕ → GName → SProp 𝓤
     MutLent κ xs k γ = sep 𝓤 ⟦ Mut R k b o ℓ κ γ xs ⟧ (A.lent κ (Held R k b o γ))
 
-    abbrev ShrLent : Lft → List R.Denot → ℕ → GName → SProp 𝓤
-    ShrLent κ xs k γ = sep 𝓤 ⟦ Shr R k b o ℓ κ γ xs ⟧ (A.lent κ (Stored R k b o xs))
+    abbrev ShrLent : Lft → List R.Denot → ℕ → SProp 𝓤
+    ShrLent κ xs k = sep 𝓤 ⟦ Shr R k b o ℓ κ xs ⟧ (A.lent κ (Stored R k b o xs))
 
     mut-lent : (κ : Lft) (xs : List R.Denot) → ent 𝓤 ⟦ Stored R n b o xs ⟧ (H.⇛ (ex 𝓤 (MutLent κ xs n)))
     mut-lent κ xs =
@@ -128,11 +137,18 @@ module _ {M : Type 1} {𝓤 : Ura M} (𝓛 : Logic 𝓤) (R : RattleType) (n b o
         by ! (subst (λ (k : ℕ). ent 𝓤 ⟦ cells (mem R) xs b o ⟧ (H.⇛ (ex 𝓤 (MutLent κ xs k)))) e
         (lends_slice 𝓛 R ℓ κ xs b o (subst (Room R) (sym e) room))))
 
-    shr-lent : (κ : Lft) (xs : List R.Denot) → ent 𝓤 ⟦ Stored R n b o xs ⟧ (H.⇛ (ex 𝓤 (ShrLent κ xs n)))
+    shr-lent : (κ : Lft) (xs : List R.Denot) → ent 𝓤 ⟦ Stored R n b o xs ⟧ (H.⇛ (ShrLent κ xs n))
     shr-lent κ xs =
-        qed 𝓛 (‵ (Stored R n b o xs) ∷ []) ∵ fsplit ! $ feq_l ! (λ e. feq_i ! ℕ _ n e $ fjoin ! $
-        by ! (subst (λ (k : ℕ). ent 𝓤 ⟦ Stored R k b o xs ⟧ (H.⇛ (ex 𝓤 (ShrLent κ xs k)))) e
-        (lends_shr_slice 𝓛 R ℓ κ full_share xs b o (subst (Room R) (sym e) room))))
+        let row : Fml = elements (mem R) (shares R) full_share xs b o in
+        let each : Lft → Fml = elements_shared R xs b o in
+        qed 𝓛 (‵ (Stored R n b o xs) ∷ []) ∵ updating ! $ fsplit ! $ feq_l ! (λ e. feq_i ! ℕ _ n e $ fjoin ! $
+        use1 𝓛 (later (‵ (fhide (each κ)) ⊛ ‵ (flent κ (Stored R n b o xs))))
+        (Lent-map 𝓛 (Stored R n b o xs) row each
+        (qed 𝓛 (‵ (Stored R n b o xs) ∷ []) {P = ⟦ row ⟧} (fsplit ! $ drop ! $ done !))
+        (qed 𝓛 (‵ row ∷ []) {P = ⟦ Stored R n b o xs ⟧} (feq_i ! ℕ _ n e $ done !))
+        (each_lends 𝓛 R laws.copied full_share xs b o) κ) $ await ! tt $ split ! $ at_once ! $
+        pure_i ! (shr_slice_at R (sharedRef R n b o xs) (slice_val (b, o) n ∷ [])) (tt, (tt, tt))
+        (ap (λ (k : ℕ). slice_val (b, o) k ∷ []) (sym e), subst (Room R) (sym e) room) $ fjoin ! $ done !)
 
     module _ {Γ : List (Item 𝓤)} {G : Goal 𝓤 H} (soaks : Soaks G) where
       pub lends-mut : (xs : List R.Denot)
@@ -154,15 +170,14 @@ module _ {M : Type 1} {𝓤 : Ura M} (𝓛 : Logic 𝓤) (R : RattleType) (n b o
           use1 𝓛 (‵ (Stored R n b o ys)) (parts.whole_out ys b o) $ next
 
       pub lends_shr : (xs : List R.Denot)
-          → ((μ : ℕ) (γ : GName)
-          → Seq Go 𝓛 (‵ (Shr R n b o ℓ (μ ∷ []) γ xs) ∷ ‵ (flft (μ ∷ []) full_share)
+          → ((μ : ℕ)
+          → Seq Go 𝓛 (‵ (Shr R n b o ℓ (μ ∷ []) xs) ∷ ‵ (flft (μ ∷ []) full_share)
           ∷ ‵ (flent (μ ∷ []) (Stored R n b o xs)) ∷ Γ) G)
           → Seq Go 𝓛 (‵ (Stored R n b o xs) ∷ Γ) G
       lends_shr xs next =
           lft_new ! soaks (λ μ. move ! (1 ∷ []) $
-          use1 𝓛 (later (some (λ (γ : GName).
-          ‵ (Shr R n b o ℓ (μ ∷ []) γ xs) ⊛ ‵ (flent (μ ∷ []) (Stored R n b o xs))))) (shr-lent (μ ∷ []) xs) $
-          await ! soaks $ pick ! (λ γ. split ! $ move ! (0 ∷ 2 ∷ []) $ next μ γ))
+          use1 𝓛 (later (‵ (Shr R n b o ℓ (μ ∷ []) xs) ⊛ ‵ (flent (μ ∷ []) (Stored R n b o xs))))
+          (shr-lent (μ ∷ []) xs) $ await ! soaks $ split ! $ move ! (0 ∷ 2 ∷ []) $ next μ)
 
       pub shr-back : (μ : ℕ) (xs : List R.Denot) → Seq Go 𝓛 (‵ (Stored R n b o xs) ∷ Γ) G
           → Seq Go 𝓛 (‵ (flft (μ ∷ []) full_share) ∷ ‵ (flent (μ ∷ []) (Stored R n b o xs)) ∷ Γ) G
@@ -192,5 +207,5 @@ module _ (R : RattleType) (κ : Lft) (q : Share) (γ : GName) (b o : ℕ) (ys : 
     closes zs same room next =
         fsplit ! $ feq_l ! (λ _. move ! (1 ∷ []) $ fsplit ! $ move ! (1 ∷ []) $ fsplit ! $ move ! (3 ∷ 2 ∷ []) $
         closes_slice ! soaks R ys zs same b o $ fjoin ! $
-        pure_i ! (shr_slice_at R (sliceRef R (length ys) b o γ zs) (slice_val (b, o) (length ys) ∷ [])) (tt, (tt, tt))
+        pure_i ! (mut_slice_at R (sliceRef R (length ys) b o γ zs) (slice_val (b, o) (length ys) ∷ [])) (tt, (tt, tt))
         (ap (λ (k : ℕ). slice_val (b, o) k ∷ []) (sym same), subst (Room R) (sym same) room) $ fjoin ! $ next)

@@ -7,17 +7,18 @@
 --   zeros, zerosVal       a local array of zeros; zeros_are, zeros_typed: it is one.
 --
 -- Assumes `Logic`.
-use mathlib.Core.Path.{◌≡◌, refl, sym, ◌∙◌}
+use mathlib.Core.Path.{◌≡◌, refl}
 use Prim.Native.Nat.{ℕ}
 use mathlib.Core.List.{List, [], ◌∷◌}
 use lib.Dec.{T, lit<}
-use lib.ListN.{length, replicate, length-map}
+use lib.ListN.{length, replicate}
 use seplogic.Ra.Ura.{Ura}
 use mir.Syntax.{Ty, w16, ty_array}
 use mir.Val.{Val, vint, has_ty, WT}
 use types.Logic.{Logic}
 use denote.RattleType.{RattleType}
 use denote.Laws.{Is}
+use denote.Copied.{uint_Copied, Array-Copied}
 use denote.Memory.{lone}
 use denote.Plain.{uint_Makes, uint_Lawful, uint_vals, uint_Tells, uint_copy}
 use denote.Builtin.{u16}
@@ -38,9 +39,7 @@ abbrev pub row_val : Row → Val
 row_val r = LL.val R.the_type R'.the_laws r
 
 pub counts_16 : (r : Row) (v : Val) → Is R.the_row r (v ∷ []) → length r.passes ≡ 16
-counts_16 r v is =
-    sym (length-map r.passes (λ (x : ℕ). x))
-    ∙ (LL.owed R.the_type R'.the_laws r (v ∷ []) is).1.1.1.1.1.1.1.1.0.1.0.1
+counts_16 r v is = (LL.owed R.the_type R'.the_laws r (v ∷ []) is).1.1.1.1.1.1.1.1.0.1.0.1
 
 -- ---- cells
 
@@ -72,6 +71,7 @@ module _ {M : Type 1} {𝓤 : Ura M} (𝓛 : Logic 𝓤) where
     tells = LL.tells R.the_type R'.the_laws;
     makes = (LL.makes R.the_type R'.the_plain) 𝓛;
     copies = (LL.copy R.the_type R'.the_copy) 𝓛;
+    copied = (LL.copied R.the_type R'.the_copy) 𝓛;
     typed = λ r v is. ((LL.lawful R.the_type R'.the_laws 𝓛).typed r _ is).0;
   }
 
@@ -81,6 +81,7 @@ module _ {M : Type 1} {𝓤 : Ura M} (𝓛 : Logic 𝓤) where
     tells = Array-Tells u16 (uint_vals w16) (uint_Tells w16) 24;
     makes = Array-Makes 𝓛 u16 (uint_Makes 𝓛 w16) 24;
     copies = array_copy 𝓛 u16 (uint_copy 𝓛 w16) 24;
+    copied = Array-Copied 𝓛 u16 (uint_Copied 𝓛 w16) tt 24;
     typed = λ c v is. ((Array-Lawful 𝓛 u16 (uint_Lawful 𝓛 w16) 24).typed c _ is).0;
   }
 

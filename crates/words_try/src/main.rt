@@ -30,20 +30,20 @@ fn made(kind: u32, process: u32, argument: u32) -> u32
 }
 
 fn main() {
-    check::expect(taken(0x2000_0000) == 2000000);
-    check::expect(taken(0x4000_0000) == 4000000);
-    check::expect(taken(0x5000_0001) == 5000001);
-    check::expect(taken(0x6000_0000) == 6000000);
-    check::expect(taken(0x0000_0000) == 8);
-    check::expect(taken(0x7000_0000) == 8);
-    check::expect(taken(0x2100_0000) == 8);
-    check::expect(taken(0x2000_0100) == 8);
-    check::expect(taken(0x2010_0000) == 9);
-    check::expect(made(2, 0, 0) == 0x2000_0000);
-    check::expect(made(5, 0, 1) == 0x5000_0001);
-    check::expect(made(6, 0, 0) == 0x6000_0000);
-    check::expect(made(7, 0, 0) == 8);
-    check::expect(made(0, 16, 0) == 8);
-    check::expect(made(2, 16, 256) == 9);
-    check::expect(made(2, 15, 256) == 11);
+    prove!(taken(0x2000_0000) == 2000000);
+    prove!(taken(0x4000_0000) == 4000000);
+    prove!(taken(0x5000_0001) == 5000001);
+    prove!(taken(0x6000_0000) == 6000000);
+    prove!(taken(0x0000_0000) == 8);
+    prove!(taken(0x7000_0000) == 8);
+    prove!(taken(0x2100_0000) == 8);
+    prove!(taken(0x2000_0100) == 8);
+    prove!(taken(0x2010_0000) == 9);
+    prove!(made(2, 0, 0) == 0x2000_0000);
+    prove!(made(5, 0, 1) == 0x5000_0001);
+    prove!(made(6, 0, 0) == 0x6000_0000);
+    prove!(made(7, 0, 0) == 8);
+    prove!(made(0, 16, 0) == 8);
+    prove!(made(2, 16, 256) == 9);
+    prove!(made(2, 15, 256) == 11);
 }

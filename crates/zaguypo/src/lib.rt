@@ -150,8 +150,7 @@ fn run_input(input: &[u8], words: &mut [u32], image: &mut [u8], settings: Settin
 // Answers 256 times the number of words taken plus the refusal or 0, and leaves the image of the last
 // table at the start of the lent bytes, 4 × (5N + N × N). Refusals 14, 1 to 5, 18, 12 and 13 leave the
 // lent bytes as given. A short image has its own room for words, which is sooner cleared.
-#[unsafe(no_mangle)]
-pub extern "C" fn zaguypo_run(input: &[u8], image: &mut [u8], act: u32, turn: u32) -> u64
+pub fn zaguypo_run(input: &[u8], image: &mut [u8], act: u32, turn: u32) -> u64
     ensures { (result ≡ (call_of (record { act = act; turn = turn }) input.now image.old).number)
         × (image.new ≡ (call_of (record { act = act; turn = turn }) input.now image.old).lent) }
 {

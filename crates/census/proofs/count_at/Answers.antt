@@ -25,12 +25,10 @@ overflow_add-s c =
 
 pub loop-q-preserved : goal.loop-q-preserved
 loop-q-preserved c =
-    let one-is : (let l = c in
-        let x = l.args in
+    let one-is : (let x = c.args in
         bit (is_at x.low x.high c.row_at-l.result)
-        ≡ bit (is_at x.low x.high (row (rows_of x.cells.now) l.loop-q.q))) =
+        ≡ bit (is_at x.low x.high (row (rows_of x.cells.now) c.loop-q.q))) =
         let x = c.args in ap (λ (r : Row). bit (is_at x.low x.high r)) c.row_at-l.ensures in
-
     let x = c.args in
     let q = c.loop-q.q in
     let v = c.loop-q.invariant.2 in

@@ -2,7 +2,6 @@
 use Prim.Native.Nat.{ℕ, ◌+◌, ◌≤◌, ◌<◌, ◌-◌}
 use mathlib.Core.Bool.{Bool, true, false}
 use mathlib.Core.List.{List}
-use mathlib.Core.Logic.{⊎_elim}
 use mathlib.Core.Path.{◌≡◌, refl, ap, ap₂, sym, ◌∙◌}
 use native.Mathlib.Omega.{arith}
 use lib.ListN.{length, get_or}
@@ -23,6 +22,7 @@ use Rattle.census.proofs.ThresholdLaws.{below_from_is, held_from_none}
 use Rattle.census.proofs.ThresholdLaws.{below_from_out, held_from_out, out_critical}
 use Rattle.census.proofs.CensusLaws.{census_counted}
 use Rattle.census.proofs.counted.Goals as goal
+use Rattle.census.proofs.counted.Goals.{then-competes+then-r-eq0, then-competes+else-r-eq0, else-competes}
 
 pub loop-q-init : goal.loop-q-init
 loop-q-init c =
@@ -32,90 +32,86 @@ loop-q-init c =
 
 -- ---- one row
 
-module _ (c : goal.After-competes) where
-  abbrev start : goal.Start
-  start = c.before.before.before.before
+-- whether it competes, and its level, as the code has found them
+competes_so : (t : Table) (q : ℕ) (r : Row) (v b : Bool)
+    → r ≡ row t q → v ≡ competes r → v ≡ b → competes (row t q) ≡ b
+competes_so t q r v b is found e = ap competes (sym is) ∙ sym found ∙ e
 
-  abbrev t : Table
-  t = rows_of start.args.cells.now
-
-  abbrev at : goal.At-loop-q
-  at = c.before.before.before
-
-  abbrev q : ℕ
-  q = at.loop.q
-
-  within : q < length t
-  within = omega (arith, rows_length start.args.cells.now, c.loop-q-test)
-
-  -- whether it competes, and its level, as the code has found them
-  competes-is : (b : Bool) → c.competes.result ≡ b → competes (row t q) ≡ b
-  competes-is b e = ap competes (sym c.row_at-r.ensures) ∙ sym c.competes.ensures ∙ e
-
-  level_is : c.competes.result ≡ true → c.row_at-r.result.level ≡ below_from (row t q)
-  level_is e =
-      ap (λ (r : Row). r.level) c.row_at-r.ensures ∙ below_from_is (row t q) (competes-is true e)
+level_is : (t : Table) (q : ℕ) (r : Row) (v : Bool)
+    → r ≡ row t q → v ≡ competes r → v ≡ true → r.level ≡ below_from (row t q)
+level_is t q r v is found e =
+    ap (λ (s : Row). s.level) is ∙ below_from_is (row t q) (competes_so t q r v true is found e)
 
 pub one_more-b-requires : goal.one_more-b-requires
 one_more-b-requires c =
-    let o = c in
-    small_as _ _ _ _ (at o).loop.invariant.3 (level_is o c.if-competes.true)
-    (below_small (t o) (start o).requires (q o) (within o))
+    let x = c.args.cells.now in
+    let q = c.loop-q.q in
+    let within : q < length (rows_of x) = omega (arith, rows_length x) in
+    small_as _ _ _ _ c.loop-q.invariant.3
+    (level_is (rows_of x) q _ _ c.row_at-r.ensures c.competes.ensures c.if-competes.true)
+    (below_small (rows_of x) c.requires q within)
 
 pub overflow_add-at_30 : goal.overflow_add-at_30
 overflow_add-at_30 c =
-    let o = c in
-    let l = count_le (λ i. is_critical (row (t o) i)) (q o) in
-    record { fits = omega (arith, l, (at o).loop.invariant.2, bit_le_one (is_critical o.row_at-r.result)) }
+    let t = rows_of c.args.cells.now in
+    let l = count_le (λ i. is_critical (row t i)) c.loop-q.q in
+    record { fits = omega (arith, l, c.loop-q.invariant.2, bit_le_one (is_critical c.row_at-r.result)) }
 
 pub one_more-h-requires : goal.one_more-h-requires
 one_more-h-requires c =
-    let o = c in
-    rw (at o).loop.invariant.4 (series_small held_from (t o) (q o) 0 (omega arith) (omega arith))
+    rw c.loop-q.invariant.4 (series_small held_from (rows_of c.args.cells.now) c.loop-q.q 0 (omega arith) (omega arith))
 
 pub one_more-h-requires-else-r-eq0 : goal.one_more-h-requires-else-r-eq0
 one_more-h-requires-else-r-eq0 c =
-    let o = c in
-    let e = c.held_from.ensures ∙ ap held_from o.row_at-r.ensures in
-    rw ((at o).loop.invariant.4, e) (held_small (t o) (start o).requires (q o) (within o))
+    let x = c.args.cells.now in
+    let q = c.loop-q.q in
+    let within : q < length (rows_of x) = omega (arith, rows_length x) in
+    let e = c.held_from.ensures ∙ ap held_from c.row_at-r.ensures in
+    rw (c.loop-q.invariant.4, e) (held_small (rows_of x) c.requires q within)
 
+-- the counts with this row: at level 0, at a level above, and where it does not compete
 pub loop-q-preserved : goal.loop-q-preserved
 loop-q-preserved c =
-    let with_row : (let u = t c.before in
-        let k = q c.before + 1 in
-        (c.if-competes.at-30 ≡ count (λ i. is_critical (row u i)) k)
-        × (c.if-competes.below ≡ seriesOf below_from u k)
-        × (c.if-competes.held ≡ seriesOf held_from u k)) =
-        let o = c in
-        let u = t o in
-        let p = q o in
-        let v = (at o).loop.invariant in
-        let e = o.row_at-r.ensures in
-        let level = ap (λ (r : Row). r.level) e in
-        let one = ap (λ (r : Row). bit (is_critical r)) e in
-        let P : ℕ → Bool = λ i. is_critical (row u i) in
-        ⊎_elim
-        (λ m.
-        let none = held_from_none (row u p) (competes-is o true m.0.taken) (sym level ∙ m.3.taken) in (
-          m.6 ∙ ap₂ (λ (a b : ℕ). a + b) v.2 one ∙ sym (count_next P p),
-          m.7 ∙ m.1.ensures ∙ ap₂ one_over v.3 (level_is o m.0.taken) ∙ series_next below_from u p,
-          m.8 ∙ m.5.ensures ∙ ap₂ one_over v.4 none ∙ series_next held_from u p,
-        ))
-        (⊎_elim
-        (λ m.
-        let away = none_critical u (start o).requires p (within o) (λ z. m.3.left (level ∙ z)) in (
-          m.6 ∙ v.2 ∙ sym (count_same P p away),
-          m.7 ∙ m.1.ensures ∙ ap₂ one_over v.3 (level_is o m.0.taken) ∙ series_next below_from u p,
-          m.8 ∙ m.5.ensures ∙ ap₂ one_over v.4 (m.4.ensures ∙ ap held_from e) ∙ series_next held_from u p,
-        ))
-        (λ m.
-        let out = competes-is o false m.0.left in (
-          m.1 ∙ v.2 ∙ sym (count_same P p (out_critical (row u p) out)),
-          m.2 ∙ v.3 ∙ series_same below_from u p (below_from_out (row u p) out),
-          m.3 ∙ v.4 ∙ series_same held_from u p (held_from_out (row u p) out),
-        )))
-        c.if-competes.branch in
- let w = with_row in (search rules, search rules, w.0, w.1, w.2)
+    let x = c.args.cells.now in
+    let u : Table = rows_of x in
+    let p : ℕ = c.loop-q.q in
+    let v = c.loop-q.invariant in
+    let within : p < length u = omega (arith, rows_length x) in
+    let is = c.row_at-r.ensures in
+    let so = competes_so u p _ _ true is c.competes.ensures in
+    let below_is = level_is u p _ _ is c.competes.ensures in
+    let level = ap (λ (r : Row). r.level) is in
+    let one = ap (λ (r : Row). bit (is_critical r)) is in
+    let P : ℕ → Bool = λ i. is_critical (row u i) in
+    elim c.if-competes.branch [
+      then-competes+then-r-eq0 w ↦
+        let none = held_from_none (row u p) (so w.if-competes.true) (sym level ∙ w.if-r-eq0.true) in (
+          search rules,
+          search rules,
+          w.at_30-is ∙ ap₂ (λ (a b : ℕ). a + b) v.2 one ∙ sym (count_next P p),
+          w.below-is ∙ w.one_more-b.ensures ∙ ap₂ one_over v.3 (below_is w.if-competes.true)
+              ∙ series_next below_from u p,
+          w.held-is ∙ w.one_more-h.ensures ∙ ap₂ one_over v.4 none ∙ series_next held_from u p,
+        )
+      | then-competes+else-r-eq0 w ↦
+        let away = none_critical u c.requires p within (λ z. w.if-r-eq0.false (level ∙ z)) in (
+          search rules,
+          search rules,
+          w.at_30-is ∙ v.2 ∙ sym (count_same P p away),
+          w.below-is ∙ w.one_more-b.ensures ∙ ap₂ one_over v.3 (below_is w.if-competes.true)
+              ∙ series_next below_from u p,
+          w.held-is ∙ w.one_more-h-else-r-eq0.ensures ∙ ap₂ one_over v.4 (w.held_from.ensures ∙ ap held_from is)
+              ∙ series_next held_from u p,
+        )
+      | else-competes w ↦
+        let out = competes_so u p _ _ false is c.competes.ensures w.if-competes.false in (
+          search rules,
+          search rules,
+          w.at_30-is ∙ v.2 ∙ sym (count_same P p (out_critical (row u p) out)),
+          w.below-is ∙ v.3 ∙ series_same below_from u p (below_from_out (row u p) out),
+          w.held-is ∙ v.4 ∙ series_same held_from u p (held_from_out (row u p) out),
+        )
+    ]
 
 -- ---- all rows are counted
 
@@ -123,11 +119,10 @@ pub overflow_sub-result : goal.overflow_sub-result
 overflow_sub-result c =
     let last-count : (let u = rows_of c.args.cells.now in
         get_or c.loop-q.below 15 0 ≡ waiting u + critical u) =
-        let s = c in
-        let u = rows_of s.args.cells.now in
+        let u = rows_of c.args.cells.now in
         let l = c.loop-q in
-        let e : l.q ≡ length u = omega (arith, rows_length s.args.cells.now) in
-        ap (λ (a : List ℕ). get_or a 15 0) (l.invariant.3 ∙ ap (seriesOf below_from u) e) ∙ all_compete u s.requires in
+        let e : l.q ≡ length u = omega (arith, rows_length c.args.cells.now) in
+        ap (λ (a : List ℕ). get_or a 15 0) (l.invariant.3 ∙ ap (seriesOf below_from u) e) ∙ all_compete u c.requires in
     let at-30-is : c.loop-q.at_30 ≡ critical (rows_of c.args.cells.now) =
         let x = c.args.cells.now in
         let l = c.loop-q in
@@ -151,29 +146,25 @@ pub returns : goal.returns
 returns c =
     let last-count : (let u = rows_of c.args.cells.now in
         get_or c.loop-q.below 15 0 ≡ waiting u + critical u) =
-        let s = c in
-        let u = rows_of s.args.cells.now in
+        let u = rows_of c.args.cells.now in
         let l = c.loop-q in
-        let e : l.q ≡ length u = omega (arith, rows_length s.args.cells.now) in
-        ap (λ (a : List ℕ). get_or a 15 0) (l.invariant.3 ∙ ap (seriesOf below_from u) e) ∙ all_compete u s.requires in
+        let e : l.q ≡ length u = omega (arith, rows_length c.args.cells.now) in
+        ap (λ (a : List ℕ). get_or a 15 0) (l.invariant.3 ∙ ap (seriesOf below_from u) e) ∙ all_compete u c.requires in
     let at-30-is : c.loop-q.at_30 ≡ critical (rows_of c.args.cells.now) =
         let x = c.args.cells.now in
         let l = c.loop-q in
         let e : l.q ≡ length (rows_of x) = omega (arith, rows_length x) in
         l.invariant.2 ∙ ap (count (λ i. is_critical (row (rows_of x) i))) e in
-
-    let end = c in
-    let start = end in
-    let x = start.args.cells.now in
+    let x = c.args.cells.now in
     let t = rows_of x in
-    let at = end.loop-q in
+    let at = c.loop-q in
     let n = rows_length x in
     let e : at.q ≡ length t = omega (arith, n) in
     let b = at.invariant.3 ∙ ap (seriesOf below_from t) e in
     let h = at.invariant.4 ∙ ap (seriesOf held_from t) e in
     let w : get_or at.below 15 0 - at.at_30 ≡ waiting t = omega (arith, last-count, at-30-is) in
     rw (
-      census_counted t start.requires,
+      census_counted t c.requires,
       w,
       at-30-is,
       c.figures_in.ensures ∙ ap₂ figures_in (sym n) b ∙ below-figures t,

@@ -19,11 +19,10 @@ loop-i-init c =
 
 pub overflow_mul-b : goal.overflow_mul-b
 overflow_mul-b c =
-    let start = c in
     let i = c.loop-i.i in
-    let b = leb (i + 1) start.args.n in
-    let a = get_or start.args.a i 0 in
-    let small = start.requires.1 i c.loop-i-test.true in
+    let b = leb (i + 1) c.args.n in
+    let a = get_or c.args.a i 0 in
+    let small = c.requires.1 i c.loop-i-test.true in
     record { fits = omega (arith, times_bit b a _ c.reaches.ensures, cond_le b a 0 16 small (omega arith)) }
 
 pub loop-i-preserved : goal.loop-i-preserved

@@ -11,12 +11,10 @@ returns-then-not-competes c = rw (sym c.competes.ensures ∙ not-true _ c.if-not
 
 pub returns-then-r-members : goal.returns-then-r-members
 returns-then-r-members c =
-    let at = c in
-    let some = sym at.competes.ensures ∙ not-false _ at.if-not-competes.false-raw in
-    held_from_is at.args.r _ true some at.size-members.ensures c.if-r-members.true
+    let some = sym c.competes.ensures ∙ not-false _ c.if-not-competes.false-raw in
+    held_from_is c.args.r _ true some c.size-members.ensures c.if-r-members.true
 
 pub returns-else-r-members : goal.returns-else-r-members
 returns-else-r-members c =
-    let at = c in
-    let some = sym at.competes.ensures ∙ not-false _ at.if-not-competes.false-raw in
-    held_from_is at.args.r _ false some at.size-members.ensures c.if-r-members.false
+    let some = sym c.competes.ensures ∙ not-false _ c.if-not-competes.false-raw in
+    held_from_is c.args.r _ false some c.size-members.ensures c.if-r-members.false

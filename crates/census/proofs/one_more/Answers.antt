@@ -15,10 +15,9 @@ loop-i-init c = (search rules, filled_start (more_at c.args.a c.args.from) 16)
 
 pub overflow_add-b : goal.overflow_add-b
 overflow_add-b c =
-    let start = c in
     let i = c.loop-i.i in
-    let small = start.requires.1 i c.loop-i-test.true in
-    record { fits = omega (arith, small, c.reaches.ensures, bit_le_one (leb start.args.from i)) }
+    let small = c.requires.1 i c.loop-i-test.true in
+    record { fits = omega (arith, small, c.reaches.ensures, bit_le_one (leb c.args.from i)) }
 
 pub loop-i-preserved : goal.loop-i-preserved
 loop-i-preserved c =

@@ -4,7 +4,7 @@ use native.Mathlib.Omega.{arith}
 use native.Mathlib.Numerals.{add-one}
 use mathlib.Core.Path.{◌≡◌, refl, sym, ap, ◌∙◌}
 use mathlib.Core.List.{List, [], ◌∷◌}
-use Prim.Native.Nat.{ℕ, suc, ◌+◌, ◌-◌, ◌*◌, ◌≤◌}
+use Prim.Native.Nat.{ℕ, suc, ◌+◌, ◌*◌, ◌≤◌}
 use lib.ListN.{length, get_or, take}
 use lib.Seq.{take-suc, take-length, length-take-le}
 use Rattle.machine.specs.Bytes.{bytes_of}
@@ -20,7 +20,8 @@ next : (words bytes : List ℕ) (i : ℕ) → suc i ≤ length words
 next words bytes i h =
     let s = bytes_of (take i words) in
     let w = bytes_of (get_or words i 0 ∷ []) in
-    let e : 4 * i ≡ 0 + length s = omega (arith, length_bytes_of (take i words), length-take-le i words (omega arith)) in
+    let e : 4 * i ≡ 0 + length s =
+    omega (arith, length_bytes_of (take i words), length-take-le i words (omega arith)) in
     let joined = sym (bytes_of_append (take i words) (get_or words i 0 ∷ [])) in
     ap (λ (k : ℕ). placed (placed bytes 0 s) k w) e
     ∙ placed_then bytes 0 s w (omega arith)
@@ -31,38 +32,17 @@ pub loop-i-init : goal.loop-i-init
 unfolding bytes_of
 loop-i-init c = (omega arith, refl, sym (placed_none c.args.bytes.now 0))
 
-pub overflow_mul-i : goal.overflow_mul-i
-overflow_mul-i c = omega arith
-
-pub offset_bounds-words-i : goal.offset_bounds-words-i
-offset_bounds-words-i c = omega arith
-
-pub bounds-words-i : goal.bounds-words-i
-bounds-words-i c = omega arith
-
-pub put_word-requires : goal.put_word-requires
-put_word-requires c = omega arith
-
-pub overflow_add-i : goal.overflow_add-i
-overflow_add-i c = omega arith
-
-pub loop-i-smaller : goal.loop-i-smaller
-loop-i-smaller c = omega arith
-
 pub loop-i-preserved : goal.loop-i-preserved
 loop-i-preserved c =
     let a = c.args in
     let l = c.loop-i in
     let i = l.i in (
       omega arith,
-      c.put_word.auto.0 ∙ l.invariant.1,
+      c.put_word.auto.bytes ∙ l.invariant.1,
       c.put_word.ensures
           ∙ ap (λ (d : List ℕ). placed d (4 * i) (bytes_of (get_or a.words.now i 0 ∷ []))) l.invariant.2
           ∙ next a.words.now a.bytes.now i (omega arith),
     )
-
-pub shape_of-bytes : goal.shape_of-bytes
-shape_of-bytes c = c.loop-i.invariant.1
 
 pub returns : goal.returns
 returns c =

@@ -1,16 +1,11 @@
 -- `octets::pack` meets its contract. The invariant of its loop: the bytes of the first i words stand at the start.
 -- Assumes nothing.
-use native.Mathlib.Omega.{arith}
-use native.Mathlib.Numerals.{add-one}
-use mathlib.Core.Path.{◌≡◌, refl, sym, ap, ◌∙◌}
-use mathlib.Core.List.{List, [], ◌∷◌}
-use Prim.Native.Nat.{ℕ, suc, ◌+◌, ◌-◌, ◌*◌, ◌≤◌}
-use lib.ListN.{length, get_or, take}
-use lib.Seq.{take-suc, take-length, length-take-le}
+use mathlib.Core.Path.{◌≡◌}
+use mathlib.Core.List.{List}
+use Prim.Native.Nat.{ℕ, ◌-◌, ◌≤◌}
+use lib.ListN.{length, take}
 use Rattle.machine.specs.Bytes.{bytes_of}
 use Rattle.counting.specs.Placing.{placed}
-use Rattle.counting.proofs.PlacingLaws.{placed_none, placed_then}
-use Rattle.octets.proofs.ByteLaws.{bytes_of_append, length_bytes_of}
 use Rattle.octets.proofs.pack.Given as goal
 
 -- the bytes after i words
@@ -18,7 +13,10 @@ abbrev pub after : List ℕ → List ℕ → ℕ → List ℕ
 after words bytes i = placed bytes 0 (bytes_of (take i words))
 
 abbrev pub invariant-loop-i : goal.invariant-loop-i
-invariant-loop-i l = (l.i ≤ length l.words) × (length l.bytes ≡ length l.initial.bytes) × (l.bytes ≡ after l.words l.initial.bytes l.i)
+invariant-loop-i l =
+    (l.i ≤ length l.words)
+    × (length l.bytes ≡ length l.initial.bytes)
+    × (l.bytes ≡ after l.words l.initial.bytes l.i)
 
 abbrev pub decreases-loop-i : goal.decreases-loop-i
 decreases-loop-i l = length l.words - l.i

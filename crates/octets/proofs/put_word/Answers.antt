@@ -1,5 +1,4 @@
 -- `octets::put_word` meets its contract: four stores in a row. Assumes nothing.
-use borrow.Author.Rules.{rules}
 use native.Mathlib.Omega.{arith}
 use lib.ListN.{length-set}
 use Rattle.counting.proofs.PlacingLaws.{placed_four}

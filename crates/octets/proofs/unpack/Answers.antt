@@ -1,12 +1,12 @@
 -- `octets::unpack` meets its contract. The invariant of its loop: the first i words stand at the start.
 -- Assumes nothing.
 use native.Mathlib.Omega.{arith}
-use mathlib.Core.Path.{◌≡◌, refl, ap, ◌∙◌}
+use mathlib.Core.Path.{refl, ap, ◌∙◌}
 use mathlib.Core.List.{List}
-use Prim.Native.Nat.{ℕ, ◌+◌, ◌-◌, ◌≤◌}
-use lib.ListN.{length, set, length-set}
+use Prim.Native.Nat.{ℕ, ◌+◌}
+use lib.ListN.{set, length-set}
 use Rattle.machine.specs.Bytes.{words_in}
-use Rattle.counting.proofs.PlacingLaws.{begun, begun_start, begun-next, begun_end}
+use Rattle.counting.proofs.PlacingLaws.{begun_start, begun-next, begun_end}
 use Rattle.octets.proofs.ByteLaws.{length_words_in}
 use Rattle.octets.proofs.unpack.Goals as goal
 
@@ -14,21 +14,6 @@ pub loop-i-init : goal.loop-i-init
 loop-i-init c =
     let a = c.args in
     (omega arith, refl, begun_start a.words.now 0 (words_in a.bytes.now))
-
-pub word_at-requires : goal.word_at-requires
-word_at-requires c = omega arith
-
-pub offset_bounds-words-i : goal.offset_bounds-words-i
-offset_bounds-words-i c = omega arith
-
-pub bounds-words-i : goal.bounds-words-i
-bounds-words-i c = omega arith
-
-pub overflow_add-i : goal.overflow_add-i
-overflow_add-i c = omega arith
-
-pub loop-i-smaller : goal.loop-i-smaller
-loop-i-smaller c = omega arith
 
 pub loop-i-preserved : goal.loop-i-preserved
 loop-i-preserved c =
@@ -43,9 +28,6 @@ loop-i-preserved c =
       length-set l.words i c.word_at.result ∙ l.invariant.1,
       ap (λ (d : List ℕ). set d i c.word_at.result) l.invariant.2 ∙ next,
     )
-
-pub shape_of-words : goal.shape_of-words
-shape_of-words c = c.loop-i.invariant.1
 
 pub returns : goal.returns
 returns c =

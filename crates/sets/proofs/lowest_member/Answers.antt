@@ -1,6 +1,5 @@
 -- `sets::lowest_member` meets its contract. Assumes nothing.
 use mathlib.Core.Path.{sym, ap, ◌∙◌}
-use borrow.Author.Rules.{rules}
 use Rattle.sets.specs.Answers.{lowest_of}
 use Rattle.sets.proofs.LowestLaws.{lowest_zero}
 use Rattle.sets.proofs.lowest_member.Goals as goal

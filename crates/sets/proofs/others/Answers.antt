@@ -3,7 +3,6 @@ use Prim.Native.Nat.{ℕ, ◌+◌, ◌*◌, ◌^◌, ◌%◌, ◌≤◌}
 use mathlib.Core.Path.{◌≡◌}
 use native.Mathlib.Omega.{arith}
 use lib.Pow.{pow_mono}
-use borrow.Author.Rules.{rules}
 use Rattle.counting.specs.Sets.{others}
 use Rattle.counting.proofs.BitLaws.{one_shl, others_is}
 use Rattle.sets.specs.Bounds.{Among}

@@ -1,7 +1,6 @@
 -- `words::formed` meets its contract. Assumes nothing.
 use mathlib.Core.Path.{ap}
 use mathlib.Core.Bool.{Bool, ◌&&◌}
-use borrow.Author.Rules.{rules}
 use Rattle.machine.specs.Words.{spare_clear}
 use Rattle.words.proofs.formed.Goals as goal
 

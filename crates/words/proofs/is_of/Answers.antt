@@ -6,7 +6,6 @@ use mathlib.Core.Bool.{true, ◌&&◌, and-eq-true_iff}
 use native.Mathlib.Nat.{mul-mod_right}
 use native.Mathlib.Omega.{arith}
 use lib.Dec.{eqb, leb}
-use borrow.Author.Rules.{rules}
 use borrow.Author.Tests.{eqb-true, eq-eqb, leb-true}
 use Rattle.counting.proofs.TestLaws.{same_test}
 use Rattle.machine.specs.Words.{STAY, CANCEL, is_kind, kind_of, spare_clear, formed}

@@ -10,8 +10,7 @@ use Rattle.cells.proofs.access.cells_of.Goals as goal
 pub returns : goal.returns
 unfolding up_to
 returns c =
-    let start = c in
-    let r = start.args.r in
+    let r = c.args.r in
     ap
     (λ (l : List ℕ).
     r.location ∷ r.act ∷ r.bb ∷ r.level ∷ r.est ∷ r.lis ∷ r.ahead ∷ r.turn ∷ l)

@@ -4,7 +4,6 @@ use lib.ListN.{get_or}
 use mathlib.Core.List.{[]}
 use Rattle.machine.specs.declared.Row.{Row}
 use Rattle.cells.proofs.ViewLaws.{rows_row, row_count}
-use borrow.Author.Rules.{rules}
 use Rattle.cells.proofs.access.pass_at.Goals as goal
 
 pub returns : goal.returns

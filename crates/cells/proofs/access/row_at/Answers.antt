@@ -1,7 +1,6 @@
 -- `access::row_at` meets its contract. Assumes nothing.
 use mathlib.Core.Path.{sym, ◌∙◌}
 use Rattle.cells.proofs.ViewLaws.{rows_row}
-use borrow.Author.Rules.{rules}
 use Rattle.cells.proofs.access.row_at.Goals as goal
 
 pub returns : goal.returns

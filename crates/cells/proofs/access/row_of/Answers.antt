@@ -1,7 +1,6 @@
 -- `access::row_of` meets its contract. Assumes nothing.
 use mathlib.Core.Path.{refl}
 use Rattle.counting.specs.Ranges.{up_to}
-use borrow.Author.Rules.{rules}
 use Rattle.cells.proofs.access.row_of.Goals as goal
 
 pub returns : goal.returns

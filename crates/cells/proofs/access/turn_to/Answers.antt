@@ -5,7 +5,6 @@ use Rattle.machine.specs.Rows.{with_turn}
 use Rattle.machine.specs.Steps.{turned}
 use Rattle.machine.specs.declared.Row.{Row}
 use Rattle.cells.specs.View.{rows_of}
-use borrow.Author.Rules.{rules}
 use Rattle.cells.proofs.access.turn_to.Goals as goal
 
 pub returns : goal.returns

@@ -1,5 +1,5 @@
 -- `checks::check` meets its contract. Assumes nothing.
-use Prim.Native.Nat.{ℕ, ◌≤◌, ◌-◌}
+use Prim.Native.Nat.{ℕ}
 use mathlib.Core.Path.{◌≡◌, ap, sym, subst, ◌∙◌}
 use mathlib.Core.Bool.{Bool, false}
 use native.Mathlib.Omega.{arith}
@@ -9,7 +9,7 @@ use borrow.Author.Rules.{rules}
 use borrow.Author.Tests.{not-true, not-false}
 use Rattle.machine.specs.Tables.{row, sound_from}
 use Rattle.machine.specs.declared.Row.{Row}
-use Rattle.rows.specs.Bounds.{Full, RowFits}
+use Rattle.rows.specs.Bounds.{RowFits}
 use Rattle.rows.specs.Passes.{clear_past, Joined}
 use Rattle.cells.specs.View.{rows_of}
 use Rattle.cells.proofs.ViewLaws.{rows_length}

@@ -1,10 +1,10 @@
 -- `making::fresh` meets its contract. Assumes nothing.
-use Prim.Native.Nat.{◌+◌, ◌-◌, ◌≤◌}
-use mathlib.Core.Path.{◌≡◌, refl, sym, ◌∙◌}
+use Prim.Native.Nat.{◌+◌}
+use mathlib.Core.Path.{refl, sym, ◌∙◌}
 use native.Mathlib.Omega.{arith}
-use lib.ListN.{length, set, replicate, length-replicate, get_or-replicate}
+use lib.ListN.{set, replicate, length-replicate, get_or-replicate}
 use borrow.Author.Rules.{rules}
-use Rattle.counting.proofs.PlacingLaws.{begun, begun_start, begun-next, begun_end}
+use Rattle.counting.proofs.PlacingLaws.{begun_start, begun-next, begun_end}
 use Rattle.machine.specs.Rows.{idle, blank}
 use Rattle.machine.specs.Tables.{fresh_table}
 use Rattle.cells.proofs.FreshLaws.{pad_handed, made_table, made_none, size_left}

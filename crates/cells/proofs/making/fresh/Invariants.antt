@@ -1,13 +1,10 @@
 -- `making::fresh` meets its contract. Assumes nothing.
-use Prim.Native.Nat.{◌+◌, ◌-◌, ◌≤◌}
-use mathlib.Core.Path.{◌≡◌, refl, sym, ◌∙◌}
-use native.Mathlib.Omega.{arith}
-use lib.ListN.{length, set, replicate, length-replicate, get_or-replicate}
-use borrow.Author.Rules.{rules}
-use Rattle.counting.proofs.PlacingLaws.{begun, begun_start, begun-next, begun_end}
-use Rattle.machine.specs.Rows.{idle, blank}
+use Prim.Native.Nat.{◌-◌, ◌≤◌}
+use mathlib.Core.Path.{◌≡◌}
+use lib.ListN.{length, replicate}
+use Rattle.counting.proofs.PlacingLaws.{begun}
+use Rattle.machine.specs.Rows.{blank}
 use Rattle.machine.specs.Tables.{fresh_table}
-use Rattle.cells.proofs.FreshLaws.{pad_handed, made_table, made_none, size_left}
 use Rattle.cells.proofs.making.fresh.Given as goal
 
 abbrev pub invariant-loop-q : goal.invariant-loop-q

@@ -1,10 +1,10 @@
 -- `making::make_fresh` meets its contract. Assumes nothing.
-use Prim.Native.Nat.{◌+◌, ◌-◌, ◌≤◌}
-use mathlib.Core.Path.{◌≡◌, sym, ◌∙◌}
+use Prim.Native.Nat.{◌+◌}
+use mathlib.Core.Path.{sym, ◌∙◌}
 use native.Mathlib.Omega.{arith}
 use lib.ListN.{length, set, length-replicate, get_or-replicate}
 use borrow.Author.Rules.{rules}
-use Rattle.counting.proofs.PlacingLaws.{begun, begun_start, begun-next, begun_end, placed_whole}
+use Rattle.counting.proofs.PlacingLaws.{begun_start, begun-next, begun_end, placed_whole}
 use Rattle.machine.specs.Rows.{idle, blank}
 use Rattle.machine.specs.Tables.{fresh_table}
 use Rattle.cells.specs.View.{rows_of}

@@ -1,5 +1,5 @@
 -- `sweeps::competitors` meets its contract: the set of the rows passed, at each turn of the loop. Assumes nothing.
-use Prim.Native.Nat.{ℕ, ◌+◌, ◌*◌, ◌^◌, ◌%◌, ◌≤◌, ◌<◌, ◌-◌}
+use Prim.Native.Nat.{ℕ, ◌+◌, ◌*◌, ◌^◌, ◌%◌, ◌<◌}
 use mathlib.Core.Path.{◌≡◌, ap, sym, subst, ◌∙◌}
 use native.Mathlib.Omega.{arith}
 use lib.ListN.{length}
@@ -19,8 +19,7 @@ loop-q-init c = search rules
 
 -- what is added at row q
 digit-is : (c : goal.After-competes-on)
-    → let l = c in
-    bit c.competes-on.result ≡ bit (competes (row (rows_of l.args.cells.now) l.loop-q.q))
+    → bit c.competes-on.result ≡ bit (competes (row (rows_of c.args.cells.now) c.loop-q.q))
 digit-is c = ap bit (c.competes-on.ensures ∙ ap competes c.row_at.ensures)
 
 pub overflow_add-s : goal.overflow_add-s

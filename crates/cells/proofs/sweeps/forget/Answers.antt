@@ -1,11 +1,11 @@
 -- `sweeps::forget` meets its contract: the rows passed have forgotten p, at each turn of the loop. Assumes nothing.
-use Prim.Native.Nat.{◌+◌, ◌-◌, ◌≤◌, ◌<◌}
-use mathlib.Core.Path.{◌≡◌, sym, ◌∙◌}
+use Prim.Native.Nat.{◌+◌}
+use mathlib.Core.Path.{sym, ◌∙◌}
 use mathlib.Core.List.{map}
 use native.Mathlib.Omega.{arith}
-use lib.ListN.{length, length-map, get_or-map}
+use lib.ListN.{length-map, get_or-map}
 use borrow.Author.Rules.{rules}
-use Rattle.counting.proofs.PlacingLaws.{begun, begun_start, begun-next, begun-rest, begun_end, placed_whole}
+use Rattle.counting.proofs.PlacingLaws.{begun_start, begun-next, begun-rest, begun_end, placed_whole}
 use Rattle.machine.specs.Rows.{blank}
 use Rattle.machine.specs.Tables.{row}
 use Rattle.machine.specs.Steps.{forgets}

@@ -1,16 +1,11 @@
 -- `sweeps::forget` meets its contract: the rows passed have forgotten p, at each turn of the loop. Assumes nothing.
-use Prim.Native.Nat.{◌+◌, ◌-◌, ◌≤◌, ◌<◌}
-use mathlib.Core.Path.{◌≡◌, sym, ◌∙◌}
+use Prim.Native.Nat.{◌-◌, ◌≤◌, ◌<◌}
+use mathlib.Core.Path.{◌≡◌}
 use mathlib.Core.List.{map}
-use native.Mathlib.Omega.{arith}
-use lib.ListN.{length, length-map, get_or-map}
-use borrow.Author.Rules.{rules}
-use Rattle.counting.proofs.PlacingLaws.{begun, begun_start, begun-next, begun-rest, begun_end, placed_whole}
-use Rattle.machine.specs.Rows.{blank}
-use Rattle.machine.specs.Tables.{row}
+use lib.ListN.{length}
+use Rattle.counting.proofs.PlacingLaws.{begun}
 use Rattle.machine.specs.Steps.{forgets}
 use Rattle.cells.specs.View.{rows_of}
-use Rattle.cells.proofs.ViewLaws.{rows_length}
 use Rattle.cells.proofs.sweeps.forget.Given as goal
 
 abbrev pub invariant-loop-q : goal.invariant-loop-q

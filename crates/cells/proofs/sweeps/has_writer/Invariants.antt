@@ -1,17 +1,13 @@
 -- `sweeps::has_writer` meets its contract: none of the rows passed is at 24 with the level, at each turn of the loop.
 -- Assumes nothing.
 use Prim.Native.Nat.{◌≤◌, ◌-◌}
-use mathlib.Core.Path.{◌≡◌, refl, ap, sym, ◌∙◌}
+use mathlib.Core.Path.{◌≡◌}
 use mathlib.Core.Bool.{false}
-use native.Mathlib.Omega.{arith}
 use lib.ListN.{length}
-use borrow.Author.Rules.{rules}
 use Rattle.counting.specs.Ranges.{some}
-use Rattle.counting.proofs.RangeLaws.{none-next, one_some}
 use Rattle.machine.specs.Tables.{row}
 use Rattle.machine.specs.Settings.{writes_turn}
 use Rattle.cells.specs.View.{rows_of}
-use Rattle.cells.proofs.ViewLaws.{rows_length}
 use Rattle.cells.proofs.sweeps.has_writer.Given as goal
 
 abbrev pub invariant-loop-q : goal.invariant-loop-q

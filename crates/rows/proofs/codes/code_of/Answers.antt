@@ -2,7 +2,6 @@
 use Prim.Native.Nat.{◌-◌, ◌%◌}
 use mathlib.Core.Path.{refl}
 use native.Mathlib.Omega.{arith}
-use borrow.Author.Rules.{rules}
 use Rattle.counting.proofs.TestLaws.{every}
 use Rattle.rows.proofs.CodeLaws.{coded_from, coded_to, codes_from, code_in}
 use Rattle.rows.proofs.codes.code_of.Goals as goal
@@ -20,6 +19,6 @@ returns c =
     let to = coded_to l s.requires in
     let v = c.if-at-lt16.codes in
     elim c.if-at-lt16.branch [
-      then-at-lt16 w ↦ let h = w.if-at-lt16.true in code_in 10 ((l - 10) % 16) l v _ (omega arith) (omega arith) w.codes-is refl
+      | then-at-lt16 w ↦ let h = w.if-at-lt16.true in code_in 10 ((l - 10) % 16) l v _ (omega arith) (omega arith) w.codes-is refl
       | else-at-lt16 w ↦ let h = w.if-at-lt16.false in code_in 26 ((l - 10) % 16) l v _ (omega arith) (omega arith) w.codes-is refl
     ]

@@ -2,7 +2,6 @@
 use mathlib.Core.Path.{refl, ap, ◌∙◌}
 use mathlib.Core.Bool.{Bool, ◌&&◌, ◌||◌, not}
 use lib.Dec.{eqb}
-use borrow.Author.Rules.{rules}
 use Rattle.machine.specs.Words.{STAY, COME, FLICKER, GO, LOOK, CANCEL}
 use Rattle.rows.proofs.AllowedLaws.{allowed_with, allowed_plain, only_stay}
 use Rattle.rows.proofs.kinds.allowed.Goals as goal

@@ -1,5 +1,4 @@
 -- `kinds::argument_fits` meets its contract. Assumes nothing.
-use borrow.Author.Rules.{rules}
 use borrow.Author.Tests.{eq-eqb, ne_eqb}
 use Rattle.machine.specs.Steps.{argument_fits}
 use Rattle.rows.proofs.kinds.argument_fits.Goals as goal

@@ -1,6 +1,5 @@
 -- `kinds::looks` meets its contract: a lis that has a member is not empty. Assumes nothing.
 use mathlib.Core.Path.{sym, ◌∙◌}
-use borrow.Author.Rules.{rules}
 use borrow.Author.Tests.{not-true, not-false}
 use Rattle.rows.proofs.AllowedLaws.{looks-not, looks_so}
 use Rattle.rows.proofs.kinds.looks.Goals as goal

@@ -1,6 +1,5 @@
 -- `masks::mark` meets its contract: no bit of the mask is lost. Assumes nothing.
 use native.Mathlib.Omega.{arith}
-use borrow.Author.Rules.{rules}
 use Rattle.rows.proofs.MaskLaws.{location_low, mark_exact}
 use Rattle.rows.proofs.masks.mark.Goals as goal
 

@@ -1,6 +1,5 @@
 -- `masks::place` meets its contract: ALLOWED says what `allowed` says. Assumes nothing.
 use Prim.Native.Nat.{◌<◌}
-use borrow.Author.Rules.{rules}
 use Rattle.counting.proofs.TestLaws.{every}
 use Rattle.machine.specs.Steps.{allowed}
 use Rattle.rows.specs.Masks.{allowed_at}

@@ -1,5 +1,4 @@
 -- `moves::asks_turn` meets its contract. Assumes nothing.
-use borrow.Author.Rules.{rules}
 use mathlib.Core.Path.{refl}
 use Rattle.rows.proofs.moves.asks_turn.Goals as goal
 

@@ -1,5 +1,4 @@
 -- `moves::entered` meets its contract. Assumes nothing.
-use borrow.Author.Rules.{rules}
 use Rattle.machine.specs.Steps.{entered}
 use Rattle.rows.proofs.moves.entered.Goals as goal
 

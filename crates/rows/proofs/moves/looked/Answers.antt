@@ -1,5 +1,4 @@
 -- `moves::looked` meets its contract. Assumes nothing.
-use borrow.Author.Rules.{rules}
 use borrow.Author.Tests.{eq-eqb, ne_eqb}
 use Rattle.machine.specs.Steps.{looked}
 use Rattle.rows.proofs.moves.looked.Goals as goal

@@ -1,5 +1,4 @@
 -- `moves::outrun` meets its contract. Assumes nothing.
-use borrow.Author.Rules.{rules}
 use Rattle.rows.proofs.moves.outrun.Goals as goal
 
 pub returns : goal.returns

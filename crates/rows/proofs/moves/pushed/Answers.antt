@@ -1,5 +1,4 @@
 -- `moves::pushed` meets its contract. Assumes nothing.
-use borrow.Author.Rules.{rules}
 use Rattle.machine.specs.Steps.{pushed}
 use Rattle.rows.proofs.moves.pushed.Goals as goal
 

@@ -1,7 +1,6 @@
 -- `moves::reconsidered` meets its contract: the paper's four cases, by the tests that led to each. Assumes nothing.
 use Prim.Native.Nat.{◌≤◌, ◌<◌}
 use native.Mathlib.Omega.{arith}
-use borrow.Author.Rules.{rules}
 use borrow.Author.Tests.{lt-ltb, le-ltb, eq-eqb, ne_eqb}
 use Rattle.counting.specs.Sets.{size}
 use Rattle.machine.specs.Steps.{reconsidered}

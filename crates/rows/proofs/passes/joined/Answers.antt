@@ -1,11 +1,11 @@
 -- `passes::joined` meets its contract: each count is written once. Assumes nothing.
-use Prim.Native.Nat.{ℕ, ◌-◌, ◌≤◌, ◌<◌}
+use Prim.Native.Nat.{ℕ}
 use mathlib.Core.Path.{◌≡◌, ap, ◌∙◌}
 use mathlib.Core.List.{List}
 use native.Mathlib.Omega.{arith}
 use lib.ListN.{get_or}
 use borrow.Author.Rules.{rules}
-use Rattle.counting.proofs.RangeLaws.{up_to_at, filled, filled_start, filled_next, filled_end}
+use Rattle.counting.proofs.RangeLaws.{up_to_at, filled_start, filled_next, filled_end}
 use Rattle.rows.proofs.PassLaws.{joined_at, low_next}
 use Rattle.rows.proofs.passes.joined.Goals as goal
 

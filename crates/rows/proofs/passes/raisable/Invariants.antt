@@ -1,11 +1,9 @@
 -- `passes::raisable` meets its contract: a count at its limit shows in what the loop joins. Assumes nothing.
 use Prim.Native.Nat.{ℕ, ◌-◌, ◌≤◌, ◌<◌}
-use mathlib.Core.Path.{◌≡◌, subst}
-use native.Mathlib.Omega.{arith}
+use mathlib.Core.Path.{◌≡◌}
 use lib.Dec.{ltb}
 use lib.ListN.{get_or}
-use borrow.Author.Rules.{rules}
-use Rattle.rows.proofs.PassLaws.{noneOf, none_yet, one_more, low_next, full_at, raisable_by}
+use Rattle.rows.proofs.PassLaws.{noneOf, full_at}
 use Rattle.rows.proofs.passes.raisable.Given as goal
 
 abbrev pub invariant-loop-i : goal.invariant-loop-i

@@ -1,10 +1,10 @@
 -- `passes::raised` meets its contract: each count is written once. Assumes nothing.
-use Prim.Native.Nat.{ℕ, ◌+◌, ◌-◌, ◌≤◌}
-use mathlib.Core.Path.{◌≡◌, ap, ◌∙◌}
+use Prim.Native.Nat.{ℕ, ◌+◌}
+use mathlib.Core.Path.{ap, ◌∙◌}
 use native.Mathlib.Omega.{arith}
 use lib.ListN.{get_or}
 use borrow.Author.Rules.{rules}
-use Rattle.counting.proofs.RangeLaws.{filled, filled_start, filled_next, filled_end}
+use Rattle.counting.proofs.RangeLaws.{filled_start, filled_next, filled_end}
 use Rattle.machine.specs.Steps.{count_after, raised}
 use Rattle.machine.proofs.PassLaws.{raisable_at}
 use Rattle.rows.proofs.PassLaws.{digit}

@@ -1,12 +1,10 @@
 -- `passes::rest_clear` meets its contract: a count that is not 0 shows in what the loop joins. Assumes nothing.
-use Prim.Native.Nat.{ℕ, ◌*◌, ◌-◌, ◌≤◌, ◌<◌}
-use mathlib.Core.Path.{◌≡◌, ap, ◌∙◌, subst}
-use native.Mathlib.Omega.{arith}
+use Prim.Native.Nat.{ℕ, ◌-◌, ◌≤◌, ◌<◌}
+use mathlib.Core.Path.{◌≡◌}
 use lib.Dec.{ltb}
 use lib.ListN.{get_or}
-use borrow.Author.Rules.{rules}
 use Rattle.rows.specs.Passes.{past_at}
-use Rattle.rows.proofs.PassLaws.{noneOf, none_yet, one_more, low_next, reaches}
+use Rattle.rows.proofs.PassLaws.{noneOf}
 use Rattle.rows.proofs.passes.rest_clear.Given as goal
 
 abbrev pub invariant-loop-i : goal.invariant-loop-i

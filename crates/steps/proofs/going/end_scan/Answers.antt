@@ -11,7 +11,6 @@ use Rattle.steps.proofs.going.end_scan.Goals as goal
 pub returns : goal.returns
 unfolding cell_at
 returns c =
-    let s = c in
-    goes_at 22 s.requires.there refl
+    goes_at 22 c.requires.there refl
     (becomes_as c.go_to.ensures
-    (sym (gone_22 (rows_of s.args.cells.now) s.args.p s.requires.there)))
+    (sym (gone_22 (rows_of c.args.cells.now) c.args.p c.requires.there)))

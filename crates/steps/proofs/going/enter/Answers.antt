@@ -15,48 +15,37 @@ use Rattle.steps.proofs.going.enter.Goals as goal
 
 pub returns-then-not-raisable : goal.returns-then-not-raisable
 returns-then-not-raisable c =
-    let own_room : (let r = c in
-        c.raisable.result ≡ raisable r.competitors-c.result r.row_at-r.result.passes) =
+    let own_room : (c.raisable.result ≡ raisable c.competitors-c.result c.row_at-r.result.passes) =
         c.raisable.ensures in
-    let room-is : (let s = c in
-        let t = rows_of s.args.cells.now in
-        c.raisable.result ≡ raisable (competitors t) (row t s.args.p).passes) =
-        let r = c in
+    let room-is : (let t = rows_of c.args.cells.now in
+        c.raisable.result ≡ raisable (competitors t) (row t c.args.p).passes) =
         own_room
-        ∙ ap₂ (λ (m : ℕ) (x : Row). raisable m x.passes) r.competitors-c.ensures r.row_at-r.ensures in
-
-    let s = c in
-    enters_full s.args.cells.now s.args.p s.requires.there
+        ∙ ap₂ (λ (m : ℕ) (x : Row). raisable m x.passes) c.competitors-c.ensures c.row_at-r.ensures in
+    enters_full c.args.cells.now c.args.p c.requires.there
     (sym room-is ∙ not-true _ c.if-not-raisable.true-raw)
 
 pub entered-requires : goal.entered-requires
 entered-requires c =
-    let own_room : (let r = c in
-        c.raisable.result ≡ raisable r.competitors-c.result r.row_at-r.result.passes) =
+    let own_room : (c.raisable.result ≡ raisable c.competitors-c.result c.row_at-r.result.passes) =
         c.raisable.ensures in
- (search rules, sym own_room ∙ not-false _ c.if-not-raisable.false-raw)
+ record {
+  among = search rules;
+  passes_value = sym own_room ∙ not-false _ c.if-not-raisable.false-raw;
+}
 
 pub returns : goal.returns
 unfolding cell_at
 returns c =
-    let own_room : (let r = c in
-        c.raisable.result ≡ raisable r.competitors-c.result r.row_at-r.result.passes) =
+    let own_room : (c.raisable.result ≡ raisable c.competitors-c.result c.row_at-r.result.passes) =
         c.raisable.ensures in
-    let room-is : (let s = c in
-        let t = rows_of s.args.cells.now in
-        c.raisable.result ≡ raisable (competitors t) (row t s.args.p).passes) =
-        let r = c in
+    let room-is : (let t = rows_of c.args.cells.now in
+        c.raisable.result ≡ raisable (competitors t) (row t c.args.p).passes) =
         own_room
-        ∙ ap₂ (λ (m : ℕ) (x : Row). raisable m x.passes) r.competitors-c.ensures r.row_at-r.ensures in
-
-    let put = c in
-    let left = put in
-    let r = left in
-    let s = r in
-    let competing = r.competitors-c.ensures in
-    enters_moved s.args.cells.now s.args.p s.requires.there
-    (sym room-is ∙ not-false _ left.if-not-raisable.false-raw)
-    (goes_at 20 s.requires.there c.act_written.ensures
-    (becomes_as put.put_row.ensures
-    (put_entered s.args.cells.now s.args.p _ _ r.row_at-r.ensures _ s.requires.there competing
-    put.entered.ensures)))
+        ∙ ap₂ (λ (m : ℕ) (x : Row). raisable m x.passes) c.competitors-c.ensures c.row_at-r.ensures in
+    let competing = c.competitors-c.ensures in
+    enters_moved c.args.cells.now c.args.p c.requires.there
+    (sym room-is ∙ not-false _ c.if-not-raisable.false-raw)
+    (goes_at 20 c.requires.there c.act_written.ensures
+    (becomes_as c.put_row.ensures
+    (put_entered c.args.cells.now c.args.p _ _ c.row_at-r.ensures _ c.requires.there competing
+    c.entered.ensures)))

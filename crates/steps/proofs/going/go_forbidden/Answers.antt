@@ -21,25 +21,21 @@ pub returns-then-not-to_push : goal.returns-then-not-to_push
 returns-then-not-to_push c =
     let inside : c.args.p < length (rows_of c.args.cells.now) =
         subst (λ (n : ℕ). c.args.p < n) (sym (rows_length c.args.cells.now)) c.requires.one in
-
-    let s = c in
-    let a = s.args in
+    let a = c.args in
     let row_is = c.row_at-r.ensures in
     let away = sym (ap to_push row_is) ∙ sym c.to_push.ensures ∙ not-true _ c.if-not-to_push.true-raw in
     let one = c.if-settings-ne-ONE_WRITER.false in
-    sym (forbids-away (rows_of a.cells.now) a.p a.settings one inside)
+    sym (forbids-away (rows_of a.cells.now) a.p a.settings one inside away)
 
 pub returns : goal.returns
 returns c =
     let inside : c.args.p < length (rows_of c.args.cells.now) =
         subst (λ (n : ℕ). c.args.p < n) (sym (rows_length c.args.cells.now)) c.requires.one in
-
-    let s = c in
-    let a = s.args in
+    let a = c.args in
     let t = rows_of a.cells.now in
     let row_is = c.row_at-r.ensures in
     let push = c.to_push.ensures in
     let goes = sym (ap to_push row_is) ∙ sym push ∙ not-false _ c.if-not-to_push.false-raw in
     c.has_writer.ensures
     ∙ ap (λ (r : Row). has_writer r.level t) row_is
-    ∙ sym (forbids-by t a.p a.settings c.if-settings-ne-ONE_WRITER.false inside)
+    ∙ sym (forbids-by t a.p a.settings c.if-settings-ne-ONE_WRITER.false inside goes)

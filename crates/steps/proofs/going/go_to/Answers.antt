@@ -9,8 +9,7 @@ use Rattle.steps.proofs.going.go_to.Goals as goal
 
 pub returns : goal.returns
 returns c =
-    let r = c in
-    let a = r.args in
+    let a = c.args in
     becomes_as c.put_row.ensures
     (ap (set (rows_of a.cells.now) a.p)
-    (c.moved_to.ensures ∙ ap (with_location a.l) r.row_at-r.ensures))
+    (c.moved_to.ensures ∙ ap (with_location a.l) c.row_at-r.ensures))

@@ -12,15 +12,13 @@ use Rattle.steps.proofs.going.leave.Goals as goal
 pub returns : goal.returns
 unfolding cell_at
 returns c =
-    let f = c in
-    let put = f.go_to.ensures in
-    let s = f in
-    let left = f.forget.ensures in
-    goes_at 30 s.requires.there c.with_event.ensures
+    let put = c.go_to.ensures in
+    let left = c.forget.ensures in
+    goes_at 30 c.requires.there c.with_event.ensures
     (record {
       rows_are =
           left.rows_are
-          ∙ ap (map (forgets s.args.p)) put.rows_are
-          ∙ sym (gone_30 (rows_of s.args.cells.now) s.args.p s.requires.there);
+          ∙ ap (map (forgets c.args.p)) put.rows_are
+          ∙ sym (gone_30 (rows_of c.args.cells.now) c.args.p c.requires.there);
       size_is = left.size_is ∙ put.size_is;
     })

@@ -19,19 +19,16 @@ turn_to-requires c =
 pub returns : goal.returns
 unfolding cell_at
 returns c =
-    let d = c in
-    let r = d in
-    let s = r in
-    let competing = r.competitors-c.ensures in
-    let put = d.put_row.ensures in
-    let turn = d.turn_to.ensures in
-    let cell = ap (λ (q : Row). with_cell (turn_written q.level) quiet) r.row_at-r.ensures in
-    goes_at 24 s.requires.there (c.turn_written.ensures ∙ cell)
+    let competing = c.competitors-c.ensures in
+    let put = c.put_row.ensures in
+    let turn = c.turn_to.ensures in
+    let cell = ap (λ (q : Row). with_cell (turn_written q.level) quiet) c.row_at-r.ensures in
+    goes_at 24 c.requires.there (c.turn_written.ensures ∙ cell)
     (record {
       rows_are =
           turn.rows_are
-          ∙ ap (turned r.row_at-r.result.level s.args.p) put.rows_are
-          ∙ put_pushed s.args.cells.now s.args.p _ _ r.row_at-r.ensures _ s.requires.there competing
-          d.pushed.ensures;
+          ∙ ap (turned c.row_at-r.result.level c.args.p) put.rows_are
+          ∙ put_pushed c.args.cells.now c.args.p _ _ c.row_at-r.ensures _ c.requires.there competing
+          c.pushed.ensures;
       size_is = turn.size_is ∙ put.size_is;
     })

@@ -15,9 +15,8 @@ use Rattle.steps.proofs.going.reconsider.Goals as goal
 
 pub row_at-v-requires : goal.row_at-v-requires
 row_at-v-requires c =
-    let s = c in
     let own = c.row_at-r.ensures in
-    subst (λ (q : Row). q.level < length s.args.cells.now) (sym own) s.requires.ready.low
+    subst (λ (q : Row). q.level < length c.args.cells.now) (sym own) c.requires.ready.low
 
 -- ---- the row of p, and the table that is put
 
@@ -27,18 +26,13 @@ returns-then-asks_turn c =
         c.asks_turn.result ≡ asks_turn (row (rows_of a.cells.now) a.p)) =
         c.asks_turn.ensures ∙ ap asks_turn c.row_at-r.ensures in
     let reconsiders : (let a = c.args in
-        Becomes a.cells.now (gone (rows_of a.cells.now) a.p) c.put_row.new.0) =
-        let put = c in
-        let s = c in
-        let turn = ap (λ (q : Row). q.turn) put.row_at-v.ensures in
-        becomes_as put.put_row.ensures
-        (put_reconsidered s.args.cells.now s.args.p _ _ c.row_at-r.ensures _ s.pre.there turn
-        put.reconsidered.ensures) in
-
-    let k = c in
-    let r = k in
-    let cell = ap (λ (q : Row). with_cell (turn_read q.level) quiet) r.row_at-r.ensures in
-    goes_asking true r.pre.there (sym asks ∙ c.if-asks_turn.true)
+        Becomes a.cells.now (gone (rows_of a.cells.now) a.p) c.put_row.new.cells) =
+        let turn = ap (λ (q : Row). q.turn) c.row_at-v.ensures in
+        becomes_as c.put_row.ensures
+        (put_reconsidered c.args.cells.now c.args.p _ _ c.row_at-r.ensures _ c.requires.there turn
+        c.reconsidered.ensures) in
+    let cell = ap (λ (q : Row). with_cell (turn_read q.level) quiet) c.row_at-r.ensures in
+    goes_asking true c.requires.there (sym asks ∙ c.if-asks_turn.true)
     (c.turn_read.ensures ∙ cell) reconsiders
 
 pub returns : goal.returns
@@ -47,14 +41,10 @@ returns c =
         c.asks_turn.result ≡ asks_turn (row (rows_of a.cells.now) a.p)) =
         c.asks_turn.ensures ∙ ap asks_turn c.row_at-r.ensures in
     let reconsiders : (let a = c.args in
-        Becomes a.cells.now (gone (rows_of a.cells.now) a.p) c.put_row.new.0) =
-        let put = c in
-        let s = c in
-        let turn = ap (λ (q : Row). q.turn) put.row_at-v.ensures in
-        becomes_as put.put_row.ensures
-        (put_reconsidered s.args.cells.now s.args.p _ _ c.row_at-r.ensures _ s.pre.there turn
-        put.reconsidered.ensures) in
-
-    let k = c in
-    goes_asking false k.requires.there (sym asks ∙ c.if-asks_turn.false) refl
+        Becomes a.cells.now (gone (rows_of a.cells.now) a.p) c.put_row.new.cells) =
+        let turn = ap (λ (q : Row). q.turn) c.row_at-v.ensures in
+        becomes_as c.put_row.ensures
+        (put_reconsidered c.args.cells.now c.args.p _ _ c.row_at-r.ensures _ c.requires.there turn
+        c.reconsidered.ensures) in
+    goes_asking false c.requires.there (sym asks ∙ c.if-asks_turn.false) refl
     reconsiders

@@ -17,10 +17,8 @@ unfolding argument_fits allowed
 returns-then-go_forbidden c =
     let may : allowed GO (row (rows_of c.args.cells.now) c.args.p) ≡ true =
         rw c.requires.there refl in
-
-    let s = c in
-    let m = s.args.settings in
-    let none = refused_not (rows_of s.args.cells.now) GO s.args.p 0 may in
+    let m = c.args.settings in
+    let none = refused_not (rows_of c.args.cells.now) GO c.args.p 0 may refl in
     takes_forbidden m (sym none) 17 refl
     (go_forbidden_lem m _ GO _ refl (sym c.go_forbidden.ensures ∙ c.if-go_forbidden.true)) (omega arith)
 
@@ -29,9 +27,6 @@ unfolding allowed
 returns c =
     let may : allowed GO (row (rows_of c.args.cells.now) c.args.p) ≡ true =
         rw c.requires.there refl in
-
-    let e = c in
-    let s = e in
-    let m = s.args.settings in
-    takes_free m (go_free m _ GO _ refl (sym e.go_forbidden.ensures ∙ e.if-go_forbidden.false))
-    (goes_on 23 s.requires.there refl may c.reconsider.ensures)
+    let m = c.args.settings in
+    takes_free m (go_free m _ GO _ refl (sym c.go_forbidden.ensures ∙ c.if-go_forbidden.false))
+    (goes_on 23 c.requires.there refl may c.reconsider.ensures)

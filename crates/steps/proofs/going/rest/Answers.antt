@@ -8,10 +8,7 @@ use Rattle.steps.proofs.going.rest.Goals as goal
 pub returns : goal.returns
 unfolding cell_at
 returns c =
-    let put = c in
-    let r = put in
-    let s = r in
-    goes_at 40 s.requires.there c.act_written.ensures
-    (becomes_as put.put_row.ensures
-    (put_left s.args.cells.now s.args.p _ _ r.row_at-r.ensures s.requires.there
-    put.left.ensures))
+    goes_at 40 c.requires.there c.act_written.ensures
+    (becomes_as c.put_row.ensures
+    (put_left c.args.cells.now c.args.p _ _ c.row_at-r.ensures c.requires.there
+    c.left.ensures))

@@ -14,38 +14,26 @@ use Rattle.steps.proofs.going.start_scan.Goals as goal
 
 pub returns-then-r-eq0 : goal.returns-then-r-eq0
 returns-then-r-eq0 c =
-    let level : (let r = c in
-        let a = r.args in
-        r.row_at-r.result.level ≡ (row (rows_of a.cells.now) a.p).level) =
+    let level : (let a = c.args in
+        c.row_at-r.result.level ≡ (row (rows_of a.cells.now) a.p).level) =
         ap (λ (q : Row). q.level) c.row_at-r.ensures in
-    let starts : (let put = c in
-        let a = put.args in
-        Becomes a.cells.now (gone (rows_of a.cells.now) a.p) put.put_row.new.0) =
-        let r = c in
-        let s = r in
+    let starts : (let a = c.args in
+        Becomes a.cells.now (gone (rows_of a.cells.now) a.p) c.put_row.new.cells) =
         becomes_as c.put_row.ensures
-        (put_started s.args.cells.now s.args.p _ _ r.row_at-r.ensures s.requires.there
+        (put_started c.args.cells.now c.args.p _ _ c.row_at-r.ensures c.requires.there
         c.started.ensures) in
-
-    let k = c in
-    let there = k.requires.there in
+    let there = c.requires.there in
     goes_arrives c.with_event.ensures there (omega (arith, level, c.if-r-eq0.true)) starts
 
 pub returns : goal.returns
 returns c =
-    let level : (let r = c in
-        let a = r.args in
-        r.row_at-r.result.level ≡ (row (rows_of a.cells.now) a.p).level) =
+    let level : (let a = c.args in
+        c.row_at-r.result.level ≡ (row (rows_of a.cells.now) a.p).level) =
         ap (λ (q : Row). q.level) c.row_at-r.ensures in
-    let starts : (let put = c in
-        let a = put.args in
-        Becomes a.cells.now (gone (rows_of a.cells.now) a.p) put.put_row.new.0) =
-        let r = c in
-        let s = r in
+    let starts : (let a = c.args in
+        Becomes a.cells.now (gone (rows_of a.cells.now) a.p) c.put_row.new.cells) =
         becomes_as c.put_row.ensures
-        (put_started s.args.cells.now s.args.p _ _ r.row_at-r.ensures s.requires.there
+        (put_started c.args.cells.now c.args.p _ _ c.row_at-r.ensures c.requires.there
         c.started.ensures) in
-
-    let k = c in
-    let there = k.requires.there in
+    let there = c.requires.there in
     goes_above there (λ z. omega (arith, level, c.if-r-eq0.false)) starts

@@ -24,36 +24,32 @@ turn_to-requires c =
 pub returns-then-r-eq24 : goal.returns-then-r-eq24
 unfolding turned
 returns-then-r-eq24 c =
-    let d = c in
-    let s = d in
-    let t = rows_of s.args.cells.now in
-    let own = d.row_at-r.ensures in
-    let there = sym (ap (λ (q : Row). q.location) own) ∙ d.if-r-eq24.true in
+    let t = rows_of c.args.cells.now in
+    let own = c.row_at-r.ensures in
+    let there = sym (ap (λ (q : Row). q.location) own) ∙ c.if-r-eq24.true in
     record {
       told_is =
           c.turn_written.ensures
           ∙ ap (λ (q : Row). with_cell (turn_written q.level) quiet) own
-          ∙ flicker_turn s.args.cells.now s.args.p s.args.a there;
+          ∙ flicker_turn c.args.cells.now c.args.p c.args.a there;
       becomes =
-          becomes_as d.turn_to.ensures
-          (ap (λ (q : Row). turned q.level s.args.a t) own
-          ∙ sym (flickered_turn t s.args.p s.args.a there)
-          ∙ sym (moved_flicker t s.args.p s.args.a));
+          becomes_as c.turn_to.ensures
+          (ap (λ (q : Row). turned q.level c.args.a t) own
+          ∙ sym (flickered_turn t c.args.p c.args.a there)
+          ∙ sym (moved_flicker t c.args.p c.args.a));
     }
 
 pub returns : goal.returns
 returns c =
-    let put = c in
-    let s = put in
-    let t = rows_of s.args.cells.now in
-    let own = put.row_at-r.ensures in
+    let t = rows_of c.args.cells.now in
+    let own = c.row_at-r.ensures in
     let at = ap (λ (q : Row). q.location) own in
-    let not-24 : (row t s.args.p).location ≢ 24 = λ z. put.if-r-eq24.false (at ∙ z) in
+    let not-24 : (row t c.args.p).location ≢ 24 = λ z. c.if-r-eq24.false (at ∙ z) in
     record {
-      told_is = c.act_written.ensures ∙ flicker_act s.args.cells.now s.args.p s.args.a s.requires not-24;
+      told_is = c.act_written.ensures ∙ flicker_act c.args.cells.now c.args.p c.args.a c.requires not-24;
       becomes =
-          becomes_as put.put_row.ensures
-          (ap (set t s.args.p) (put.flicker_act.ensures ∙ ap (with_act s.args.a) own)
-          ∙ sym (flickered_act t s.args.p s.args.a not-24)
-          ∙ sym (moved_flicker t s.args.p s.args.a));
+          becomes_as c.put_row.ensures
+          (ap (set t c.args.p) (c.flicker_act.ensures ∙ ap (with_act c.args.a) own)
+          ∙ sym (flickered_act t c.args.p c.args.a not-24)
+          ∙ sym (moved_flicker t c.args.p c.args.a));
     }

@@ -14,19 +14,17 @@ use Rattle.steps.proofs.moving.look.Goals as goal
 pub returns : goal.returns
 unfolding cell_at
 returns c =
-    let put = c in
-    let own = put.row_at-r in
-    let s = put in
-    let t = rows_of s.args.cells.now in
-    let q = s.args.q in
-    let act = ap (λ (r : Row). r.act) put.row_at-act.ensures in
+    let own = c.row_at-r in
+    let t = rows_of c.args.cells.now in
+    let q = c.args.q in
+    let act = ap (λ (r : Row). r.act) c.row_at-act.ensures in
     record {
       told_is = c.act_read.ensures;
       becomes =
-          becomes_as put.put_row.ensures
-          (ap (set t s.args.p)
-          (put.looked.ensures
+          becomes_as c.put_row.ensures
+          (ap (set t c.args.p)
+          (c.looked.ensures
           ∙ ap (λ (v : ℕ). looked q v own.result) act
           ∙ ap (looked q (row t q).act) own.ensures)
-          ∙ sym (moved_look t s.args.p q));
+          ∙ sym (moved_look t c.args.p q));
     }

@@ -20,16 +20,15 @@ returns-then-unsound-ne0 c =
 
 pub returns-then-not-settings_fit : goal.returns-then-not-settings_fit
 returns-then-not-settings_fit c =
-    let e = c in
-    let a = e.args in
-    let sound = sym e.check-unsound.ensures ∙ e.if-unsound-ne0.false in
+    let a = c.args in
+    let sound = sym c.check-unsound.ensures ∙ c.if-unsound-ne0.false in
     let unfit = sym c.settings_fit.ensures ∙ not-true _ c.if-not-settings_fit.true-raw in
     refused_steps a.settings a.cells.now a.word 18
     (sym (under_unfit a.settings (rows_of a.cells.now) a.word sound unfit)) (omega arith)
 
 pub advance_under-requires : goal.advance_under-requires
 advance_under-requires c =
-    let e = c in (
-      sym e.check-unsound.ensures ∙ e.if-unsound-ne0.false,
-      sym c.settings_fit.ensures ∙ not-false _ c.if-not-settings_fit.false-raw,
-    )
+    record {
+      cells_value = sym c.check-unsound.ensures ∙ c.if-unsound-ne0.false;
+      settings_value = sym c.settings_fit.ensures ∙ not-false _ c.if-not-settings_fit.false-raw;
+    }

@@ -24,9 +24,7 @@ returns-then-not-there c =
     let allowed-is : (let a = c.args in
         c.allowed-there.result ≡ allowed a.kind (row (rows_of a.cells.now) a.p)) =
         c.allowed-there.ensures ∙ ap (allowed c.args.kind) c.row_at-r.ensures in
-
-    let s = c in
-    sym (refused_there (rows_of s.args.cells.now) s.args.kind s.args.p s.args.a
+    sym (refused_there (rows_of c.args.cells.now) c.args.kind c.args.p c.args.a
     (sym allowed-is ∙ not-true _ c.if-not-there.true-raw))
 
 pub returns-then-not-fits : goal.returns-then-not-fits
@@ -34,19 +32,15 @@ returns-then-not-fits c =
     let allowed-is : (let a = c.args in
         c.allowed-there.result ≡ allowed a.kind (row (rows_of a.cells.now) a.p)) =
         c.allowed-there.ensures ∙ ap (allowed c.args.kind) c.row_at-r.ensures in
-    let fits-is : (let s = c in
-        let t = rows_of s.args.cells.now in
-        c.argument_fits-fits.result ≡ argument_fits (length t) s.args.kind (row t s.args.p) s.args.a) =
-        let s = c in
-        let x = s.args.cells.now in
-        let k = s.args.kind in
-        let a = s.args.a in
+    let fits-is : (let t = rows_of c.args.cells.now in
+        c.argument_fits-fits.result ≡ argument_fits (length t) c.args.kind (row t c.args.p) c.args.a) =
+        let x = c.args.cells.now in
+        let k = c.args.kind in
+        let a = c.args.a in
         c.argument_fits-fits.ensures
         ∙ ap (λ (n : ℕ). argument_fits n k c.row_at-r.result a) (sym (rows_length x))
         ∙ ap (λ (r : Row). argument_fits (length (rows_of x)) k r a) c.row_at-r.ensures in
-
-    let s = c in
-    sym (refused_argument (rows_of s.args.cells.now) s.args.kind s.args.p s.args.a
+    sym (refused_argument (rows_of c.args.cells.now) c.args.kind c.args.p c.args.a
     (sym allowed-is ∙ not-false _ c.if-not-there.false-raw)
     (sym fits-is ∙ not-true _ c.if-not-fits.true-raw))
 
@@ -55,18 +49,14 @@ returns c =
     let allowed-is : (let a = c.args in
         c.allowed-there.result ≡ allowed a.kind (row (rows_of a.cells.now) a.p)) =
         c.allowed-there.ensures ∙ ap (allowed c.args.kind) c.row_at-r.ensures in
-    let fits-is : (let s = c in
-        let t = rows_of s.args.cells.now in
-        c.argument_fits-fits.result ≡ argument_fits (length t) s.args.kind (row t s.args.p) s.args.a) =
-        let s = c in
-        let x = s.args.cells.now in
-        let k = s.args.kind in
-        let a = s.args.a in
+    let fits-is : (let t = rows_of c.args.cells.now in
+        c.argument_fits-fits.result ≡ argument_fits (length t) c.args.kind (row t c.args.p) c.args.a) =
+        let x = c.args.cells.now in
+        let k = c.args.kind in
+        let a = c.args.a in
         c.argument_fits-fits.ensures
         ∙ ap (λ (n : ℕ). argument_fits n k c.row_at-r.result a) (sym (rows_length x))
         ∙ ap (λ (r : Row). argument_fits (length (rows_of x)) k r a) c.row_at-r.ensures in
-
-    let s = c in
-    sym (refused_not (rows_of s.args.cells.now) s.args.kind s.args.p s.args.a
+    sym (refused_not (rows_of c.args.cells.now) c.args.kind c.args.p c.args.a
     (sym allowed-is ∙ not-false _ c.if-not-there.false-raw)
     (sym fits-is ∙ not-false _ c.if-not-fits.false-raw))

@@ -12,6 +12,5 @@ returns-then-refusal-ne0 c = takes_refused c.refusal_at-refusal.ensures c.if-ref
 
 pub returns : goal.returns
 returns c =
-    let e = c in
-    takes_moved e.refusal_at-refusal.ensures e.if-refusal-ne0.false (others_fit _ CANCEL _ (omega arith))
+    takes_moved c.refusal_at-refusal.ensures c.if-refusal-ne0.false (others_fit _ CANCEL _ (omega arith))
     (cancel_moves _ _ refl c.cancel.ensures)

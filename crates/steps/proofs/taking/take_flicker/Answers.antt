@@ -14,9 +14,8 @@ returns-then-refusal-ne0 c = takes_early c.args.settings c.refusal_at-refusal.en
 
 pub returns-then-flicker_forbidden : goal.returns-then-flicker_forbidden
 returns-then-flicker_forbidden c =
-    let e = c in
-    let m = e.args.settings in
-    takes_forbidden m e.refusal_at-refusal.ensures 16 e.if-refusal-ne0.false
+    let m = c.args.settings in
+    takes_forbidden m c.refusal_at-refusal.ensures 16 c.if-refusal-ne0.false
     (flicker_forbidden_lem m _ FLICKER _ refl
     (sym (ap (flicker_forbidden m) c.row_at.ensures)
     ∙ sym c.flicker_forbidden.ensures
@@ -25,19 +24,15 @@ returns-then-flicker_forbidden c =
 
 pub flicker-requires : goal.flicker-requires
 flicker-requires c =
-    let e = c in
-    let s = e in
-    may_move FLICKER s.args.a s.requires e.refusal_at-refusal.ensures e.if-refusal-ne0.false
+    may_move FLICKER c.args.a c.requires c.refusal_at-refusal.ensures c.if-refusal-ne0.false
 
 pub returns : goal.returns
 returns c =
-    let f = c in
-    let e = f in
-    let m = e.args.settings in
+    let m = c.args.settings in
     takes_free m
     (flicker_free m _ FLICKER _ refl
-    (sym (ap (flicker_forbidden m) f.row_at.ensures)
-    ∙ sym f.flicker_forbidden.ensures
-    ∙ f.if-flicker_forbidden.false))
-    (takes_moved e.refusal_at-refusal.ensures e.if-refusal-ne0.false (others_fit _ FLICKER _ (omega arith))
+    (sym (ap (flicker_forbidden m) c.row_at.ensures)
+    ∙ sym c.flicker_forbidden.ensures
+    ∙ c.if-flicker_forbidden.false))
+    (takes_moved c.refusal_at-refusal.ensures c.if-refusal-ne0.false (others_fit _ FLICKER _ (omega arith))
     c.flicker.ensures)

@@ -8,14 +8,11 @@ use Rattle.steps.proofs.taking.take_go.Goals as goal
 
 pub returns-then-a-ne0 : goal.returns-then-a-ne0
 returns-then-a-ne0 c =
-    let e = c in
-    let s = e in
-    takes_early s.args.settings c.refusal_at.ensures
+    takes_early c.args.settings c.refusal_at.ensures
     (λ z.
-    e.if-a-ne0.true
-    (go_argument (rows_of s.args.cells.now) s.args.p s.args.a (sym c.refusal_at.ensures ∙ z)))
+    c.if-a-ne0.true
+    (go_argument (rows_of c.args.cells.now) c.args.p c.args.a (sym c.refusal_at.ensures ∙ z)))
 
 pub returns : goal.returns
 returns c =
-    let e = c in
-    go_zero e.args.settings e.if-a-ne0.false c.go.ensures
+    go_zero c.args.settings c.if-a-ne0.false c.go.ensures

@@ -26,9 +26,7 @@ look-requires c =
         row_refusal (rows_of s.cells.now) LOOK s.p s.a ≡ 0) =
         let s = c.args in
         row_accepts (rows_of s.cells.now) LOOK s.p s.a (sym looks-is ∙ c.if-looks.true) in
-
-    let e = c in
-    may_look e.requires (sym accepts) refl
+    may_look c.requires (sym accepts) refl
 
 pub returns-then-looks : goal.returns-then-looks
 unfolding argument_fits
@@ -42,8 +40,6 @@ returns-then-looks c =
         row_refusal (rows_of s.cells.now) LOOK s.p s.a ≡ 0) =
         let s = c.args in
         row_accepts (rows_of s.cells.now) LOOK s.p s.a (sym looks-is ∙ c.if-looks.true) in
-
-    let e = c in
     takes_moved (sym accepts) refl (others_fit _ LOOK _ (omega arith)) c.look.ensures
 
 pub returns : goal.returns
@@ -54,10 +50,8 @@ returns c =
         c.looks.result ≡ (allowed LOOK (row t s.p) && argument_fits (length t) LOOK (row t s.p) s.a)) =
         let a = c.args.a in
         c.looks.ensures ∙ ap (λ (r : Row). allowed LOOK r && has r.lis a) c.row_at.ensures in
-
-    let e = c in
-    let s = e.args in
+    let s = c.args in
     takes_refused c.refusal_at.ensures
     (λ z.
-    row_refuses (rows_of s.cells.now) LOOK s.p s.a (sym looks-is ∙ e.if-looks.false)
+    row_refuses (rows_of s.cells.now) LOOK s.p s.a (sym looks-is ∙ c.if-looks.false)
     (sym c.refusal_at.ensures ∙ z))

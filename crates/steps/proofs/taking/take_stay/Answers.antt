@@ -23,9 +23,7 @@ returns-then-r-a c =
         ≡ (allowed STAY (row t s.p) && argument_fits (length t) STAY (row t s.p) s.a)) =
         let a = c.args.a in
         ap (λ (r : Row). eqb r.location 10 && eqb a 0) c.row_at-r.ensures in
-
-    let r = c in
-    let s = r.args in
+    let s = c.args in
     let accepts = row_accepts (rows_of s.cells.now) STAY s.p s.a (sym stays-is ∙ c.if-r-a.true) in
     takes_moved (sym accepts) refl (others_fit _ STAY _ (omega arith)) (stay_moves _ refl)
 
@@ -38,11 +36,8 @@ returns c =
         ≡ (allowed STAY (row t s.p) && argument_fits (length t) STAY (row t s.p) s.a)) =
         let a = c.args.a in
         ap (λ (r : Row). eqb r.location 10 && eqb a 0) c.row_at-r.ensures in
-
-    let e = c in
-    let r = e in
-    let s = r.args in
+    let s = c.args in
     takes_refused c.refusal_at.ensures
     (λ z.
-    row_refuses (rows_of s.cells.now) STAY s.p s.a (sym stays-is ∙ e.if-r-a.false)
+    row_refuses (rows_of s.cells.now) STAY s.p s.a (sym stays-is ∙ c.if-r-a.false)
     (sym c.refusal_at.ensures ∙ z))
