@@ -217,8 +217,7 @@ fn go_on(cells: &mut [[u16; 24]], words: &[u32], act: u32, turn: u32, at: Progre
     }
 }
 
-// Counts an accepted word with an event in the lent tally. Proved by hand: the borrow checker
-// covers no reference to a struct.
+// Counts an accepted word with an event in the lent tally.
 fn count_word(tally: &mut Tally, event: Event)
     requires { Room tally.old }
     ensures { tally.new ≡ counted event tally.old }
@@ -229,7 +228,7 @@ fn count_word(tally: &mut Tally, event: Event)
 // A run of the lent rows by the words under settings, for C (include/zaguypo.h): how many were
 // taken, the refusal or 0, and the shared cell of the last word taken. The rows are left as the
 // taken words make them. The tally is set to zero, whatever it held, and each accepted word is
-// counted in it. Proved by hand, as `count_word` is.
+// counted in it.
 pub fn zaguypo_run_rows(
     rows: &mut [[u16; 24]],
     words: &[u32],

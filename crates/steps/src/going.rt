@@ -26,6 +26,7 @@ pub(crate) fn go_to(cells: &mut [[u16; 24]], p: u16, l: u16)
 
 // GO at 20: to 21, where process p competes; or 15, where it has passed one of those that compete
 // 65,535 times.
+#[inline(always)]
 fn enter(cells: &mut [[u16; 24]], p: u16) -> Stepped
     requires { At cells.old p 20 }
     ensures { Takes cells.old GO p 0 cells.new result }
@@ -141,6 +142,7 @@ fn rest(cells: &mut [[u16; 24]], p: u16) -> Told
 // GO of process p under settings: what it tells, or 10, 15 or 17. Where GO is not allowed is what
 // is left for the last arm: 10, and 22 while lis is not empty. 22 is asked for before the choice,
 // with lis, so that the processor foresees the choice better.
+#[inline(always)]
 pub fn go(cells: &mut [[u16; 24]], p: u16, settings: Settings) -> Stepped
     requires { Ready cells.old p }
     ensures { TakesUnder settings cells.old GO p 0 cells.new result }

@@ -14,6 +14,7 @@ use machine::{Settings, Stepped};
 // number of the refusal, and no row is changed. The frequent kinds come first, each by one
 // comparison of the word. Not all six do: five cases in a row become a jump through a table, which
 // is slower.
+#[inline(always)]
 pub fn advance_under(cells: &mut [[u16; 24]], word: u32, settings: Settings) -> Stepped
     requires cells_value { table_refusal (rows_of cells.old) ≡ 0 }
     requires settings_value { settings_fit settings ≡ true }

@@ -42,6 +42,7 @@ pub(crate) fn take_look(cells: &mut [[u16; 24]], p: u16, a: u16) -> Stepped
 }
 
 // GO of process p. With argument 0 the choice of the location is the check of the place too.
+#[inline(always)]
 pub(crate) fn take_go(cells: &mut [[u16; 24]], p: u16, a: u16, settings: Settings) -> Stepped
     requires { Ready cells.old p }
     ensures { TakesUnder settings cells.old GO p a cells.new result }

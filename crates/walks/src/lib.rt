@@ -1,3 +1,2 @@
-// Laws for proofs by hand of functions that take a reference to a struct, which the borrow checker
-// does not cover. No code.
+// Laws for proofs by hand, which walk through the compiled form of a function. No code.
 #![tactic(auto)]

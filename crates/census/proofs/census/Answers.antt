@@ -1,6 +1,5 @@
 -- `census` meets its contract. Assumes nothing.
 use mathlib.Core.Path.{refl, sym, ◌∙◌}
-use borrow.Author.Rules.{rules}
 use Rattle.cells.specs.View.{rows_of}
 use Rattle.census.proofs.CensusLaws.{census_refused}
 use Rattle.census.proofs.census.Goals as goal

@@ -1,5 +1,4 @@
 -- `count_at` meets its contract. Assumes nothing.
-use Prim.Native.Nat.{◌≤◌, ◌-◌}
 use mathlib.Core.Path.{◌≡◌, ap, sym, ◌∙◌}
 use native.Mathlib.Omega.{arith}
 use lib.ListN.{length}
@@ -26,9 +25,9 @@ overflow_add-s c =
 pub loop-q-preserved : goal.loop-q-preserved
 loop-q-preserved c =
     let one-is : (let x = c.args in
-        bit (is_at x.low x.high c.row_at-l.result)
-        ≡ bit (is_at x.low x.high (row (rows_of x.cells.now) c.loop-q.q))) =
-        let x = c.args in ap (λ (r : Row). bit (is_at x.low x.high r)) c.row_at-l.ensures in
+    bit (is_at x.low x.high c.row_at-l.result)
+    ≡ bit (is_at x.low x.high (row (rows_of x.cells.now) c.loop-q.q))) =
+    let x = c.args in ap (λ (r : Row). bit (is_at x.low x.high r)) c.row_at-l.ensures in
     let x = c.args in
     let q = c.loop-q.q in
     let v = c.loop-q.invariant.2 in

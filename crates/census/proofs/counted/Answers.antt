@@ -84,33 +84,33 @@ loop-q-preserved c =
     let one = ap (λ (r : Row). bit (is_critical r)) is in
     let P : ℕ → Bool = λ i. is_critical (row u i) in
     elim c.if-competes.branch [
-      then-competes+then-r-eq0 w ↦
-        let none = held_from_none (row u p) (so w.if-competes.true) (sym level ∙ w.if-r-eq0.true) in (
-          search rules,
-          search rules,
-          w.at_30-is ∙ ap₂ (λ (a b : ℕ). a + b) v.2 one ∙ sym (count_next P p),
-          w.below-is ∙ w.one_more-b.ensures ∙ ap₂ one_over v.3 (below_is w.if-competes.true)
-              ∙ series_next below_from u p,
-          w.held-is ∙ w.one_more-h.ensures ∙ ap₂ one_over v.4 none ∙ series_next held_from u p,
-        )
+      | then-competes+then-r-eq0 w ↦
+          let none = held_from_none (row u p) (so w.if-competes.true) (sym level ∙ w.if-r-eq0.true) in (
+            search rules,
+            search rules,
+            w.at_30-is ∙ ap₂ (λ (a b : ℕ). a + b) v.2 one ∙ sym (count_next P p),
+            w.below-is ∙ w.one_more-b.ensures ∙ ap₂ one_over v.3 (below_is w.if-competes.true)
+                ∙ series_next below_from u p,
+            w.held-is ∙ w.one_more-h.ensures ∙ ap₂ one_over v.4 none ∙ series_next held_from u p,
+          )
       | then-competes+else-r-eq0 w ↦
-        let away = none_critical u c.requires p within (λ z. w.if-r-eq0.false (level ∙ z)) in (
-          search rules,
-          search rules,
-          w.at_30-is ∙ v.2 ∙ sym (count_same P p away),
-          w.below-is ∙ w.one_more-b.ensures ∙ ap₂ one_over v.3 (below_is w.if-competes.true)
-              ∙ series_next below_from u p,
-          w.held-is ∙ w.one_more-h-else-r-eq0.ensures ∙ ap₂ one_over v.4 (w.held_from.ensures ∙ ap held_from is)
-              ∙ series_next held_from u p,
-        )
+          let away = none_critical u c.requires p within (λ z. w.if-r-eq0.false (level ∙ z)) in (
+            search rules,
+            search rules,
+            w.at_30-is ∙ v.2 ∙ sym (count_same P p away),
+            w.below-is ∙ w.one_more-b.ensures ∙ ap₂ one_over v.3 (below_is w.if-competes.true)
+                ∙ series_next below_from u p,
+            w.held-is ∙ w.one_more-h-else-r-eq0.ensures ∙ ap₂ one_over v.4 (w.held_from.ensures ∙ ap held_from is)
+                ∙ series_next held_from u p,
+          )
       | else-competes w ↦
-        let out = competes_so u p _ _ false is c.competes.ensures w.if-competes.false in (
-          search rules,
-          search rules,
-          w.at_30-is ∙ v.2 ∙ sym (count_same P p (out_critical (row u p) out)),
-          w.below-is ∙ v.3 ∙ series_same below_from u p (below_from_out (row u p) out),
-          w.held-is ∙ v.4 ∙ series_same held_from u p (held_from_out (row u p) out),
-        )
+          let out = competes_so u p _ _ false is c.competes.ensures w.if-competes.false in (
+            search rules,
+            search rules,
+            w.at_30-is ∙ v.2 ∙ sym (count_same P p (out_critical (row u p) out)),
+            w.below-is ∙ v.3 ∙ series_same below_from u p (below_from_out (row u p) out),
+            w.held-is ∙ v.4 ∙ series_same held_from u p (held_from_out (row u p) out),
+          )
     ]
 
 -- ---- all rows are counted
@@ -118,17 +118,17 @@ loop-q-preserved c =
 pub overflow_sub-result : goal.overflow_sub-result
 overflow_sub-result c =
     let last-count : (let u = rows_of c.args.cells.now in
-        get_or c.loop-q.below 15 0 ≡ waiting u + critical u) =
-        let u = rows_of c.args.cells.now in
-        let l = c.loop-q in
-        let e : l.q ≡ length u = omega (arith, rows_length c.args.cells.now) in
-        ap (λ (a : List ℕ). get_or a 15 0) (l.invariant.3 ∙ ap (seriesOf below_from u) e) ∙ all_compete u c.requires in
+    get_or c.loop-q.below 15 0 ≡ waiting u + critical u) =
+    let u = rows_of c.args.cells.now in
+    let l = c.loop-q in
+    let e : l.q ≡ length u = omega (arith, rows_length c.args.cells.now) in
+    ap (λ (a : List ℕ). get_or a 15 0) (l.invariant.3 ∙ ap (seriesOf below_from u) e) ∙ all_compete u c.requires in
     let at-30-is : c.loop-q.at_30 ≡ critical (rows_of c.args.cells.now) =
-        let x = c.args.cells.now in
-        let l = c.loop-q in
-        let e : l.q ≡ length (rows_of x) = omega (arith, rows_length x) in
-        l.invariant.2 ∙ ap (count (λ i. is_critical (row (rows_of x) i))) e in
- omega (arith, last-count, at-30-is)
+    let x = c.args.cells.now in
+    let l = c.loop-q in
+    let e : l.q ≡ length (rows_of x) = omega (arith, rows_length x) in
+    l.invariant.2 ∙ ap (count (λ i. is_critical (row (rows_of x) i))) e in
+    omega (arith, last-count, at-30-is)
 
 pub figures_in-requires : goal.figures_in-requires
 figures_in-requires c =
@@ -145,16 +145,16 @@ figures_in-requires-2 c =
 pub returns : goal.returns
 returns c =
     let last-count : (let u = rows_of c.args.cells.now in
-        get_or c.loop-q.below 15 0 ≡ waiting u + critical u) =
-        let u = rows_of c.args.cells.now in
-        let l = c.loop-q in
-        let e : l.q ≡ length u = omega (arith, rows_length c.args.cells.now) in
-        ap (λ (a : List ℕ). get_or a 15 0) (l.invariant.3 ∙ ap (seriesOf below_from u) e) ∙ all_compete u c.requires in
+    get_or c.loop-q.below 15 0 ≡ waiting u + critical u) =
+    let u = rows_of c.args.cells.now in
+    let l = c.loop-q in
+    let e : l.q ≡ length u = omega (arith, rows_length c.args.cells.now) in
+    ap (λ (a : List ℕ). get_or a 15 0) (l.invariant.3 ∙ ap (seriesOf below_from u) e) ∙ all_compete u c.requires in
     let at-30-is : c.loop-q.at_30 ≡ critical (rows_of c.args.cells.now) =
-        let x = c.args.cells.now in
-        let l = c.loop-q in
-        let e : l.q ≡ length (rows_of x) = omega (arith, rows_length x) in
-        l.invariant.2 ∙ ap (count (λ i. is_critical (row (rows_of x) i))) e in
+    let x = c.args.cells.now in
+    let l = c.loop-q in
+    let e : l.q ≡ length (rows_of x) = omega (arith, rows_length x) in
+    l.invariant.2 ∙ ap (count (λ i. is_critical (row (rows_of x) i))) e in
     let x = c.args.cells.now in
     let t = rows_of x in
     let at = c.loop-q in

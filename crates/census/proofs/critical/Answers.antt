@@ -1,7 +1,6 @@
 -- `critical` meets its contract. Assumes nothing.
 use mathlib.Core.Path.{◌∙◌}
 use lib.ListN.{length}
-use borrow.Author.Rules.{rules}
 use Rattle.counting.proofs.CountLaws.{count_cong}
 use Rattle.machine.specs.Tables.{row}
 use Rattle.machine.specs.Census.{is_critical}

@@ -1,13 +1,13 @@
 -- `figures_in` meets its contract. Assumes nothing.
-use Prim.Native.Nat.{◌+◌, ◌-◌, ◌≤◌}
-use mathlib.Core.Path.{◌≡◌, refl, ◌∙◌}
+use Prim.Native.Nat.{◌+◌}
+use mathlib.Core.Path.{refl, ◌∙◌}
 use native.Mathlib.Omega.{arith}
 use native.Mathlib.Numerals.{add-one}
 use lib.Dec.{leb, leb-zero}
 use lib.ListN.{get_or, replicate}
 use borrow.Author.Rules.{rules}
 use Rattle.census.specs.Series.{figure_at}
-use Rattle.counting.proofs.RangeLaws.{filled, filled_start, filled_next, filled_end}
+use Rattle.counting.proofs.RangeLaws.{filled_start, filled_next, filled_end}
 use Rattle.counting.proofs.TestLaws.{times_bit, cond_le}
 use Rattle.census.proofs.figures_in.Goals as goal
 

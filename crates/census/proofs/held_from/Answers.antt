@@ -1,7 +1,6 @@
 -- `held_from` meets its contract. Assumes nothing.
 use mathlib.Core.Path.{refl, sym, ◌∙◌}
 use mathlib.Core.Bool.{true, false}
-use borrow.Author.Rules.{rules}
 use borrow.Author.Tests.{not-true, not-false}
 use Rattle.census.proofs.ThresholdLaws.{held_from_is}
 use Rattle.census.proofs.held_from.Goals as goal

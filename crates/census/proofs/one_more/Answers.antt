@@ -1,13 +1,13 @@
 -- `one_more` meets its contract. Assumes nothing.
-use Prim.Native.Nat.{ℕ, ◌+◌, ◌-◌, ◌≤◌}
-use mathlib.Core.Path.{◌≡◌, ap, ◌∙◌}
+use Prim.Native.Nat.{ℕ, ◌+◌}
+use mathlib.Core.Path.{ap, ◌∙◌}
 use native.Mathlib.Omega.{arith}
 use lib.Dec.{leb}
 use lib.ListN.{get_or}
 use borrow.Author.Rules.{rules}
 use Rattle.counting.proofs.CountLaws.{bit_le_one}
 use Rattle.census.specs.Series.{more_at}
-use Rattle.counting.proofs.RangeLaws.{filled, filled_start, filled_next, filled_end}
+use Rattle.counting.proofs.RangeLaws.{filled_start, filled_next, filled_end}
 use Rattle.census.proofs.one_more.Goals as goal
 
 pub loop-i-init : goal.loop-i-init

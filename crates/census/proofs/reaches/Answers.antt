@@ -1,5 +1,4 @@
 -- `reaches` meets its contract. Assumes nothing.
-use borrow.Author.Rules.{rules}
 use Rattle.census.proofs.TestLaws.{near_reaches}
 use Rattle.census.proofs.reaches.Goals as goal
 

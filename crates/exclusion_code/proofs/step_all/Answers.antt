@@ -1,7 +1,6 @@
 -- `step_all` meets its contract: what is left of the list is what the loop still gives. Assumes nothing.
-use Prim.Native.Nat.{ℕ, suc, ◌-◌, ◌≤◌}
+use Prim.Native.Nat.{ℕ, suc}
 use mathlib.Core.Path.{◌≡◌, refl, sym, ap, subst, ◌∙◌}
-use mathlib.Core.Bool.{true}
 use native.Mathlib.Numerals.{add-one}
 use native.Mathlib.Omega.{arith}
 use lib.ListN.{length, get_or, drop}
@@ -9,7 +8,7 @@ use lib.Seq.{drop-cons, drop-length}
 use borrow.Author.Rules.{rules}
 use borrow.Author.Tests.{not-true, not-false}
 use Rattle.machine.specs.Tables.{Table, table_refusal}
-use Rattle.machine.specs.Settings.{settings_fit, list_under}
+use Rattle.machine.specs.Settings.{list_under}
 use Rattle.machine.proofs.SettingLaws.{under_table, under_unfit}
 use Rattle.machine.proofs.SettingTheorems.{under_keeps_sound}
 use Rattle.cells.specs.View.{rows_of}
@@ -32,7 +31,7 @@ returns-then-check-ne0 c =
 pub returns-then-not-settings_fit : goal.returns-then-not-settings_fit
 returns-then-not-settings_fit c =
     let sound : table_refusal (rows_of c.args.cells.now) ≡ 0 =
-        sym c.check.ensures ∙ c.if-check-ne0.false in
+    sym c.check.ensures ∙ c.if-check-ne0.false in
     let a = c.args in
     let m = a.settings in
     let x = a.cells.now in
@@ -46,14 +45,13 @@ returns-then-not-settings_fit c =
 pub loop-i-init : goal.loop-i-init
 loop-i-init c =
     let sound : table_refusal (rows_of c.args.cells.now) ≡ 0 =
-        sym c.check.ensures ∙ c.if-check-ne0.false in
- (
-  search rules,
-  refl,
-  sound,
-  sym c.settings_fit.ensures ∙ not-false _ c.if-not-settings_fit.false-raw,
-  refl,
-)
+    sym c.check.ensures ∙ c.if-check-ne0.false in (
+      search rules,
+      refl,
+      sound,
+      sym c.settings_fit.ensures ∙ not-false _ c.if-not-settings_fit.false-raw,
+      refl,
+    )
 
 pub advance_under-requires : goal.advance_under-requires
 advance_under-requires c = let v = c.loop-i.invariant in record { cells_value = v.2; settings_value = v.3 }

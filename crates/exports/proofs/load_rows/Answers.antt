@@ -7,7 +7,6 @@ use Rattle.machine.specs.Exports.{Loaded}
 use Rattle.cells.specs.View.{rows_of}
 use Rattle.cells.proofs.ViewLaws.{rows_length}
 use Rattle.exports.proofs.ExportLaws.{loaded_short, loaded_all}
-use borrow.Author.Rules.{rules}
 use Rattle.exports.proofs.load_rows.Goals as goal
 
 pub returns-then-rows-n : goal.returns-then-rows-n

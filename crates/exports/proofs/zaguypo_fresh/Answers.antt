@@ -11,7 +11,6 @@ use Rattle.cells.specs.View.{rows_of}
 use Rattle.cells.proofs.ViewLaws.{rows_length}
 use Rattle.cells.proofs.FreshLaws.{size_left}
 use Rattle.exports.proofs.ExportLaws.{made_in, not_made}
-use borrow.Author.Rules.{rules}
 use Rattle.exports.proofs.zaguypo_fresh.Goals as goal
 
 pub returns-then-n : goal.returns-then-n

@@ -10,7 +10,6 @@ use Rattle.machine.specs.Exports.{Loaded, unread, loaded}
 use Rattle.cells.specs.View.{rows_of}
 use Rattle.images.proofs.ReadingLaws as reading
 use Rattle.exports.proofs.ExportLaws.{read_table, read_refused}
-use borrow.Author.Rules.{rules}
 use Rattle.exports.proofs.zaguypo_read.Goals as goal
 
 -- ---- a table
@@ -18,31 +17,31 @@ use Rattle.exports.proofs.zaguypo_read.Goals as goal
 pub slice_bounds-cells-end : goal.slice_bounds-cells-end
 slice_bounds-cells-end c =
     let words : List ℕ =
-        c.args.words.now in
+    c.args.words.now in
     let table : reading.Loaded words c.read_cells.new.cells c.in-Table.n =
-        reading.loaded _ _ _ _ _ c.read_cells.ensures c.in-Table.is in
+    reading.loaded _ _ _ _ _ c.read_cells.ensures c.in-Table.is in
     let within : c.in-Table.n ≤ length c.read_cells.new.cells =
-        omega (arith, table.few, c.read_cells.ensures.size_is) in
- within
+    omega (arith, table.few, c.read_cells.ensures.size_is) in
+    within
 
 pub slice_bounds-load_rows-end : goal.slice_bounds-load_rows-end
 slice_bounds-load_rows-end c =
     let words : List ℕ =
-        c.args.words.now in
+    c.args.words.now in
     let table : reading.Loaded words c.read_cells.new.cells c.in-Table.n =
-        reading.loaded _ _ _ _ _ c.read_cells.ensures c.in-Table.is in
+    reading.loaded _ _ _ _ _ c.read_cells.ensures c.in-Table.is in
     let within : c.in-Table.n ≤ length c.read_cells.new.cells =
-        omega (arith, table.few, c.read_cells.ensures.size_is) in
+    omega (arith, table.few, c.read_cells.ensures.size_is) in
     sym (length-take-le c.in-Table.n c.read_cells.new.cells within)
 
 pub load_rows-requires : goal.load_rows-requires
 load_rows-requires c =
     let words : List ℕ =
-        c.args.words.now in
+    c.args.words.now in
     let table : reading.Loaded words c.read_cells.new.cells c.in-Table.n =
-        reading.loaded _ _ _ _ _ c.read_cells.ensures c.in-Table.is in
+    reading.loaded _ _ _ _ _ c.read_cells.ensures c.in-Table.is in
     let within : c.in-Table.n ≤ length c.read_cells.new.cells =
-        omega (arith, table.few, c.read_cells.ensures.size_is) in
+    omega (arith, table.few, c.read_cells.ensures.size_is) in
     omega (
       arith,
       table.few,
@@ -52,9 +51,9 @@ load_rows-requires c =
 pub returns-in-Table : goal.returns-in-Table
 returns-in-Table c =
     let words : List ℕ =
-        c.args.words.now in
+    c.args.words.now in
     let table : reading.Loaded words c.read_cells.new.cells c.in-Table.n =
-        reading.loaded _ _ _ _ _ c.read_cells.ensures c.in-Table.is in
+    reading.loaded _ _ _ _ _ c.read_cells.ensures c.in-Table.is in
     let load = c.load_rows.ensures in
     let l = rows_of c.args.rows.now in
     let is = ap (λ (t : Table). loaded t l) table.rows_are ∙ sym (read_table words l table.accepted) in (
@@ -65,7 +64,7 @@ returns-in-Table c =
 pub returns-in-Refused : goal.returns-in-Refused
 returns-in-Refused c =
     let words : List ℕ =
-        c.args.words.now in
+    c.args.words.now in
     let told = c.in-Refused in
     let l = rows_of c.args.rows.now in
     let number = told.number in

@@ -1,7 +1,6 @@
 -- `zaguypo_together` meets its contract. Assumes nothing.
 use mathlib.Core.Path.{sym, ap, ◌∙◌}
 use Rattle.machine.specs.Exports.{word_for}
-use borrow.Author.Rules.{rules}
 use Rattle.exports.proofs.zaguypo_together.Goals as goal
 
 pub returns-in-Word : goal.returns-in-Word

@@ -1,7 +1,7 @@
 -- `step_through` meets its contract: rows are copied into cells, stepped there, and the span is copied back. Assumes
 -- nothing.
 use Prim.Native.Nat.{ℕ, suc, ◌+◌, ◌-◌, ◌≤◌, ◌<◌, min}
-use mathlib.Core.Path.{◌≡◌, refl, sym, ap, subst, ◌∙◌}
+use mathlib.Core.Path.{◌≡◌, refl, sym, ap, ◌∙◌}
 use mathlib.Core.List.{List, []}
 use native.Mathlib.Omega.{arith}
 use native.Mathlib.Numerals.{add-one}
@@ -11,14 +11,10 @@ use borrow.Author.Count.{below_more}
 use Rattle.std.proofs.lemmas.List.{get_or_default}
 use Rattle.machine.specs.Rows.{blank}
 use Rattle.machine.specs.Tables.{Table, row}
-use Rattle.machine.specs.Settings.{after_under}
 use Rattle.machine.specs.declared.Row.{Row}
 use Rattle.machine.specs.declared.Settings.{Settings}
-use Rattle.machine.specs.declared.StepAnswer.{StepAnswer}
 use Rattle.cells.specs.View.{row_of, cells_of, rows_of}
-use Rattle.lent.specs.LentStep.{StepsTo}
-use Rattle.lent.specs.Moving.{copied, MovesTo}
-use Rattle.lent.specs.declared.Moving.{Moving}
+use Rattle.lent.specs.Moving.{copied}
 use Rattle.lent.proofs.MovingLaws.{length-copied, loaded}
 use Rattle.lent.proofs.step_through.Goals as goal
 

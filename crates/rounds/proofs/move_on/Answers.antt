@@ -2,7 +2,6 @@
 use mathlib.Core.Path.{◌≡◌, subst}
 use mathlib.Core.Bool.{true, false, ◌&&◌, not}
 use lib.Dec.{eqb}
-use borrow.Author.Rules.{rules}
 use borrow.Author.Tests.{eqb-true, eqb-false}
 use Rattle.machine.specs.Words.{GO}
 use Rattle.steps.specs.Moves.{Takes}
@@ -17,25 +16,25 @@ use Rattle.rounds.proofs.move_on.Goals.{then-r-ne0+else-r-eq22+else-rests, else-
 pub first_of-requires : goal.first_of-requires
 first_of-requires c =
     let looks : (let r = c.row_at-r.result in
-        (eqb r.location 22 && not (eqb r.lis 0)) ≡ true) =
-        let r = c.row_at-r.result in
-        looks_so r c.if-r-eq22.true c.if-r-ne0.true in
+    (eqb r.location 22 && not (eqb r.lis 0)) ≡ true) =
+    let r = c.row_at-r.result in
+    looks_so r c.if-r-eq22.true c.if-r-ne0.true in
     some_member _ _ c.requires _ c.row_at-r.ensures looks
 
 pub look-told-requires : goal.look-told-requires
 look-told-requires c =
     let looks : (let r = c.row_at-r.result in
-        (eqb r.location 22 && not (eqb r.lis 0)) ≡ true) =
-        let r = c.row_at-r.result in
-        looks_so r c.if-r-eq22.true c.if-r-ne0.true in
+    (eqb r.location 22 && not (eqb r.lis 0)) ≡ true) =
+    let r = c.row_at-r.result in
+    looks_so r c.if-r-eq22.true c.if-r-ne0.true in
     look-sees _ _ c.requires _ c.row_at-r.ensures looks _ c.first_of.ensures
 
 pub returns-then-r-eq22 : goal.returns-then-r-eq22
 returns-then-r-eq22 c =
     let looks : (let r = c.row_at-r.result in
-        (eqb r.location 22 && not (eqb r.lis 0)) ≡ true) =
-        let r = c.row_at-r.result in
-        looks_so r c.if-r-eq22.true c.if-r-ne0.true in
+    (eqb r.location 22 && not (eqb r.lis 0)) ≡ true) =
+    let r = c.row_at-r.result in
+    looks_so r c.if-r-eq22.true c.if-r-ne0.true in
     look-moves _ _ c.requires _ c.row_at-r.ensures looks _ c.first_of.ensures _ _ c.look-told.ensures
 
 -- ---- at 10, with a member of lis and without
@@ -53,34 +52,34 @@ returns-then-rests-2 c =
 pub go-requires : goal.go-requires
 go-requires c =
     let looks-not : (let r = c.row_at-r.result in
-        (eqb r.location 22 && not (eqb r.lis 0)) ≡ false) =
-        let r = c.row_at-r.result in
-        elim c.if-r-ne0.branch [
-          then-r-ne0+else-r-eq22+else-rests w ↦ elsewhere r w.if-r-eq22.false
-          | else-r-ne0 w ↦ listed_none r w.if-r-ne0.false
-        ] in
+    (eqb r.location 22 && not (eqb r.lis 0)) ≡ false) =
+    let r = c.row_at-r.result in
+    elim c.if-r-ne0.branch [
+      | then-r-ne0+else-r-eq22+else-rests w ↦ elsewhere r w.if-r-eq22.false
+      | else-r-ne0 w ↦ listed_none r w.if-r-ne0.false
+    ] in
     (go_free _ _ c.requires _ c.row_at-r.ensures (eqb-false _ _ c.if-rests-2.false-raw) looks-not).ready
 
 pub returns-in-Moved : goal.returns-in-Moved
 returns-in-Moved c =
     let looks-not : (let r = c.row_at-r.result in
-        (eqb r.location 22 && not (eqb r.lis 0)) ≡ false) =
-        let r = c.row_at-r.result in
-        elim c.if-r-ne0.branch [
-          then-r-ne0+else-r-eq22+else-rests w ↦ elsewhere r w.if-r-eq22.false
-          | else-r-ne0 w ↦ listed_none r w.if-r-ne0.false
-        ] in
+    (eqb r.location 22 && not (eqb r.lis 0)) ≡ false) =
+    let r = c.row_at-r.result in
+    elim c.if-r-ne0.branch [
+      | then-r-ne0+else-r-eq22+else-rests w ↦ elsewhere r w.if-r-eq22.false
+      | else-r-ne0 w ↦ listed_none r w.if-r-ne0.false
+    ] in
     go-moves _ _ c.requires _ c.row_at-r.ensures (eqb-false _ _ c.if-rests-2.false-raw) looks-not _ _
     (subst (Takes _ GO _ 0 _) c.in-Moved.is (weakest-takes c.go.ensures))
 
 pub returns-in-Refused : goal.returns-in-Refused
 returns-in-Refused c =
     let looks-not : (let r = c.row_at-r.result in
-        (eqb r.location 22 && not (eqb r.lis 0)) ≡ false) =
-        let r = c.row_at-r.result in
-        elim c.if-r-ne0.branch [
-          then-r-ne0+else-r-eq22+else-rests w ↦ elsewhere r w.if-r-eq22.false
-          | else-r-ne0 w ↦ listed_none r w.if-r-ne0.false
-        ] in
+    (eqb r.location 22 && not (eqb r.lis 0)) ≡ false) =
+    let r = c.row_at-r.result in
+    elim c.if-r-ne0.branch [
+      | then-r-ne0+else-r-eq22+else-rests w ↦ elsewhere r w.if-r-eq22.false
+      | else-r-ne0 w ↦ listed_none r w.if-r-ne0.false
+    ] in
     go-refused _ _ c.requires _ c.row_at-r.ensures (eqb-false _ _ c.if-rests-2.false-raw) looks-not _ _
     (subst (Takes _ GO _ 0 _) c.in-Refused.is (weakest-takes c.go.ensures))

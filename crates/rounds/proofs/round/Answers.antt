@@ -1,13 +1,10 @@
 -- `round` meets its contract. Assumes nothing.
-use Prim.Native.Nat.{◌≤◌, ◌<◌, ◌-◌}
+use Prim.Native.Nat.{◌<◌}
 use mathlib.Core.Path.{◌≡◌, refl, ap, sym, ◌∙◌}
 use native.Mathlib.Omega.{arith}
-use lib.Dec.{ltb}
 use lib.ListN.{length}
 use borrow.Author.Rules.{rules}
-use Rattle.counting.specs.Sums.{count}
-use Rattle.machine.specs.Tables.{row, table_refusal}
-use Rattle.machine.specs.Census.{is_critical}
+use Rattle.machine.specs.Tables.{table_refusal}
 use Rattle.machine.specs.Rounds.{round_on}
 use Rattle.machine.proofs.Soundness.{word_keeps_sound}
 use Rattle.cells.specs.View.{rows_of}

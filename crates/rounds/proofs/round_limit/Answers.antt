@@ -1,6 +1,5 @@
 -- `round_limit` meets its contract. Assumes nothing.
 use native.Mathlib.Omega.{arith}
-use borrow.Author.Rules.{rules}
 use Rattle.rounds.proofs.LimitLaws.{squares_low, limit_low}
 use Rattle.rounds.proofs.round_limit.Goals as goal
 

@@ -1,7 +1,6 @@
 -- `rounds` meets its contract. Assumes nothing.
 use Prim.Native.Nat.{ℕ, ◌≤◌}
 use mathlib.Core.Path.{◌≡◌, refl, sym, ap, ◌∙◌}
-use borrow.Author.Rules.{rules}
 use lib.Dec.{ltb}
 use lib.ListN.{length}
 use Rattle.machine.specs.Tables.{table_refusal}
@@ -23,23 +22,23 @@ returns-then-refusal-ne0 c =
 pub count_at-requires : goal.count_at-requires
 count_at-requires c =
     let sound : table_refusal (rows_of c.args.cells.now) ≡ 0 =
-        sym c.check-refusal.ensures ∙ c.if-refusal-ne0.false in
+    sym c.check-refusal.ensures ∙ c.if-refusal-ne0.false in
     let few : length c.args.cells.now ≤ 16 =
-        few_cells c.args.cells.now sound in
- few
+    few_cells c.args.cells.now sound in
+    few
 
 pub critical-requires : goal.critical-requires
 critical-requires c =
     let sound : table_refusal (rows_of c.args.cells.now) ≡ 0 =
-        sym c.check-refusal.ensures ∙ c.if-refusal-ne0.false in
+    sym c.check-refusal.ensures ∙ c.if-refusal-ne0.false in
     let few : length c.args.cells.now ≤ 16 =
-        few_cells c.args.cells.now sound in
- few
+    few_cells c.args.cells.now sound in
+    few
 
 pub returns-then-count_at-eq0 : goal.returns-then-count_at-eq0
 returns-then-count_at-eq0 c =
     let sound : table_refusal (rows_of c.args.cells.now) ≡ 0 =
-        sym c.check-refusal.ensures ∙ c.if-refusal-ne0.false in
+    sym c.check-refusal.ensures ∙ c.if-refusal-ne0.false in
     let x = c.args.cells.now in
     let none = sym c.count_at.ensures ∙ c.if-count_at-eq0.true in
     let at-30 = some_is c.critical.result ∙ ap (λ (k : ℕ). ltb 0 k) c.critical.ensures in
@@ -48,13 +47,13 @@ returns-then-count_at-eq0 c =
 pub run_rounds-requires : goal.run_rounds-requires
 run_rounds-requires c =
     let sound : table_refusal (rows_of c.args.cells.now) ≡ 0 =
-        sym c.check-refusal.ensures ∙ c.if-refusal-ne0.false in
- sound
+    sym c.check-refusal.ensures ∙ c.if-refusal-ne0.false in
+    sound
 
 pub returns : goal.returns
 returns c =
     let sound : table_refusal (rows_of c.args.cells.now) ≡ 0 =
-        sym c.check-refusal.ensures ∙ c.if-refusal-ne0.false in
+    sym c.check-refusal.ensures ∙ c.if-refusal-ne0.false in
     let x = c.args.cells.now in
     let t = rows_of x in
     let some = rounds-some t sound (λ z. c.if-count_at-eq0.false (c.count_at.ensures ∙ z)) in

@@ -5,7 +5,6 @@ use mathlib.Core.Bool.{not, and-eq-true_iff}
 use native.Mathlib.Omega.{arith}
 use lib.Dec.{ltb}
 use lib.ListN.{length}
-use borrow.Author.Rules.{rules}
 use borrow.Author.Tests.{ltb-true, not-true}
 use Rattle.machine.specs.Tables.{table_refusal}
 use Rattle.machine.specs.Census.{critical}

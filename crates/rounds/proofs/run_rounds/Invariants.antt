@@ -1,19 +1,12 @@
 -- `run_rounds` meets its contract. Assumes nothing.
-use Prim.Native.Nat.{ℕ, ◌≤◌, ◌<◌, ◌-◌}
-use mathlib.Core.Path.{◌≡◌, refl, ap, sym, ◌∙◌}
-use mathlib.Core.Bool.{not, and-eq-true_iff}
-use native.Mathlib.Omega.{arith}
+use Prim.Native.Nat.{◌≤◌, ◌-◌}
+use mathlib.Core.Path.{◌≡◌}
 use lib.Dec.{ltb}
 use lib.ListN.{length}
-use borrow.Author.Rules.{rules}
-use borrow.Author.Tests.{ltb-true, not-true}
 use Rattle.machine.specs.Tables.{table_refusal}
 use Rattle.machine.specs.Census.{critical}
 use Rattle.machine.specs.Rounds.{round_limit, rounds_from}
-use Rattle.machine.proofs.BrokenRounds.{round_on_sound}
 use Rattle.cells.specs.View.{rows_of}
-use Rattle.rounds.proofs.LimitLaws.{few_cells, limit_low}
-use Rattle.rounds.proofs.RoundLaws.{from_turn, from_cut, from_stop, rounds-ended, some_is, none_is}
 use Rattle.rounds.proofs.run_rounds.Given as goal
 
 abbrev pub invariant-loop-occupied : goal.invariant-loop-occupied

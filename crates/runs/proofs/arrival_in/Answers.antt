@@ -1,15 +1,9 @@
 -- `arrival_in` meets its contract. Assumes nothing.
 use mathlib.Core.Path.{◌≡◌, refl}
 use mathlib.Core.Logic.{◌⊎◌, inl, inr}
-use mathlib.Core.List.{[], ◌∷◌}
-use native.Mathlib.Omega.{arith}
-use types.Run.{OneOf}
-use denote.Enum.Declared.{tag_of}
 use Rattle.machine.specs.Runs.{counted, zero_tally}
 use Rattle.machine.specs.declared.Event.{Event}
-use Rattle.machine.specs.declared.Event.TheVariants.{Quiet, Come, Arrival, Departure}
-use Rattle.machine.specs.contracts.Event.{the_type}
-use borrow.Author.Rules.{rules}
+use Rattle.machine.specs.declared.Event.TheVariants.{Quiet, Come, Departure}
 use Rattle.runs.proofs.arrival_in.Goals as goal
 
 -- the other events

@@ -1,5 +1,4 @@
 -- `begin` meets its contract. Assumes nothing.
-use borrow.Author.Rules.{rules}
 use Rattle.runs.proofs.StandLaws.{begun-open, begun-halted}
 use Rattle.runs.proofs.begin.Goals as goal
 

@@ -2,7 +2,6 @@
 use mathlib.Core.Path.{◌≡◌, refl, sym, ◌∙◌}
 use mathlib.Core.Bool.{true}
 use native.Mathlib.Omega.{arith}
-use borrow.Author.Rules.{rules}
 use borrow.Author.Tests.{not-true, not-false}
 use Rattle.machine.specs.Tables.{table_refusal}
 use Rattle.machine.specs.Settings.{settings_fit}
@@ -24,7 +23,7 @@ returns-then-unsound-ne0 c =
 pub returns-then-not-settings_fit : goal.returns-then-not-settings_fit
 returns-then-not-settings_fit c =
     let sound : table_refusal (rows_of c.args.cells.now) ≡ 0 =
-        sym c.check-unsound.ensures ∙ c.if-unsound-ne0.false in
+    sym c.check-unsound.ensures ∙ c.if-unsound-ne0.false in
     let a = c.args in
     let unfit = sym c.settings_fit.ensures ∙ not-true _ c.if-not-settings_fit.true-raw in
     record {
@@ -35,9 +34,9 @@ returns-then-not-settings_fit c =
 pub returns-then-words-gt-RUN_LIMIT : goal.returns-then-words-gt-RUN_LIMIT
 returns-then-words-gt-RUN_LIMIT c =
     let sound : table_refusal (rows_of c.args.cells.now) ≡ 0 =
-        sym c.check-unsound.ensures ∙ c.if-unsound-ne0.false in
+    sym c.check-unsound.ensures ∙ c.if-unsound-ne0.false in
     let fit : settings_fit c.args.settings ≡ true =
-        sym c.settings_fit.ensures ∙ not-false _ c.if-not-settings_fit.false-raw in
+    sym c.settings_fit.ensures ∙ not-false _ c.if-not-settings_fit.false-raw in
     let a = c.args in
     record {
       runnable = λ z. absurd (omega (arith, z));
@@ -48,9 +47,9 @@ returns-then-words-gt-RUN_LIMIT c =
 pub returns : goal.returns
 returns c =
     let sound : table_refusal (rows_of c.args.cells.now) ≡ 0 =
-        sym c.check-unsound.ensures ∙ c.if-unsound-ne0.false in
+    sym c.check-unsound.ensures ∙ c.if-unsound-ne0.false in
     let fit : settings_fit c.args.settings ≡ true =
-        sym c.settings_fit.ensures ∙ not-false _ c.if-not-settings_fit.false-raw in
+    sym c.settings_fit.ensures ∙ not-false _ c.if-not-settings_fit.false-raw in
     record {
       runnable = λ z.
           record { table_sound = sound; settings_fit_lem = fit; words_few = omega arith };

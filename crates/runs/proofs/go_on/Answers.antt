@@ -2,7 +2,6 @@
 use mathlib.Core.Path.{refl, ap, sym, ◌∙◌}
 use native.Mathlib.Omega.{arith}
 use lib.ListN.{get_or}
-use borrow.Author.Rules.{rules}
 use Rattle.machine.specs.Tables.{table_refusal}
 use Rattle.machine.specs.Runs.{counted}
 use Rattle.machine.specs.declared.Settings.{Settings}

@@ -1,6 +1,5 @@
 -- `run` meets its contract. Assumes nothing.
 use mathlib.Core.Path.{refl, sym}
-use borrow.Author.Rules.{rules}
 use Rattle.machine.specs.Shared.{no_cell}
 use Rattle.machine.specs.Runs.{zero_tally}
 use Rattle.cells.specs.View.{rows_of}

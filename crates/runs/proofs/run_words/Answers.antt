@@ -1,15 +1,12 @@
 -- `run_words` meets its contract. Assumes nothing.
-use Prim.Native.Nat.{ℕ, ◌+◌, ◌≤◌, ◌<◌, ◌-◌}
-use mathlib.Core.Path.{◌≡◌, refl, ap, sym, subst, ◌∙◌}
-use mathlib.Core.Bool.{true}
+use Prim.Native.Nat.{ℕ, ◌+◌, ◌<◌}
+use mathlib.Core.Path.{refl, ap, sym, subst, ◌∙◌}
 use native.Mathlib.Omega.{arith}
-use lib.ListN.{length, get_or, drop}
+use lib.ListN.{length, get_or}
 use borrow.Author.Rules.{rules}
 use Rattle.machine.specs.Tables.{table_refusal}
-use Rattle.machine.specs.Shared.{no_cell}
 use Rattle.machine.specs.Steps.{event_of}
-use Rattle.machine.specs.Settings.{settings_fit}
-use Rattle.machine.specs.Runs.{counted, zero_tally, run_from}
+use Rattle.machine.specs.Runs.{counted}
 use Rattle.machine.specs.declared.Event.{Event}
 use Rattle.machine.specs.declared.Told.{Told}
 use Rattle.machine.specs.declared.Tally.{Tally}
@@ -46,9 +43,9 @@ loop-i-init c =
 pub advance_under-requires : goal.advance_under-requires
 advance_under-requires c =
     let v = c.loop-i.invariant in record {
-  cells_value = v.4;
-  settings_value = v.6;
-}
+      cells_value = v.4;
+      settings_value = v.6;
+    }
 
 pub counted-tally-requires : goal.counted-tally-requires
 counted-tally-requires c =

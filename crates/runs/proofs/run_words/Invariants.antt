@@ -1,24 +1,14 @@
 -- `run_words` meets its contract. Assumes nothing.
-use Prim.Native.Nat.{ℕ, ◌+◌, ◌≤◌, ◌<◌, ◌-◌}
-use mathlib.Core.Path.{◌≡◌, refl, ap, sym, subst, ◌∙◌}
+use Prim.Native.Nat.{ℕ, ◌≤◌, ◌-◌}
+use mathlib.Core.Path.{◌≡◌}
 use mathlib.Core.Bool.{true}
-use native.Mathlib.Omega.{arith}
-use lib.ListN.{length, get_or, drop}
-use borrow.Author.Rules.{rules}
+use lib.ListN.{length, drop}
 use Rattle.machine.specs.Tables.{table_refusal}
 use Rattle.machine.specs.Shared.{no_cell}
-use Rattle.machine.specs.Steps.{event_of}
 use Rattle.machine.specs.Settings.{settings_fit}
-use Rattle.machine.specs.Runs.{counted, zero_tally, run_from}
-use Rattle.machine.specs.declared.Event.{Event}
-use Rattle.machine.specs.declared.Told.{Told}
+use Rattle.machine.specs.Runs.{zero_tally, run_from}
 use Rattle.machine.specs.declared.Tally.{Tally}
-use Rattle.machine.proofs.SettingTheorems.{under_keeps_sound, accepted_same}
 use Rattle.cells.specs.View.{rows_of}
-use Rattle.machine.proofs.AnswerLaws.{under_moved, under_refused}
-use Rattle.machine.proofs.RunLaws.{counted_words}
-use Rattle.runs.proofs.RunLaws.{run_turn, run_halt, run_past, runs_ended}
-use Rattle.runs.proofs.RunLaws.{counted_comes, counted_arrivals}
 use Rattle.runs.proofs.run_words.Given as goal
 
 -- the tally counts i words

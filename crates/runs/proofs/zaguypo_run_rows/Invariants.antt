@@ -1,5 +1,4 @@
 -- `zaguypo_run_rows`: before each turn the run stands where `at` says, and each turn leaves less. Assumes nothing.
-use mathlib.Core.List.{List}
 use Prim.Native.Nat.{ℕ}
 use Rattle.machine.specs.Runs.{run_of}
 use Rattle.machine.specs.declared.Settings.{Settings}

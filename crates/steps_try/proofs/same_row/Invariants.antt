@@ -1,6 +1,5 @@
 -- `same_row` is safe and ends. Assumes nothing.
 use Prim.Native.Nat.{◌-◌, ◌≤◌}
-use borrow.Author.Rules.{rules}
 use Rattle.steps_try.proofs.same_row.Given as goal
 
 abbrev pub invariant-loop-i : goal.invariant-loop-i

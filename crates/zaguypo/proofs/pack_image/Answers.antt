@@ -13,45 +13,44 @@ use Rattle.cells.specs.View.{rows_of}
 use Rattle.cells.proofs.ViewLaws.{rows_length}
 use Rattle.counting.specs.Placing.{placed}
 use Rattle.counting.proofs.PlacingLaws.{take_first}
-use borrow.Author.Rules.{rules}
 use Rattle.zaguypo.proofs.pack_image.Goals as goal
 
 pub image_words-all-requires : goal.image_words-all-requires
 image_words-all-requires c =
     let few : (0 < length c.args.cells.now) × (length c.args.cells.now ≤ 16) =
-        let x = c.args.cells.now in
-        let facts = sound_rows (rows_of x) c.requires.writable.sound in
-        (omega (arith, facts.0, rows_length x), omega (arith, facts.1, rows_length x)) in
- omega (arith, few.1)
+    let x = c.args.cells.now in
+    let facts = sound_rows (rows_of x) c.requires.writable.sound in
+    (omega (arith, facts.0, rows_length x), omega (arith, facts.1, rows_length x)) in
+    omega (arith, few.1)
 
 pub slice_bounds-pack-end : goal.slice_bounds-pack-end
 slice_bounds-pack-end c =
     let within : c.image_words-all.result ≤ length c.write_cells.new.out =
-        let size = ap image_length (rows_length c.args.cells.now) in
-        omega (arith, c.requires.room.long, size, c.write_cells.auto.out, c.image_words-all.ensures) in
- within
+    let size = ap image_length (rows_length c.args.cells.now) in
+    omega (arith, c.requires.room.long, size, c.write_cells.auto.out, c.image_words-all.ensures) in
+    within
 
 pub slice_bounds-pack-end-2 : goal.slice_bounds-pack-end-2
 slice_bounds-pack-end-2 c =
     let within : c.image_words-all.result ≤ length c.write_cells.new.out =
-        let size = ap image_length (rows_length c.args.cells.now) in
-        omega (arith, c.requires.room.long, size, c.write_cells.auto.out, c.image_words-all.ensures) in
+    let size = ap image_length (rows_length c.args.cells.now) in
+    omega (arith, c.requires.room.long, size, c.write_cells.auto.out, c.image_words-all.ensures) in
     sym (length-take-le _ c.write_cells.new.out within)
 
 pub pack-requires : goal.pack-requires
 pack-requires c =
     let within : c.image_words-all.result ≤ length c.write_cells.new.out =
-        let size = ap image_length (rows_length c.args.cells.now) in
-        omega (arith, c.requires.room.long, size, c.write_cells.auto.out, c.image_words-all.ensures) in
+    let size = ap image_length (rows_length c.args.cells.now) in
+    omega (arith, c.requires.room.long, size, c.write_cells.auto.out, c.image_words-all.ensures) in
     let words = length-take-le _ c.write_cells.new.out within in
     omega (arith, words, c.requires.writable.room, ap image_length (rows_length c.args.cells.now), c.image_words-all.ensures)
 
 pub returns : goal.returns
 returns c =
     let few : (0 < length c.args.cells.now) × (length c.args.cells.now ≤ 16) =
-        let x = c.args.cells.now in
-        let facts = sound_rows (rows_of x) c.requires.writable.sound in
-        (omega (arith, facts.0, rows_length x), omega (arith, facts.1, rows_length x)) in
+    let x = c.args.cells.now in
+    let facts = sound_rows (rows_of x) c.requires.writable.sound in
+    (omega (arith, facts.0, rows_length x), omega (arith, facts.1, rows_length x)) in
     let x = c.args.cells.now in
     let all = c.image_words-all.result in
     let image = length_image (rows_of x) (omega (arith, few.0, rows_length x)) in

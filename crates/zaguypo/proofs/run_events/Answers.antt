@@ -1,28 +1,23 @@
 -- `zaguypo::run_events` meets its contract. The invariant of its loop: the run of all words is that of the words left.
 -- Assumes nothing.
-use Prim.Native.Nat.{ℕ, ◌+◌, ◌≤◌, ◌<◌, ◌-◌}
-use mathlib.Core.Path.{◌≡◌, refl, ap, sym, ◌∙◌}
-use mathlib.Core.Bool.{true}
+use Prim.Native.Nat.{ℕ, ◌+◌, ◌<◌}
+use mathlib.Core.Path.{refl, ap, sym, ◌∙◌}
 use mathlib.Core.List.{List}
 use native.Mathlib.Omega.{arith}
-use lib.ListN.{length, get_or, drop}
+use lib.ListN.{length, get_or}
 use borrow.Author.Rules.{rules}
-use Rattle.machine.specs.Tables.{Table, table_refusal}
+use Rattle.machine.specs.Tables.{table_refusal}
 use Rattle.machine.specs.Shared.{no_cell}
 use Rattle.machine.specs.Steps.{after_word, event_of, cell_of}
-use Rattle.machine.specs.Settings.{settings_fit, refusal_under, after_under}
-use Rattle.machine.specs.Runs.{Outcome, counted, zero_tally, run_from}
+use Rattle.machine.specs.Settings.{refusal_under, after_under}
+use Rattle.machine.specs.Runs.{Outcome, counted, zero_tally}
 use Rattle.machine.specs.Bytes.{words_in}
-use Rattle.machine.specs.declared.Settings.{Settings}
-use Rattle.machine.specs.declared.SharedCell.{SharedCell}
-use Rattle.machine.specs.declared.Tally.{Tally}
 use Rattle.machine.proofs.SettingTheorems.{under_keeps_sound, accepted_same}
 use Rattle.machine.proofs.AnswerLaws.{under_moved, under_refused}
 use Rattle.machine.proofs.RunLaws.{counted_words}
 use Rattle.cells.specs.View.{rows_of}
 use Rattle.runs.proofs.RunLaws.{run_turn, run_halt, run_past}
 use Rattle.octets.proofs.ByteLaws.{length_words_in}
-use Rattle.zaguypo.proofs.run_events.Invariants.{Standing}
 use Rattle.zaguypo.proofs.run_events.Goals as goal
 
 pub loop-i-init : goal.loop-i-init
@@ -55,9 +50,9 @@ shape_of-cells-in-Refused c =
 pub returns-in-Refused : goal.returns-in-Refused
 returns-in-Refused c =
     let events : List ℕ =
-        words_in c.args.events.now in
+    words_in c.args.events.now in
     let within : c.loop-i.i < length events =
-        omega (arith, c.loop-i-test, length_words_in c.args.events.now) in
+    omega (arith, c.loop-i-test, length_words_in c.args.events.now) in
     let m = c.args.settings in
     let at = c.loop-i in
     let v = at.invariant in
@@ -82,9 +77,9 @@ returns-in-Refused c =
 pub loop-i-preserved : goal.loop-i-preserved
 loop-i-preserved c =
     let events : List ℕ =
-        words_in c.args.events.now in
+    words_in c.args.events.now in
     let within : c.loop-i.i < length events =
-        omega (arith, c.loop-i-test, length_words_in c.args.events.now) in
+    omega (arith, c.loop-i-test, length_words_in c.args.events.now) in
     let m = c.args.settings in
     let at = c.loop-i in
     let v = at.invariant in
@@ -125,7 +120,7 @@ shape_of-cells c = c.loop-i.invariant.2
 pub returns : goal.returns
 returns c =
     let events : List ℕ =
-        words_in c.args.events.now in
+    words_in c.args.events.now in
     let m = c.args.settings in
     let at = c.loop-i in
     let v = at.invariant in

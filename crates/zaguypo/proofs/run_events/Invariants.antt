@@ -1,27 +1,19 @@
 -- `zaguypo::run_events` meets its contract. The invariant of its loop: the run of all words is that of the words left.
 -- Assumes nothing.
-use Prim.Native.Nat.{ℕ, ◌+◌, ◌≤◌, ◌<◌, ◌-◌}
-use mathlib.Core.Path.{◌≡◌, refl, ap, sym, ◌∙◌}
+use Prim.Native.Nat.{ℕ, ◌≤◌, ◌-◌}
+use mathlib.Core.Path.{◌≡◌}
 use mathlib.Core.Bool.{true}
 use mathlib.Core.List.{List}
-use native.Mathlib.Omega.{arith}
-use lib.ListN.{length, get_or, drop}
-use borrow.Author.Rules.{rules}
+use lib.ListN.{length, drop}
 use Rattle.machine.specs.Tables.{Table, table_refusal}
 use Rattle.machine.specs.Shared.{no_cell}
-use Rattle.machine.specs.Steps.{after_word, event_of, cell_of}
-use Rattle.machine.specs.Settings.{settings_fit, refusal_under, after_under}
-use Rattle.machine.specs.Runs.{Outcome, counted, zero_tally, run_from}
+use Rattle.machine.specs.Settings.{settings_fit}
+use Rattle.machine.specs.Runs.{zero_tally, run_from}
 use Rattle.machine.specs.Bytes.{words_in}
 use Rattle.machine.specs.declared.Settings.{Settings}
 use Rattle.machine.specs.declared.SharedCell.{SharedCell}
 use Rattle.machine.specs.declared.Tally.{Tally}
-use Rattle.machine.proofs.SettingTheorems.{under_keeps_sound, accepted_same}
-use Rattle.machine.proofs.AnswerLaws.{under_moved, under_refused}
-use Rattle.machine.proofs.RunLaws.{counted_words}
 use Rattle.cells.specs.View.{rows_of}
-use Rattle.runs.proofs.RunLaws.{run_turn, run_halt, run_past}
-use Rattle.octets.proofs.ByteLaws.{length_words_in}
 use Rattle.zaguypo.proofs.run_events.Given as goal
 
 -- i words of ws have led from the table t to the table u

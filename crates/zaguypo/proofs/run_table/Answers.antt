@@ -12,7 +12,6 @@ use Rattle.cells.specs.View.{rows_of}
 use Rattle.cells.proofs.ViewLaws.{rows_length}
 use Rattle.images.proofs.CountLaws.{image_low}
 use Rattle.zaguypo.proofs.CallLaws.{calls_unfit, calls-short, calls-ran}
-use borrow.Author.Rules.{rules}
 use borrow.Author.Tests.{not-true, not-false}
 use Rattle.zaguypo.proofs.run_table.Goals as goal
 
@@ -27,19 +26,19 @@ returns-then-not-settings_fit c =
 pub image_words-requires : goal.image_words-requires
 image_words-requires c =
     let few : length c.args.cells.now ≤ 16 =
-        let x = c.args.cells.now in omega (arith, (sound_rows (rows_of x) c.requires.table_sound).1, rows_length x) in
- omega (arith, few)
+    let x = c.args.cells.now in omega (arith, (sound_rows (rows_of x) c.requires.table_sound).1, rows_length x) in
+    omega (arith, few)
 
 pub overflow_mul-image_words : goal.overflow_mul-image_words
 overflow_mul-image_words c =
     let few : length c.args.cells.now ≤ 16 =
-        let x = c.args.cells.now in omega (arith, (sound_rows (rows_of x) c.requires.table_sound).1, rows_length x) in
+    let x = c.args.cells.now in omega (arith, (sound_rows (rows_of x) c.requires.table_sound).1, rows_length x) in
     omega (arith, c.image_words.ensures, image_low _ few)
 
 pub returns-then-image-image_words : goal.returns-then-image-image_words
 returns-then-image-image_words c =
     let fit : settings_fit c.args.settings ≡ true =
-        sym c.settings_fit.ensures ∙ not-false _ c.if-not-settings_fit.false-raw in
+    sym c.settings_fit.ensures ∙ not-false _ c.if-not-settings_fit.false-raw in
     let a = c.args in
     calls-short a.settings (rows_of a.cells.now) (words_in a.events.now) a.image.now fit
     (omega (arith, ap image_length (rows_length a.cells.now), c.image_words.ensures, c.if-image-image_words.true))
@@ -47,7 +46,7 @@ returns-then-image-image_words c =
 pub run_events-ended-requires : goal.run_events-ended-requires
 run_events-ended-requires c =
     let fit : settings_fit c.args.settings ≡ true =
-        sym c.settings_fit.ensures ∙ not-false _ c.if-not-settings_fit.false-raw in
+    sym c.settings_fit.ensures ∙ not-false _ c.if-not-settings_fit.false-raw in
     let p = c.requires in
     record { table_sound = p.table_sound; settings_fit_lem = fit; words_few = p.words_few }
 
@@ -68,7 +67,7 @@ write_image-requires c =
 pub returns : goal.returns
 returns c =
     let fit : settings_fit c.args.settings ≡ true =
-        sym c.settings_fit.ensures ∙ not-false _ c.if-not-settings_fit.false-raw in
+    sym c.settings_fit.ensures ∙ not-false _ c.if-not-settings_fit.false-raw in
     let put = c.write_image in
     let a = c.args in
     let run = c.run_events-ended in

@@ -1,6 +1,5 @@
 -- `zaguypo::too_many` meets its contract. Assumes nothing.
 use mathlib.Core.Path.{refl, sym, ◌∙◌}
-use borrow.Author.Rules.{rules}
 use borrow.Author.Tests.{not-true, not-false}
 use Rattle.zaguypo.proofs.too_many.Goals as goal
 

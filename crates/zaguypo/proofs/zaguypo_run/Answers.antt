@@ -5,7 +5,6 @@ use lib.ListN.{length-replicate}
 use Rattle.machine.specs.Bytes.{words_in}
 use Rattle.machine.specs.Images.{image_length}
 use Rattle.inputs.proofs.SplitLaws.{split_count}
-use borrow.Author.Rules.{rules}
 use Rattle.zaguypo.proofs.zaguypo_run.Goals as goal
 
 pub run_input-requires : goal.run_input-requires

@@ -5,7 +5,6 @@ use Rattle.machine.proofs.Forms.{gone_22}
 use Rattle.cells.specs.View.{rows_of}
 use Rattle.steps.proofs.MoveLaws.{becomes_as}
 use Rattle.steps.proofs.ToldLaws.{goes_at}
-use borrow.Author.Rules.{rules}
 use Rattle.steps.proofs.going.end_scan.Goals as goal
 
 pub returns : goal.returns

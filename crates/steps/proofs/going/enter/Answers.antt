@@ -16,32 +16,32 @@ use Rattle.steps.proofs.going.enter.Goals as goal
 pub returns-then-not-raisable : goal.returns-then-not-raisable
 returns-then-not-raisable c =
     let own_room : (c.raisable.result ≡ raisable c.competitors-c.result c.row_at-r.result.passes) =
-        c.raisable.ensures in
+    c.raisable.ensures in
     let room-is : (let t = rows_of c.args.cells.now in
-        c.raisable.result ≡ raisable (competitors t) (row t c.args.p).passes) =
-        own_room
-        ∙ ap₂ (λ (m : ℕ) (x : Row). raisable m x.passes) c.competitors-c.ensures c.row_at-r.ensures in
+    c.raisable.result ≡ raisable (competitors t) (row t c.args.p).passes) =
+    own_room
+    ∙ ap₂ (λ (m : ℕ) (x : Row). raisable m x.passes) c.competitors-c.ensures c.row_at-r.ensures in
     enters_full c.args.cells.now c.args.p c.requires.there
     (sym room-is ∙ not-true _ c.if-not-raisable.true-raw)
 
 pub entered-requires : goal.entered-requires
 entered-requires c =
     let own_room : (c.raisable.result ≡ raisable c.competitors-c.result c.row_at-r.result.passes) =
-        c.raisable.ensures in
- record {
-  among = search rules;
-  passes_value = sym own_room ∙ not-false _ c.if-not-raisable.false-raw;
-}
+    c.raisable.ensures in
+    record {
+      among = search rules;
+      passes_value = sym own_room ∙ not-false _ c.if-not-raisable.false-raw;
+    }
 
 pub returns : goal.returns
 unfolding cell_at
 returns c =
     let own_room : (c.raisable.result ≡ raisable c.competitors-c.result c.row_at-r.result.passes) =
-        c.raisable.ensures in
+    c.raisable.ensures in
     let room-is : (let t = rows_of c.args.cells.now in
-        c.raisable.result ≡ raisable (competitors t) (row t c.args.p).passes) =
-        own_room
-        ∙ ap₂ (λ (m : ℕ) (x : Row). raisable m x.passes) c.competitors-c.ensures c.row_at-r.ensures in
+    c.raisable.result ≡ raisable (competitors t) (row t c.args.p).passes) =
+    own_room
+    ∙ ap₂ (λ (m : ℕ) (x : Row). raisable m x.passes) c.competitors-c.ensures c.row_at-r.ensures in
     let competing = c.competitors-c.ensures in
     enters_moved c.args.cells.now c.args.p c.requires.there
     (sym room-is ∙ not-false _ c.if-not-raisable.false-raw)

@@ -18,7 +18,6 @@ use Rattle.steps.specs.Moves.{At, Ready, Goes, TakesUnder}
 use Rattle.steps.proofs.MoveLaws.{Left, place_may, scan_may, left_not}
 use Rattle.steps.proofs.TakeLaws.{goes_on, refused_there}
 use Rattle.steps.proofs.SettingLaws.{goes_free, takes_early}
-use borrow.Author.Rules.{rules}
 use Rattle.steps.proofs.going.go.Goals as goal
 
 -- ---- p is where the row that was read says

@@ -2,7 +2,6 @@
 use Prim.Native.Nat.{ℕ, ◌<◌}
 use mathlib.Core.Path.{sym, ap, subst, ◌∙◌}
 use lib.ListN.{length}
-use borrow.Author.Rules.{rules}
 use borrow.Author.Tests.{not-true, not-false}
 use Rattle.machine.specs.declared.Row.{Row}
 use Rattle.rows.specs.Pushing.{to_push}
@@ -20,7 +19,7 @@ returns-then-settings-ne-ONE_WRITER c =
 pub returns-then-not-to_push : goal.returns-then-not-to_push
 returns-then-not-to_push c =
     let inside : c.args.p < length (rows_of c.args.cells.now) =
-        subst (λ (n : ℕ). c.args.p < n) (sym (rows_length c.args.cells.now)) c.requires.one in
+    subst (λ (n : ℕ). c.args.p < n) (sym (rows_length c.args.cells.now)) c.requires.one in
     let a = c.args in
     let row_is = c.row_at-r.ensures in
     let away = sym (ap to_push row_is) ∙ sym c.to_push.ensures ∙ not-true _ c.if-not-to_push.true-raw in
@@ -30,7 +29,7 @@ returns-then-not-to_push c =
 pub returns : goal.returns
 returns c =
     let inside : c.args.p < length (rows_of c.args.cells.now) =
-        subst (λ (n : ℕ). c.args.p < n) (sym (rows_length c.args.cells.now)) c.requires.one in
+    subst (λ (n : ℕ). c.args.p < n) (sym (rows_length c.args.cells.now)) c.requires.one in
     let a = c.args in
     let t = rows_of a.cells.now in
     let row_is = c.row_at-r.ensures in

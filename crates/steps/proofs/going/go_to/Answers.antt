@@ -4,7 +4,6 @@ use lib.ListN.{set}
 use Rattle.machine.specs.Rows.{with_location}
 use Rattle.cells.specs.View.{rows_of}
 use Rattle.steps.proofs.MoveLaws.{becomes_as}
-use borrow.Author.Rules.{rules}
 use Rattle.steps.proofs.going.go_to.Goals as goal
 
 pub returns : goal.returns

@@ -6,7 +6,6 @@ use Rattle.machine.specs.Steps.{forgets}
 use Rattle.machine.proofs.Forms.{gone_30}
 use Rattle.cells.specs.View.{rows_of}
 use Rattle.steps.proofs.ToldLaws.{goes_at}
-use borrow.Author.Rules.{rules}
 use Rattle.steps.proofs.going.leave.Goals as goal
 
 pub returns : goal.returns

@@ -6,7 +6,6 @@ use Rattle.machine.specs.Steps.{turned, quiet, with_cell}
 use Rattle.machine.specs.declared.Row.{Row}
 use Rattle.steps.proofs.MoveLaws.{put_pushed}
 use Rattle.steps.proofs.ToldLaws.{goes_at}
-use borrow.Author.Rules.{rules}
 use Rattle.steps.proofs.going.push.Goals as goal
 
 pub turn_to-requires : goal.turn_to-requires

@@ -2,7 +2,6 @@
 use mathlib.Core.Path.{◌≡◌, refl, sym, ◌∙◌}
 use mathlib.Core.Bool.{true}
 use native.Mathlib.Omega.{arith}
-use borrow.Author.Rules.{rules}
 use Rattle.machine.specs.Tables.{row}
 use Rattle.machine.specs.Words.{GO}
 use Rattle.machine.specs.Steps.{allowed, argument_fits}
@@ -16,7 +15,7 @@ pub returns-then-go_forbidden : goal.returns-then-go_forbidden
 unfolding argument_fits allowed
 returns-then-go_forbidden c =
     let may : allowed GO (row (rows_of c.args.cells.now) c.args.p) ≡ true =
-        rw c.requires.there refl in
+    rw c.requires.there refl in
     let m = c.args.settings in
     let none = refused_not (rows_of c.args.cells.now) GO c.args.p 0 may refl in
     takes_forbidden m (sym none) 17 refl
@@ -26,7 +25,7 @@ pub returns : goal.returns
 unfolding allowed
 returns c =
     let may : allowed GO (row (rows_of c.args.cells.now) c.args.p) ≡ true =
-        rw c.requires.there refl in
+    rw c.requires.there refl in
     let m = c.args.settings in
     takes_free m (go_free m _ GO _ refl (sym c.go_forbidden.ensures ∙ c.if-go_forbidden.false))
     (goes_on 23 c.requires.there refl may c.reconsider.ensures)

@@ -2,7 +2,6 @@
 use Rattle.machine.specs.Shared.{cell_at}
 use Rattle.steps.proofs.MoveLaws.{becomes_as, put_left}
 use Rattle.steps.proofs.ToldLaws.{goes_at}
-use borrow.Author.Rules.{rules}
 use Rattle.steps.proofs.going.rest.Goals as goal
 
 pub returns : goal.returns

@@ -3,7 +3,6 @@ use mathlib.Core.Path.{refl, sym}
 use Rattle.machine.specs.Shared.{cell_at}
 use Rattle.cells.specs.View.{rows_of}
 use Rattle.steps.proofs.MoveLaws.{becomes_as, moved_cancel}
-use borrow.Author.Rules.{rules}
 use Rattle.steps.proofs.moving.cancel.Goals as goal
 
 pub returns : goal.returns

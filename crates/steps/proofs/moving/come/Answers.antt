@@ -3,7 +3,6 @@ use mathlib.Core.Path.{sym}
 use Rattle.machine.specs.Shared.{cell_at}
 use Rattle.cells.specs.View.{rows_of}
 use Rattle.steps.proofs.MoveLaws.{becomes_as, moved_come}
-use borrow.Author.Rules.{rules}
 use Rattle.steps.proofs.moving.come.Goals as goal
 
 pub returns : goal.returns

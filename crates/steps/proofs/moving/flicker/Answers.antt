@@ -12,7 +12,6 @@ use Rattle.machine.proofs.Forms.{flickered_act, flickered_turn}
 use Rattle.cells.specs.View.{rows_of}
 use Rattle.steps.proofs.MoveLaws.{becomes_as, moved_flicker}
 use Rattle.steps.proofs.ToldLaws.{flicker_turn, flicker_act}
-use borrow.Author.Rules.{rules}
 use Rattle.steps.proofs.moving.flicker.Goals as goal
 
 pub turn_to-requires : goal.turn_to-requires

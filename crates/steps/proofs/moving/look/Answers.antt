@@ -8,7 +8,6 @@ use Rattle.machine.specs.Steps.{looked}
 use Rattle.machine.specs.declared.Row.{Row}
 use Rattle.cells.specs.View.{rows_of}
 use Rattle.steps.proofs.MoveLaws.{becomes_as, moved_look}
-use borrow.Author.Rules.{rules}
 use Rattle.steps.proofs.moving.look.Goals as goal
 
 pub returns : goal.returns

@@ -1,6 +1,5 @@
 -- `stepping::advance` meets its contract: under 0 and 0 it is the step without settings. Assumes nothing.
 use mathlib.Core.Path.{refl}
-use borrow.Author.Rules.{rules}
 use Rattle.steps.proofs.StepLaws.{weakest_steps}
 use Rattle.steps.proofs.stepping.advance.Goals as goal
 

@@ -6,7 +6,6 @@ use Rattle.machine.specs.Tables.{table_refusal}
 use Rattle.machine.proofs.SettingLaws.{under_table, under_unfit}
 use Rattle.cells.specs.View.{rows_of}
 use Rattle.steps.proofs.StepLaws.{refusal_table, refused_steps}
-use borrow.Author.Rules.{rules}
 use Rattle.steps.proofs.stepping.step.Goals as goal
 
 pub returns-then-unsound-ne0 : goal.returns-then-unsound-ne0

@@ -1,7 +1,6 @@
 -- `taking::take_come` meets its contract. Assumes nothing.
 use mathlib.Core.Path.{refl}
 use native.Mathlib.Omega.{arith}
-use borrow.Author.Rules.{rules}
 use Rattle.machine.specs.Words.{COME}
 use Rattle.steps.proofs.ToldLaws.{come_moves}
 use Rattle.steps.proofs.TakeLaws.{takes_refused, takes_moved, others_fit}

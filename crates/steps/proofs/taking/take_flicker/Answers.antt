@@ -1,7 +1,6 @@
 -- `taking::take_flicker` meets its contract. Assumes nothing.
 use mathlib.Core.Path.{refl, sym, ap, ◌∙◌}
 use native.Mathlib.Omega.{arith}
-use borrow.Author.Rules.{rules}
 use Rattle.machine.specs.Words.{FLICKER}
 use Rattle.machine.specs.Settings.{flicker_forbidden}
 use Rattle.machine.proofs.SettingLaws.{flicker_forbidden_lem, flicker_free}

@@ -1,6 +1,5 @@
 -- `taking::take_go` meets its contract: with another argument than 0 it is refused. Assumes nothing.
 use mathlib.Core.Path.{sym, ◌∙◌}
-use borrow.Author.Rules.{rules}
 use Rattle.cells.specs.View.{rows_of}
 use Rattle.steps.proofs.TakeLaws.{go_argument, go_zero}
 use Rattle.steps.proofs.SettingLaws.{takes_early}
