@@ -33,9 +33,9 @@ module _ (t : Table) where
     at_row = rw (drop-cons t q blank l, add-one q) refl
 
     -- it fits: its passes are joined to the others
-    pub sound-suc : (joined next : List ℕ) → SoundSo t n q joined → b ≡ true → Joined joined (row t q).passes next
+    pub sound_suc : (joined next : List ℕ) → SoundSo t n q joined → b ≡ true → Joined joined (row t q).passes next
         → SoundSo t n (q + 1) next
-    sound-suc joined next h e j =
+    sound_suc joined next h e j =
         let own = (row t q).passes in
         let clear : Clear n own (clear_past n own) = record { told = refl; sixteen = j.sixteen; low = j.low } in
         let sound = fits.is (clear_past n own) (passes_sound n q own (clear_past n own) clear) in
@@ -46,8 +46,8 @@ module _ (t : Table) where
         ∙ ap (λ (x : Bool). x && rest_from (q + 1)) (sym (clear_joined n j))
 
     -- it does not
-    pub sound-not : (joined : List ℕ) → SoundSo t n q joined → b ≡ false → sound_from n 0 t ≡ false
-    sound-not joined h e =
+    pub sound_not : (joined : List ℕ) → SoundSo t n q joined → b ≡ false → sound_from n 0 t ≡ false
+    sound_not joined h e =
         let own = (row t q).passes in
         let sound = fits.is (sound_passes n q own) (own_first n q own) in
         let row_is = sym sound ∙ ap (λ (x : Bool). x && sound_passes n q own) e in

@@ -34,10 +34,10 @@ rows_set (a ∷ x) (suc p) c = ap (λ (t : List Row). row_of a ∷ t) (rows_set 
 
 -- the row of the cells of a row
 pub row_cells : (r : Row) → length r.passes ≡ 16 → row_of (cells_of r) ≡ r
-row_cells r e = ap (λ (l : List ℕ). with_passes l r) (up_to_cong _ _ 16 (λ i l. past-eight i) ∙ up_to_all r.passes 16 e)
+row_cells r e = ap (λ (l : List ℕ). with_passes l r) (up_to_cong _ _ 16 (λ i l. past_eight i) ∙ up_to_all r.passes 16 e)
   where
-    past-eight : (i : ℕ) → get_or (cells_of r) (8 + i) 0 ≡ get_or r.passes i 0
-    past-eight i = ap (λ (k : ℕ). get_or (cells_of r) k 0) (eight i)
+    past_eight : (i : ℕ) → get_or (cells_of r) (8 + i) 0 ≡ get_or r.passes i 0
+    past_eight i = ap (λ (k : ℕ). get_or (cells_of r) k 0) (eight i)
       where
         eight : (i : ℕ) → 8 + i ≡ suc (suc (suc (suc (suc (suc (suc (suc i)))))))
         eight i = omega arith

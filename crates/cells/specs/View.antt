@@ -1,10 +1,10 @@
 -- The table as the code has it, one array of 24 numbers for each process, eight cells and sixteen counts of passes, and
 -- the table that it stands for.
 --
---   row_of c         ==   the row of these numbers; cells_of r is the numbers of a row.
---   unpassed p r    ==   the row r without its passes over process p.
---   rows_of x        ==   the table that a slice of cells stands for.
---   Becomes x u y   <=>  the cells x have become y, which stand for the table u and are as many.
+--   row_of c       ==   the row of these numbers; cells_of r is the numbers of a row.
+--   unpassed p r   ==   the row r without its passes over process p.
+--   rows_of x      ==   the table that a slice of cells stands for.
+--   Becomes x u y  <=>  the cells x have become y, which stand for the table u and are as many.
 --
 -- Assumes nothing.
 use Rattle.std.specs.Prelude.{ℕ, ◌+◌, ◌≡◌, List, ◌∷◌, map, length, get_or, set}

@@ -44,78 +44,78 @@ module _ (threshold : Row → ℕ) (t : Table) where
   reaches i p = leb (threshold (row t p)) i
 
   -- how many of the first q processes have a threshold of i or less
-  abbrev reachedBy : ℕ → ℕ → ℕ
-  reachedBy q i = count (reaches i) q
+  abbrev reached_by : ℕ → ℕ → ℕ
+  reached_by q i = count (reaches i) q
 
-  abbrev pub seriesOf : ℕ → List ℕ
-  seriesOf q = up_to (reachedBy q) 16
+  abbrev pub series_of : ℕ → List ℕ
+  series_of q = up_to (reached_by q) 16
 
-  pub series_zero : replicate 16 0 ≡ seriesOf 0
+  pub series_zero : replicate 16 0 ≡ series_of 0
   unfolding up_to count sum
   series_zero = refl
 
-  pub series_small : (q v : ℕ) → q ≤ 16 → v ≤ 16 → Small (seriesOf q) v
-  series_small q v l h = (h, λ i k. omega (arith, up_to_at (reachedBy q) 16 i k, count_le (reaches i) q))
+  pub series_small : (q v : ℕ) → q ≤ 16 → v ≤ 16 → Small (series_of q) v
+  series_small q v l h = (h, λ i k. omega (arith, up_to_at (reached_by q) 16 i k, count_le (reaches i) q))
 
-  pub series_next : (q : ℕ) → one_over (seriesOf q) (threshold (row t q)) ≡ seriesOf (q + 1)
+  pub series_next : (q : ℕ) → one_over (series_of q) (threshold (row t q)) ≡ series_of (q + 1)
   series_next q =
-      up_to_cong (more_at (seriesOf q) (threshold (row t q))) (reachedBy (q + 1)) 16
-      (λ i l. ap (λ (s : ℕ). s + bit (reaches i q)) (up_to_at (reachedBy q) 16 i l) ∙ sym (count_next (reaches i) q))
+      up_to_cong (more_at (series_of q) (threshold (row t q))) (reached_by (q + 1)) 16
+      (λ i l. ap (λ (s : ℕ). s + bit (reaches i q)) (up_to_at (reached_by q) 16 i l) ∙ sym (count_next (reaches i) q))
 
-  pub series_same : (q : ℕ) → threshold (row t q) ≡ 16 → seriesOf q ≡ seriesOf (q + 1)
+  pub series_same : (q : ℕ) → threshold (row t q) ≡ 16 → series_of q ≡ series_of (q + 1)
   series_same q e =
-      up_to_cong (reachedBy q) (reachedBy (q + 1)) 16
+      up_to_cong (reached_by q) (reached_by (q + 1)) 16
       (λ i l. sym (count_same (reaches i) q (ap (λ (v : ℕ). leb v i) e ∙ lt-leb 16 i l)))
 
   -- P k r: figure k counts row r
-  series-figures : (P : ℕ → Row → Bool)
+  series_figures : (P : ℕ → Row → Bool)
       → ((r : Row) → P 0 r ≡ false)
       → ((r : Row) (i : ℕ) → i < 16 → leb (threshold r) i ≡ P (suc i) r)
-      → figures_in (length t) (seriesOf (length t)) ≡ figures (λ k u. count_rows (P k) u) t
-  series-figures P none same =
-      up_to_cong (figure_at n (seriesOf n)) (λ k. cond (leb k n) (count_rows (P k) t) 0) 17
+      → figures_in (length t) (series_of (length t)) ≡ figures (λ k u. count_rows (P k) u) t
+  series_figures P none same =
+      up_to_cong (figure_at n (series_of n)) (λ k. cond (leb k n) (count_rows (P k) t) 0) 17
       (λ k l. ap (λ (s : ℕ). cond (leb k n) s 0) (figure k l))
     where
       n : ℕ
       n = length t
 
-      figure : (k : ℕ) → k < 17 → get_or (0 ∷ seriesOf n) k 0 ≡ count_rows (P k) t
+      figure : (k : ℕ) → k < 17 → get_or (0 ∷ series_of n) k 0 ≡ count_rows (P k) t
       figure zero l = sym (count_none (λ q. P 0 (row t q)) n (λ q h. none (row t q)))
       figure (suc i) l =
-          up_to_at (reachedBy n) 16 i (omega arith)
+          up_to_at (reached_by n) 16 i (omega arith)
           ∙ count_cong (reaches i) (λ q. P (suc i) (row t q)) n (λ q h. same (row t q) i (omega arith))
 
 -- ---- the two series of a census
 
 module _ (t : Table) where
-  pub below-figures : figures_in (length t) (seriesOf below_from t (length t)) ≡ figures below t
-  below-figures = series-figures below_from t is_below below_none below_reached
+  pub below-figures : figures_in (length t) (series_of below_from t (length t)) ≡ figures below t
+  below-figures = series_figures below_from t is_below below_none below_reached
 
-  pub held-figures : figures_in (length t) (seriesOf held_from t (length t)) ≡ figures held t
-  held-figures = series-figures held_from t is_held held_none held_reached
+  pub held-figures : figures_in (length t) (series_of held_from t (length t)) ≡ figures held t
+  held-figures = series_figures held_from t is_held held_none held_reached
 
 module _ (t : Table) (s : table_refusal t ≡ 0) (q : ℕ) (l : q < length t) where
-  q-le : q ≤ 16
-  q-le = omega (arith, l, sound_few t s)
+  q_le : q ≤ 16
+  q_le = omega (arith, l, sound_few t s)
 
-  level-le : (row t q).level ≤ 16
-  level-le = omega (arith, sound_few t s, (sound-row t s q l).level_low)
+  level_le : (row t q).level ≤ 16
+  level_le = omega (arith, sound_few t s, (sound-row t s q l).level_low)
 
   pub none_critical : ((row t q).level ≡ 0 → ⊥) → is_critical (row t q) ≡ false
   none_critical n =
       fails (is_critical (row t q)) (λ e. n ((sound-row t s q l).level_none (eqb-true (row t q).location 30 e)))
 
-  pub below_small : Small (seriesOf below_from t q) (below_from (row t q))
-  below_small = series_small below_from t q (below_from (row t q)) q-le (below_from_le (row t q) level-le)
+  pub below_small : Small (series_of below_from t q) (below_from (row t q))
+  below_small = series_small below_from t q (below_from (row t q)) q_le (below_from_le (row t q) level_le)
 
-  pub held_small : Small (seriesOf held_from t q) (held_from (row t q))
-  held_small = series_small held_from t q (held_from (row t q)) q-le (held_from_le (row t q) level-le)
+  pub held_small : Small (series_of held_from t q) (held_from (row t q))
+  held_small = series_small held_from t q (held_from (row t q)) q_le (held_from_le (row t q) level_le)
 
 -- no level is above 15, so that count 15 leaves out none who competes
 pub all_compete : (t : Table) → table_refusal t ≡ 0
-    → get_or (seriesOf below_from t (length t)) 15 0 ≡ waiting t + critical t
+    → get_or (series_of below_from t (length t)) 15 0 ≡ waiting t + critical t
 all_compete t s =
-    up_to_at (reachedBy below_from t n) 16 15 (omega arith)
+    up_to_at (reached_by below_from t n) 16 15 (omega arith)
     ∙ count_cong (reaches below_from t 15) (λ q. is_below n (row t q)) n (λ q l. same (row t q) (low q l))
     ∙ competing_parts t s
   where

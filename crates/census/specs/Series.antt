@@ -2,13 +2,13 @@
 -- itself promises `census_of` of machine/specs/Census). A series is 16 counts, of which count i is figure i + 1: how
 -- many processes have a threshold of i or less.
 --
---   is_at low high r   <=>  a row is at the locations from `low` to `high`.
---   below_from r       ==   a row's threshold for `below`: figure k counts it where k is above that.
---   held_from r        ==   the same for `held`.
+--   is_at low high r  <=>  a row is at the locations from `low` to `high`.
+--   below_from r      ==   a row's threshold for `below`: figure k counts it where k is above that.
+--   held_from r       ==   the same for `held`.
 --   Near i from       <=>  numbers that the code compares by arithmetic.
 --   Small a v         <=>  no count of the series is above 16, nor is the number v.
---   one_over a from    ==   the series with one process more, whose threshold is `from`.
---   figures_in n a     ==   the figures of a table of n processes: figure 0 and those past n are 0.
+--   one_over a from   ==   the series with one process more, whose threshold is `from`.
+--   figures_in n a    ==   the figures of a table of n processes: figure 0 and those past n are 0.
 --
 -- Assumes nothing.
 use Rattle.std.specs.Prelude.{ℕ, ◌+◌, ◌≤◌, ◌<◌, Bool, cond, ◌&&◌, not, List, ◌∷◌, eqb, leb, ltb, get_or}

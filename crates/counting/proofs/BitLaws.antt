@@ -121,9 +121,9 @@ pub one_shl : (w i : ℕ) → i < w → 1 * 2 ^ i % 2 ^ w ≡ 2 ^ i
 one_shl w i l = let e = shl_exact {a = 1} 1 i w (omega arith) (omega arith) in e ∙ omega arith
 
 -- all of n processes are 2 ^ n - 1
-pub all-is : (n : ℕ) → set_of (λ q. true) n + 1 ≡ 2 ^ n
-all-is zero = rw (set_of_zero (λ q. true)) refl
-all-is (suc n) = let h = all-is n in rw (set_of_suc (λ q. true) n, pow-suc 2 n) (omega arith)
+pub all_is : (n : ℕ) → set_of (λ q. true) n + 1 ≡ 2 ^ n
+all_is zero = rw (set_of_zero (λ q. true)) refl
+all_is (suc n) = let h = all_is n in rw (set_of_suc (λ q. true) n, pow-suc 2 n) (omega arith)
 
 -- all but p are `(1 << n) - 1 - (1 << p)`
 pub others_is : (n p : ℕ) → p < n → others n p + 2 ^ p + 1 ≡ 2 ^ n
@@ -138,7 +138,7 @@ others_is (suc n) p l = rw (set_of_suc (λ q. not (eqb q p)) n, pow-suc 2 n) (go
         set_of_cong (λ q. not (eqb q p)) (λ q. true) n (λ q k. ap not (ne_eqb q p (omega arith))) in
         let b = ap (λ (x : Bool). bit (not x) * 2 ^ n) (eq-eqb n p e) in
         let d = ap (λ (x : ℕ). 2 ^ x) e in
-        omega (arith, all-is n)
+        omega (arith, all_is n)
     go (no ne) ih =
         let b = ap (λ (x : Bool). bit (not x) * 2 ^ n) (ne_eqb n p ne) in
         let d = ih (omega (arith, ne)) in
@@ -156,18 +156,18 @@ and_without s q h l =
 -- ---- a loop that gathers a set at 16 bits, one number a turn: the digit d of i, shifted to its place, is added
 
 module _ (P : ℕ → Bool) (i : ℕ) (l : i < 16) where
-  gather-shl : (d : ℕ) → d < 2 → d * 2 ^ i % 65536 ≡ d * 2 ^ i
-  gather-shl d h = shl_exact 1 i 16 h (omega arith)
+  gather_shl : (d : ℕ) → d < 2 → d * 2 ^ i % 65536 ≡ d * 2 ^ i
+  gather_shl d h = shl_exact 1 i 16 h (omega arith)
 
   pub gather_digit : (d : ℕ) → d ≡ bit (P i) → set_of P i + d * 2 ^ i % 65536 ≡ set_of P (i + 1)
   gather_digit d h =
       let small : d < 2 = omega (arith, bit_le_one (P i)) in
-      rw (add-one i, set_of_suc P i, gather-shl d small, h) refl
+      rw (add-one i, set_of_suc P i, gather_shl d small, h) refl
 
   pub gather_fits_digit : (d : ℕ) → d < 2 → set_of P i + d * 2 ^ i % 65536 < 65536
   gather_fits_digit d h =
       let most = mul-le-mul_right (2 ^ i) (le_of_suc-le-suc h) in
-      let exact = gather-shl d h in
+      let exact = gather_shl d h in
       let end : 2 ^ suc i ≤ 2 ^ 16 = pow_mono {i = suc i} {j = 16} l in
       let double = pow-suc 2 i in
       omega (arith, set_of_lt P i)

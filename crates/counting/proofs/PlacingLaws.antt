@@ -2,9 +2,9 @@
 -- place.
 --
 --   begun d at s i               ==  d after the first i elements of s were put into it from place `at` on
---   begun_start, begun-next, begun_end   its loop: nothing yet, one element more, all of them
+--   begun_start, begun_next, begun_end   its loop: nothing yet, one element more, all of them
 --   begun_more                   several elements more
---   begun-rest                   what the loop has not reached is as it was
+--   begun_rest                   what the loop has not reached is as it was
 --
 -- Assumes nothing.
 use mathlib.Core.Path.{◌≡◌, sym, ap, ◌∙◌}
@@ -38,29 +38,29 @@ module _ {A : Type 0} (d : List A) (at : ℕ) (s : List A) where
   abbrev head : List A
   head = take at d ++ s
 
-  placed-head : placed d at s ≡ head ++ drop (at + length s) d
+  placed_head : placed d at s ≡ head ++ drop (at + length s) d
   unfolding placed
-  placed-head = sym (append_assoc (take at d) s (drop (at + length s) d))
+  placed_head = sym (append_assoc (take at d) s (drop (at + length s) d))
 
-  length-head : at ≤ length d → length head ≡ at + length s
-  length-head h = length-append (take at d) s ∙ ap (λ (k : ℕ). k + length s) (length-take-le at d h)
+  length_head : at ≤ length d → length head ≡ at + length s
+  length_head h = length-append (take at d) s ∙ ap (λ (k : ℕ). k + length s) (length-take-le at d h)
 
   pub length-placed : at + length s ≤ length d → length (placed d at s) ≡ length d
   length-placed h =
-      let e = length-head (omega arith) in
-      ap length placed-head
+      let e = length_head (omega arith) in
+      ap length placed_head
       ∙ omega (arith, length-append head (drop (at + length s) d), length-drop (at + length s) d)
 
   -- what stands up to the end of s
   pub take-placed : at ≤ length d → take (at + length s) (placed d at s) ≡ take at d ++ s
   take-placed h =
-      ap (take (at + length s)) placed-head ∙ take_at head (drop (at + length s) d) (at + length s) (length-head h)
+      ap (take (at + length s)) placed_head ∙ take_at head (drop (at + length s) d) (at + length s) (length_head h)
 
   -- what stands past the end of s
   pub drop-placed : (k : ℕ) → at ≤ length d → drop (at + length s + k) (placed d at s) ≡ drop (at + length s + k) d
   drop-placed k h =
-      ap (drop (at + length s + k)) placed-head
-      ∙ ap (λ (n : ℕ). drop (n + k) (head ++ drop (at + length s) d)) (sym (length-head h))
+      ap (drop (at + length s + k)) placed_head
+      ∙ ap (λ (n : ℕ). drop (n + k) (head ++ drop (at + length s) d)) (sym (length_head h))
       ∙ drop-append-add head (drop (at + length s) d) k
       ∙ drop-drop k (at + length s) d
 
@@ -136,8 +136,8 @@ module _ {A : Type 0} (d : List A) (at : ℕ) (s : List A) where
   begun_end i h = ap (placed d at) (take_all i s h)
 
   module _ (fits : at + length s ≤ length d) where
-    pub length-begun : (i : ℕ) → i ≤ length s → length (begun d at s i) ≡ length d
-    length-begun i h = length-placed d at (take i s) (omega (arith, length-take-le i s h))
+    pub length_begun : (i : ℕ) → i ≤ length s → length (begun d at s i) ≡ length d
+    length_begun i h = length-placed d at (take i s) (omega (arith, length-take-le i s h))
 
     pub begun_more : (i j p : ℕ) (u : List A) (z : A)
         → p ≡ at + i
@@ -152,22 +152,22 @@ module _ {A : Type 0} (d : List A) (at : ℕ) (s : List A) where
         ∙ ap (placed d at) (take_more s i u z (omega arith) same)
         ∙ ap (begun d at s) (sym there)
 
-    pub begun-next : (i j p : ℕ) (v z : A)
+    pub begun_next : (i j p : ℕ) (v z : A)
         → p ≡ at + i
         → j ≡ i + 1
         → i < length s
         → v ≡ get_or s i z
         → set (begun d at s i) p v ≡ begun d at s j
-    begun-next i j p v z here there h is =
-        placed_one (begun d at s i) p v (omega (arith, length-begun i (omega arith)))
+    begun_next i j p v z here there h is =
+        placed_one (begun d at s i) p v (omega (arith, length_begun i (omega arith)))
         ∙ begun_more i j p (v ∷ []) z here there (omega arith) only
       where
         only : (k : ℕ) → k < 1 → get_or (v ∷ []) k z ≡ get_or s (i + k) z
         only zero l = is ∙ ap (λ (x : ℕ). get_or s x z) (sym (add-zero i))
         only (suc k) l = absurd (omega arith)
 
-    pub begun-rest : (i p : ℕ) (z : A) → i ≤ length s → p ≡ at + i → get_or (begun d at s i) p z ≡ get_or d p z
-    begun-rest i p z h here =
+    pub begun_rest : (i p : ℕ) (z : A) → i ≤ length s → p ≡ at + i → get_or (begun d at s i) p z ≡ get_or d p z
+    begun_rest i p z h here =
         let count = length-take-le i s h in
         let past : p ≡ at + length (take i s) + 0 = omega arith in
         let none = add-zero p in

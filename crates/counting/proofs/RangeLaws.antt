@@ -2,7 +2,7 @@
 --
 --   up_to_cong, up_to_length, up_to_at, up_to_all   the list of g 0, g 1, ..; a list is that of its places
 --   every_cong, every_at, every_all, every_fails    a test of all numbers below n, and of one of them
---   some_cong, some_one, none-next, one_some                   a test of any number below n
+--   some_cong, some_one, none_next, one_some                   a test of any number below n
 --   filled ..                                   an array that is filled with g 0, g 1, ..
 --
 -- Assumes nothing.
@@ -17,7 +17,7 @@ use native.Mathlib.Omega.{arith}
 use native.Mathlib.Numerals.{add-one}
 use lib.ListN.{length, get_or, set, replicate, length-append, length-replicate, get_or-append}
 use lib.Seq.{get_or_at, ext_get_or}
-use Rattle.counting.proofs.PlacingLaws.{begun, begun_start, begun-next, begun_end, placed_whole}
+use Rattle.counting.proofs.PlacingLaws.{begun, begun_start, begun_next, begun_end, placed_whole}
 use Rattle.counting.specs.Ranges.{up_to, every, some}
 use Rattle.counting.proofs.TestLaws.{or_cases}
 
@@ -109,9 +109,9 @@ module _ (P : ℕ → Bool) where
       (or_cases (some P n) (P n) h)
 
   -- none so far, and not the next
-  pub none-next : (n : ℕ) → some P n ≡ false → P n ≡ false → some P (n + 1) ≡ false
+  pub none_next : (n : ℕ) → some P n ≡ false → P n ≡ false → some P (n + 1) ≡ false
   unfolding some
-  none-next n h e = ap (some P) (add-one n) ∙ rw (h, e) refl
+  none_next n h e = ap (some P) (add-one n) ∙ rw (h, e) refl
 
   pub one_some : (n i : ℕ) → i < n → P i ≡ true → some P n ≡ true
   unfolding some
@@ -139,7 +139,7 @@ module _ (g : ℕ → ℕ) (m : ℕ) where
       let long = length-replicate {A = ℕ} m 0 in
       let count = up_to_length g m in
       ap (λ (b : List ℕ). set b i v) is
-      ∙ begun-next (replicate m 0) 0 (up_to g m) (omega arith) i (i + 1) i v 0 (omega arith) refl (omega arith)
+      ∙ begun_next (replicate m 0) 0 (up_to g m) (omega arith) i (i + 1) i v 0 (omega arith) refl (omega arith)
       (e ∙ sym (up_to_at g m i l))
 
   pub filled_end : (i : ℕ) → m ≤ i → filled i ≡ up_to g m

@@ -3,7 +3,7 @@
 --   size-count                    the size of a set below 2 ^ n is a count below n
 --   size-set_of                    the size of a set that was made is the count of what it was made of
 --   size_mono, size_le, size_zero    some of the members; at most n of n processes; none in the empty set
---   size-without, size-without_in, size-without_le, size_le_without    a removal, and how far it changes the size
+--   size-without, size_without_in, size_without_le, size_le_without    a removal, and how far it changes the size
 --   size-others                   all of n processes but p are n - 1
 --   size_under                    a set of some of the numbers that have P, less one of them, has fewer members
 --   size_pos, size_member         a member makes the size at least 1, and a size of at least 1 has a member
@@ -84,11 +84,11 @@ module _ (s p : ℕ) where
       omega arith
 
   -- a removal of a member takes one
-  pub size-without_in : p < 16 → has s p ≡ true → size s ≡ size (without s p) + 1
-  size-without_in l h = size-without l ∙ ap (λ (b : Bool). size (without s p) + bit b) h
+  pub size_without_in : p < 16 → has s p ≡ true → size s ≡ size (without s p) + 1
+  size_without_in l h = size-without l ∙ ap (λ (b : Bool). size (without s p) + bit b) h
 
-  pub size-without_le : size (without s p) ≤ size s
-  size-without_le = size_mono (without s p) s (λ q l. without_sub s p q l)
+  pub size_without_le : size (without s p) ≤ size s
+  size_without_le = size_mono (without s p) s (λ q l. without_sub s p q l)
 
   pub size_le_without : size s ≤ size (without s p) + 1
   unfolding size

@@ -1,6 +1,6 @@
 -- Lists and tests over the numbers below n.
 --
---   up_to f n   ==   the list of f 0, f 1, .. of n numbers.
+--   up_to f n  ==   the list of f 0, f 1, .. of n numbers.
 --   every P n  <=>  each number below n has P.
 --   some P n   <=>  one or more of them have P.
 --

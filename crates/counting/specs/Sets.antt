@@ -1,7 +1,7 @@
 -- Sets of process numbers, kept as numbers: bit q stands for process q.
 --
 --   has s q      <=>  process q is in the set s.
---   set_of P n    ==   the set of the q below n that have P.
+--   set_of P n   ==   the set of the q below n that have P.
 --   size s       ==   how many members s has; a set has members below 16 only.
 --   without s p  ==   the set s, less p.
 --   others n p   ==   all of n processes but p.

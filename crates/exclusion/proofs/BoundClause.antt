@@ -27,23 +27,23 @@ use Rattle.exclusion.proofs.Reaching.{Held, Reaches, Stops, reaches_competes, re
 use Rattle.exclusion.proofs.Bounded.{Bounded, Stopper, count_rows_mono, bounded_few, bounded_stop, bounded_leave}
 use Rattle.exclusion.proofs.Bounded.{stopper_kept, stopper_own, bounded_row}
 use Rattle.exclusion.proofs.Effects.{Stays, Alone, Effect}
-use Rattle.exclusion.proofs.Effects.Effect.{idled, stayed, entered, lowered, went-to-push, passed, flickered}
+use Rattle.exclusion.proofs.Effects.Effect.{idled, stayed, entered, lowered, went_to_push, passed, flickered}
 use Rattle.exclusion.proofs.Effects.Effect.{pushed, exited}
 use Rattle.exclusion.proofs.Invariant.{Invariant}
 
 module _ (t u : Table) (p : ℕ) (l : p < length t) (i : Invariant t) (k : ℕ) where
   -- ---- the row of p alone changes, and no turn cell
 
-  alone-bounded : (s : Row)
+  alone_bounded : (s : Row)
       → Alone t p s u
       → TurnsKept t u
       → (Reaches k s → Reaches k (row t p))
       → (Stops (row t k).turn k p (row t p) → Stops (row t k).turn k p s)
       → Bounded u k
-  alone-bounded s b v f g = bounded_row t u p s k b f (stopper_kept t u p s k b (v k) g) (i.bounded k)
+  alone_bounded s b v f g = bounded_row t u p s k b f (stopper_kept t u p s k b (v k) g) (i.bounded k)
 
-  stayed-bounded : (s : Row) → Stays t (row t p) s → Alone t p s u → TurnsKept t u → Bounded u k
-  stayed-bounded s h b v = alone-bounded s b v reach stop
+  stayed_bounded : (s : Row) → Stays t (row t p) s → Alone t p s u → TurnsKept t u → Bounded u k
+  stayed_bounded s h b v = alone_bounded s b v reach stop
     where
       reach : Reaches k s → Reaches k (row t p)
       reach (inl (c, inl m)) = inl (h.before, inl (omega (arith, h.same_level)))
@@ -58,12 +58,12 @@ module _ (t u : Table) (p : ℕ) (l : p < length t) (i : Invariant t) (k : ℕ) 
           (h.after, h.same_level ∙ e, inr (a, (λ z. n (sym h.same_bb ∙ z)), still))
 
   -- the level drops to the size of est, under which that of ahead lies already
-  lowered-bounded : (row t p).location ≡ 23
+  lowered_bounded : (row t p).location ≡ 23
       → size (row t p).est < (row t p).level
       → Alone t p (lowered_row (size (row t p).est) (row t p)) u
       → TurnsKept t u
       → Bounded u k
-  lowered-bounded e h b v = alone-bounded _ b v reach stop
+  lowered_bounded e h b v = alone_bounded _ b v reach stop
     where
       few : size (row t p).ahead ≤ size (row t p).est
       few = size_mono (row t p).ahead (row t p).est (λ x j. i.ahead_in_est p x)
@@ -80,13 +80,13 @@ module _ (t u : Table) (p : ℕ) (l : p < length t) (i : Invariant t) (k : ℕ) 
       stop (c, d, inr (a, n, m)) = absurd (omega (arith, few))
 
   -- the level drops by one, with which p was counted already
-  passed-bounded : (row t p).location ≡ 23
+  passed_bounded : (row t p).location ≡ 23
       → ((row t p).bb ≡ 0 → ⊥)
       → ((row t (row t p).level).turn ≡ p → ⊥)
       → Alone t p (lowered_row ((row t p).level - 1) (row t p)) u
       → TurnsKept t u
       → Bounded u k
-  passed-bounded e n o b v = alone-bounded _ b v (reach (ℕ_discrete (row t p).level k)) stop
+  passed_bounded e n o b v = alone_bounded _ b v (reach (ℕ_discrete (row t p).level k)) stop
     where
       reach : Dec ((row t p).level ≡ k) → Reaches k (lowered_row ((row t p).level - 1) (row t p)) → Reaches k (row t p)
       reach (yes d) m = inr (competes_at (row t p) 23 e, d, inr n)
@@ -100,8 +100,8 @@ module _ (t u : Table) (p : ℕ) (l : p < length t) (i : Invariant t) (k : ℕ) 
       stop (c, d, inr (a, z, m)) = absurd (o (ap (λ (x : ℕ). (row t x).turn) d ∙ a))
 
   -- to 24: at level k p becomes the stopper
-  push-bounded : (row t p).location ≡ 23 → Alone t p (with_location 24 (row t p)) u → TurnsKept t u → Bounded u k
-  push-bounded e b v = go (ℕ_discrete (row t p).level k)
+  push_bounded : (row t p).location ≡ 23 → Alone t p (with_location 24 (row t p)) u → TurnsKept t u → Bounded u k
+  push_bounded e b v = go (ℕ_discrete (row t p).level k)
     where
       reach : ((row t p).level ≡ k → ⊥) → Reaches k (with_location 24 (row t p)) → Reaches k (row t p)
       reach nd (inl (c, inl m)) = inl (competes_at (row t p) 23 e, inl m)
@@ -109,7 +109,7 @@ module _ (t u : Table) (p : ℕ) (l : p < length t) (i : Invariant t) (k : ℕ) 
       reach nd (inr (c, d, z)) = absurd (nd d)
 
       go : Dec ((row t p).level ≡ k) → Bounded u k
-      go (no nd) = alone-bounded _ b v (reach nd) (λ w. absurd (nd w.1))
+      go (no nd) = alone_bounded _ b v (reach nd) (λ w. absurd (nd w.1))
       go (yes d) =
           bounded_stop t u k b.same_size
           (other_rows_keep (λ q r. Reaches k r → Held (k + 1) (row t q)) b
@@ -119,8 +119,8 @@ module _ (t u : Table) (p : ℕ) (l : p < length t) (i : Invariant t) (k : ℕ) 
 
   -- ---- a turn cell changes
 
-  flickered-bounded : (row t p).location ≡ 24 → Alone t p (row t p) u → TurnsKeptBut (row t p).level t u → Bounded u k
-  flickered-bounded e b v = bounded_row t u p _ k b (λ m. m) (go (ℕ_discrete k (row t p).level)) (i.bounded k)
+  flickered_bounded : (row t p).location ≡ 24 → Alone t p (row t p) u → TurnsKeptBut (row t p).level t u → Bounded u k
+  flickered_bounded e b v = bounded_row t u p _ k b (λ m. m) (go (ℕ_discrete k (row t p).level)) (i.bounded k)
     where
       go : Dec (k ≡ (row t p).level) → Stopper t k → Stopper u k
       go (yes d) w = stopper_own t u p _ k b (competes_at (row t p) 24 e, sym d, inl e)
@@ -131,19 +131,19 @@ module _ (t u : Table) (p : ℕ) (l : p < length t) (i : Invariant t) (k : ℕ) 
   abbrev rivals : ℕ
   rivals = count_rows competes t
 
-  rivals-size : size (Cp t) ≡ rivals
-  rivals-size = size-set_of (λ q. competes (row t q)) (length t) (sound_few t i.sound)
+  rivals_size : size (Cp t) ≡ rivals
+  rivals_size = size-set_of (λ q. competes (row t q)) (length t) (sound_few t i.sound)
 
-  pushed-bounded : (row t p).location ≡ 24
+  pushed_bounded : (row t p).location ≡ 24
       → Alone t p (pushed_row t p (row t p)) u
       → TurnsKeptBut (row t p).level t u
       → (row u (row t p).level).turn ≡ p
       → Bounded u k
-  pushed-bounded e b v w = go (dec_lt k rivals)
+  pushed_bounded e b v w = go (dec_lt k rivals)
     where
       -- all that compete but p are ahead of it
       many : k < rivals → k ≤ size (without (Cp t) p)
-      many h = omega (arith, rivals-size, size_le_without (Cp t) p)
+      many h = omega (arith, rivals_size, size_le_without (Cp t) p)
 
       reach : k < rivals → Reaches k (pushed_row t p (row t p)) → Reaches k (row t p)
       reach h (inl (c, inl m)) = inl (competes_at (row t p) 24 e, inl m)
@@ -165,8 +165,8 @@ module _ (t u : Table) (p : ℕ) (l : p < length t) (i : Invariant t) (k : ℕ) 
           (λ c. competes_at (row t p) 24 e) (λ q ne c. c)) in
           bounded_few u k (omega (arith, nh))
 
-  entered-bounded : (row t p).location ≡ 20 → Alone t p (entered_row t p) u → TurnsKept t u → Bounded u k
-  entered-bounded e b v = go (dec_lt rivals k)
+  entered_bounded : (row t p).location ≡ 20 → Alone t p (entered_row t p) u → TurnsKept t u → Bounded u k
+  entered_bounded e b v = go (dec_lt rivals k)
     where
       out : competes (row t p) ≡ false
       out = competes_at (row t p) 20 e
@@ -181,7 +181,7 @@ module _ (t u : Table) (p : ℕ) (l : p < length t) (i : Invariant t) (k : ℕ) 
       -- with level n - 1 and all competitors ahead
       reach : k ≤ rivals → Reaches k (entered_row t p) → Reaches k (row t p)
       reach h (inl (c, inl m)) = absurd (omega (arith, room))
-      reach h (inl (c, inr (n, m))) = absurd (omega (arith, rivals-size))
+      reach h (inl (c, inr (n, m))) = absurd (omega (arith, rivals_size))
       reach h (inr (c, d, inl z)) = absurd (omega arith)
       reach h (inr (c, d, inr n)) = absurd (false≢true (sym out ∙ (i.bb_inside p n).0))
 
@@ -193,14 +193,14 @@ module _ (t u : Table) (p : ℕ) (l : p < length t) (i : Invariant t) (k : ℕ) 
           (λ q j ne c. subst (λ (r : Row). competes r ≡ true) (b.other q ne) c)) in
           bounded_few u k (omega arith)
       go (no nh) =
-          alone-bounded _ b v (reach (omega (arith, nh))) (λ w. absurd (false≢true (sym out ∙ w.0)))
+          alone_bounded _ b v (reach (omega (arith, nh))) (λ w. absurd (false≢true (sym out ∙ w.0)))
 
   -- ---- p leaves
 
-  exited-bounded : (row t p).location ≡ 30
+  exited_bounded : (row t p).location ≡ 30
       → Becomes t p (system.exited p) (with_location 40 (system.exited p (row t p))) u
       → Bounded u k
-  exited-bounded e b =
+  exited_bounded e b =
       bounded_leave t u k b.same_size p
       (other_rows_keep (λ q r. Reaches k r → (q ≡ p → ⊥) × Held (k + 1) (row t q)) b
       (λ m. absurd (false≢true (reaches_competes k (with_location 40 (system.exited p (row t p))) m)))
@@ -217,13 +217,13 @@ module _ (t u : Table) (p : ℕ) (l : p < length t) (i : Invariant t) (k : ℕ) 
 
   pub effect_keeps_bounded : Effect t p u → Bounded u k
   effect_keeps_bounded (idled s h b v) =
-      alone-bounded s b v (λ m. absurd (false≢true (sym h.idle_after ∙ reaches_competes k s m)))
+      alone_bounded s b v (λ m. absurd (false≢true (sym h.idle_after ∙ reaches_competes k s m)))
       (λ w. absurd (false≢true (sym h.idle_before ∙ w.0)))
-  effect_keeps_bounded (stayed s h b v) = stayed-bounded s h b v
-  effect_keeps_bounded (entered e b v) = entered-bounded e b v
-  effect_keeps_bounded (lowered e h b v) = lowered-bounded e h b v
-  effect_keeps_bounded (went-to-push e z b v) = push-bounded e b v
-  effect_keeps_bounded (passed e n o b v) = passed-bounded e n o b v
-  effect_keeps_bounded (flickered e b v) = flickered-bounded e b v
-  effect_keeps_bounded (pushed e b v w) = pushed-bounded e b v w
-  effect_keeps_bounded (exited e b) = exited-bounded e b
+  effect_keeps_bounded (stayed s h b v) = stayed_bounded s h b v
+  effect_keeps_bounded (entered e b v) = entered_bounded e b v
+  effect_keeps_bounded (lowered e h b v) = lowered_bounded e h b v
+  effect_keeps_bounded (went_to_push e z b v) = push_bounded e b v
+  effect_keeps_bounded (passed e n o b v) = passed_bounded e n o b v
+  effect_keeps_bounded (flickered e b v) = flickered_bounded e b v
+  effect_keeps_bounded (pushed e b v w) = pushed_bounded e b v w
+  effect_keeps_bounded (exited e b) = exited_bounded e b

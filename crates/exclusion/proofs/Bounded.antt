@@ -21,12 +21,12 @@ use Rattle.machine.specs.Tables.{Table, row, competes}
 use Rattle.machine.specs.Census.{count_rows, is_held, held}
 use Rattle.machine.specs.declared.Row.{Row}
 use Rattle.machine.proofs.Assignments.{Becomes, other_rows_keep, competes_within}
-use Rattle.exclusion.proofs.Reaching.{Held, Reaches, Stops, isReaching, held_of_is_held, is_held_of_held}
+use Rattle.exclusion.proofs.Reaching.{Held, Reaches, Stops, is_reaching, held_of_is_held, is_held_of_held}
 use Rattle.exclusion.proofs.Reaching.{reaches_of_is_reaching, is_reaching_of_reaches, reaches_competes}
 use Rattle.exclusion.proofs.Reaching.{stops_reaches, stops_not_held}
 
 abbrev pub reaching : ℕ → Table → ℕ
-reaching k t = count_rows (isReaching k) t
+reaching k t = count_rows (is_reaching k) t
 
 abbrev pub Stopper : Table → ℕ → Type 0
 Stopper t k = (q : ℕ) × Stops (row t k).turn k q (row t q)
@@ -43,16 +43,16 @@ count_rows_mono P Q t u e h =
     subst (λ (n : ℕ). count (λ q. P (row u q)) n ≤ count_rows Q t) (sym e)
     (count_mono (λ q. P (row u q)) (λ q. Q (row t q)) (length t) (λ q l. h q))
 
-held_reaching : (k : ℕ) (r : Row) → is_held k r ≡ true → isReaching k r ≡ true
+held_reaching : (k : ℕ) (r : Row) → is_held k r ≡ true → is_reaching k r ≡ true
 held_reaching k r h = is_reaching_of_reaches k r (inl (held_of_is_held k r h))
 
 -- J0: a bounded table holds at most k
 pub bounded_held : (t : Table) (k : ℕ) → Bounded t k → held k t ≤ k
 bounded_held t k (inl h) =
-    le_trans (count_rows_mono (is_held k) (isReaching k) t t refl (λ q. held_reaching k (row t q))) h
+    le_trans (count_rows_mono (is_held k) (is_reaching k) t t refl (λ q. held_reaching k (row t q))) h
 bounded_held t k (inr (h, (q, s))) =
     let fewer : held k t + 1 ≤ reaching k t =
-    count_strict (λ q. is_held k (row t q)) (λ q. isReaching k (row t q)) (length t) q
+    count_strict (λ q. is_held k (row t q)) (λ q. is_reaching k (row t q)) (length t) q
     (λ q l. held_reaching k (row t q)) (competes_within t q s.0)
     (fails (is_held k (row t q)) (λ a. stops_not_held (row t k).turn k q (row t q) s (held_of_is_held k (row t q) a)))
     (is_reaching_of_reaches k (row t q) (stops_reaches (row t k).turn k q (row t q) s)) in
@@ -63,9 +63,9 @@ bounded_held t k (inr (h, (q, s))) =
 -- a table in which no more than k compete
 pub bounded_few : (u : Table) (k : ℕ) → count_rows competes u ≤ k → Bounded u k
 bounded_few u k h =
-    let competing : (q : ℕ) → isReaching k (row u q) ≡ true → competes (row u q) ≡ true =
+    let competing : (q : ℕ) → is_reaching k (row u q) ≡ true → competes (row u q) ≡ true =
     λ q i. reaches_competes k (row u q) (reaches_of_is_reaching k (row u q) i) in
-    inl (le_trans (count_rows_mono (isReaching k) competes u u refl competing) h)
+    inl (le_trans (count_rows_mono (is_reaching k) competes u u refl competing) h)
 
 module _ (t u : Table) (k : ℕ) (e : length u ≡ length t) where
   -- no more reach k, and a stopper leaves one
@@ -75,7 +75,7 @@ module _ (t u : Table) (k : ℕ) (e : length u ≡ length t) where
       → Bounded u k
   bounded_over f w b =
       let m : reaching k u ≤ reaching k t =
-      count_rows_mono (isReaching k) (isReaching k) t u e
+      count_rows_mono (is_reaching k) (is_reaching k) t u e
       (λ q h. is_reaching_of_reaches k (row t q) (f q (reaches_of_is_reaching k (row u q) h))) in
       go m b
     where
@@ -90,7 +90,7 @@ module _ (t u : Table) (k : ℕ) (e : length u ≡ length t) where
       → Bounded u k
   bounded_stop f s b =
       let m : reaching k u ≤ held (k + 1) t =
-      count_rows_mono (isReaching k) (is_held (k + 1)) t u e
+      count_rows_mono (is_reaching k) (is_held (k + 1)) t u e
       (λ q h. is_held_of_held (k + 1) (row t q) (f q (reaches_of_is_reaching k (row u q) h))) in
       inr (le_trans m (bounded_held t (k + 1) b), s)
 
@@ -101,14 +101,14 @@ module _ (t u : Table) (k : ℕ) (e : length u ≡ length t) where
       → Bounded t (k + 1)
       → Bounded u k
   bounded_leave p f h b =
-      let fewer : count (λ q. isReaching k (row u q)) (length t) + 1 ≤ held (k + 1) t =
-      count_strict (λ q. isReaching k (row u q)) (λ q. is_held (k + 1) (row t q)) (length t) p
+      let fewer : count (λ q. is_reaching k (row u q)) (length t) + 1 ≤ held (k + 1) t =
+      count_strict (λ q. is_reaching k (row u q)) (λ q. is_held (k + 1) (row t q)) (length t) p
       (λ q l i. is_held_of_held (k + 1) (row t q) (f q (reaches_of_is_reaching k (row u q) i)).1)
       (competes_within t p h.0)
-      (fails (isReaching k (row u p)) (λ i. (f p (reaches_of_is_reaching k (row u p) i)).0 refl))
+      (fails (is_reaching k (row u p)) (λ i. (f p (reaches_of_is_reaching k (row u p) i)).0 refl))
       (is_held_of_held (k + 1) (row t p) h) in
-      let same : reaching k u ≡ count (λ q. isReaching k (row u q)) (length t) =
-      ap (count (λ q. isReaching k (row u q))) e in
+      let same : reaching k u ≡ count (λ q. is_reaching k (row u q)) (length t) =
+      ap (count (λ q. is_reaching k (row u q))) e in
       inl (omega (arith, bounded_held t (k + 1) b))
 
 -- ---- one row changes

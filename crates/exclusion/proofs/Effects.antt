@@ -20,13 +20,13 @@ use Rattle.machine.specs.Rows.{with_location, with_est, with_lis}
 use Rattle.machine.specs.Tables.{Table, row, competes}
 use Rattle.machine.specs.System as system
 use Rattle.machine.specs.System.{Step}
-use Rattle.machine.specs.System.Step.{rests, comes, flickers_20, enters, starts-scan, wins, discards, keeps, ends_scan}
-use Rattle.machine.specs.System.Step.{lowers, to-push, waits, skips, flickers_24, pushes, exits, flickers_40, leaves}
+use Rattle.machine.specs.System.Step.{rests, comes, flickers_20, enters, starts_scan, wins, discards, keeps, ends_scan}
+use Rattle.machine.specs.System.Step.{lowers, to_push, waits, skips, flickers_24, pushes, exits, flickers_40, leaves}
 use Rattle.machine.specs.System.Step.{cancels}
 use Rattle.machine.specs.declared.Row.{Row}
 use Rattle.machine.proofs.Assignments.{bare, Becomes, TurnsKept, TurnsKeptBut, set_becomes, set_keeps_turns}
-use Rattle.machine.proofs.Assignments.{other_turns_keep, turn_set_is, turn_set-others, competes_at}
-use Rattle.machine.proofs.StepRows.{entered_row, lowered_row, pushed_row, step-becomes}
+use Rattle.machine.proofs.Assignments.{other_turns_keep, turn_set_is, turn_set_others, competes_at}
+use Rattle.machine.proofs.StepRows.{entered_row, lowered_row, pushed_row, step_becomes}
 
 pub record Idles (r s : Row) : Type 0 where
   pub idle_before : competes r ≡ false
@@ -63,7 +63,7 @@ pub data Effect (t : Table) (p : ℕ) (u : Table) : Type 0 where
   lowered :
       (row t p).location ≡ 23 → size (row t p).est < (row t p).level
       → Alone t p (lowered_row (size (row t p).est) (row t p)) u → TurnsKept t u → Effect t p u
-  went-to-push :
+  went_to_push :
       (row t p).location ≡ 23 → (row t p).bb ≡ 0 → Alone t p (with_location 24 (row t p)) u → TurnsKept t u → Effect t p u
   passed :
       (row t p).location ≡ 23 → ((row t p).bb ≡ 0 → ⊥) → ((row t (row t p).level).turn ≡ p → ⊥)
@@ -103,14 +103,14 @@ module _ (t : Table) (p : ℕ) (l : p < length t) where
       (set_becomes t p l s) (set_keeps_turns t p l s g)
 
   -- from 21, 22 or 23 to location v, by changes of lis and est alone
-  stay-set : (v a b : ℕ)
+  stay_set : (v a b : ℕ)
       → Inside (row t p).location
       → (leb 21 v && leb v 30) ≡ true
       → (v ≡ 24 → ⊥)
       → (0 < (row t p).level → v ≤ 23)
       → Spares t (row t p).est b
       → Effect t p (set t p (with_location v (with_lis a (with_est b (row t p)))))
-  stay-set v a b at o n m k =
+  stay_set v a b at o n m k =
       stayed _
       (record {
         before = inside_competes (row t p).location at;
@@ -127,13 +127,13 @@ module _ (t : Table) (p : ℕ) (l : p < length t) where
       (set_becomes t p l _) (set_keeps_turns t p l _ refl)
 
   -- and where v is one of them
-  stay-inside : (v a b : ℕ)
+  stay_inside : (v a b : ℕ)
       → Inside (row t p).location
       → Inside v
       → Spares t (row t p).est b
       → Effect t p (set t p (with_location v (with_lis a (with_est b (row t p)))))
-  stay-inside v a b at to =
-      stay-set v a b at (inside_competes v to) (λ e. omega arith) (λ h. to.1)
+  stay_inside v a b at to =
+      stay_set v a b at (inside_competes v to) (λ e. omega arith) (λ h. to.1)
 
   same_est : Spares t (row t p).est (row t p).est
   same_est x j n h = h
@@ -147,35 +147,35 @@ module _ (t : Table) (p : ℕ) (l : p < length t) where
   effect_of i (comes e) = idle-set 10 _ e refl refl refl refl refl refl
   effect_of i (flickers_20 a e h) = idle-set 20 _ e refl (competes_at (row t p) 20 e) refl refl refl refl
   effect_of i (enters e) = entered e (set_becomes t p l _) (set_keeps_turns t p l _ refl)
-  effect_of i (starts-scan e h) =
-      stay-inside 22 (row t p).est (row t p).est (omega arith, omega arith) (omega arith, omega arith) same_est
+  effect_of i (starts_scan e h) =
+      stay_inside 22 (row t p).est (row t p).est (omega arith, omega arith) (omega arith, omega arith) same_est
   effect_of i (wins e h) =
-      stay-set 30 (row t p).lis (row t p).est (omega arith, omega arith) refl (λ z. omega arith)
+      stay_set 30 (row t p).lis (row t p).est (omega arith, omega arith) refl (λ z. omega arith)
       (λ z. absurd (omega arith)) same_est
   effect_of i (discards q e h z) =
-      stay-inside (row t p).location (without (row t p).lis q) (without (row t p).est q)
+      stay_inside (row t p).location (without (row t p).lis q) (without (row t p).est q)
       (omega arith, omega arith) (omega arith, omega arith)
       (λ x j n m. without_other (row t p).est q x j (λ y. n (ap (λ (x : ℕ). (row t x).act) y ∙ z)) ∙ m)
   effect_of i (keeps q e h n) =
-      stay-inside (row t p).location (without (row t p).lis q) (row t p).est
+      stay_inside (row t p).location (without (row t p).lis q) (row t p).est
       (omega arith, omega arith) (omega arith, omega arith) same_est
   effect_of i (ends_scan e h) =
-      stay-inside 23 (row t p).lis (row t p).est (omega arith, omega arith) (omega arith, omega arith) same_est
+      stay_inside 23 (row t p).lis (row t p).est (omega arith, omega arith) (omega arith, omega arith) same_est
   effect_of i (lowers e h) = lowered e h (set_becomes t p l _) (set_keeps_turns t p l _ refl)
-  effect_of i (to-push e h z) = went-to-push e z (set_becomes t p l _) (set_keeps_turns t p l _ refl)
+  effect_of i (to_push e h z) = went_to_push e z (set_becomes t p l _) (set_keeps_turns t p l _ refl)
   effect_of i (waits e h n m) = passed e n m (set_becomes t p l _) (set_keeps_turns t p l _ refl)
   effect_of i (skips e h n v) =
-      stay-inside 21 (row t p).lis (row t p).est (omega arith, omega arith) (omega arith, omega arith) same_est
+      stay_inside 21 (row t p).lis (row t p).est (omega arith, omega arith) (omega arith, omega arith) same_est
   effect_of i (flickers_24 a e h) =
-      flickered e (step-becomes t p l i (flickers_24 a e h)) (other_turns_keep t (row t p).level a i)
+      flickered e (step_becomes t p l i (flickers_24 a e h)) (other_turns_keep t (row t p).level a i)
   effect_of i (pushes e) =
       let keep : (r : Row) → (pushed_row t p r).turn ≡ r.turn = λ r. refl in
       let blind : (r : Row) → bare (pushed_row t p r) ≡ bare (pushed_row t p (bare r)) = λ r. refl in
       pushed e
-      (step-becomes t p l i (pushes e))
-      (turn_set-others t (row t p).level p i p l (pushed_row t p) keep blind)
+      (step_becomes t p l i (pushes e))
+      (turn_set_others t (row t p).level p i p l (pushed_row t p) keep blind)
       (turn_set_is t (row t p).level p i p l (pushed_row t p) keep blind)
-  effect_of i (exits e) = exited e (step-becomes t p l i (exits e))
+  effect_of i (exits e) = exited e (step_becomes t p l i (exits e))
   effect_of i (flickers_40 a e h) = idle-set 40 _ e refl (competes_at (row t p) 40 e) refl refl refl refl
   effect_of i (leaves e) = idle-set 40 _ e refl refl refl refl refl refl
   effect_of i (cancels e) = idle-set 20 _ e refl refl refl refl refl refl

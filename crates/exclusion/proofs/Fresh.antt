@@ -20,23 +20,23 @@ use Rattle.machine.specs.Tables.{Table, row, sound, all_resting, fresh, fresh_ta
 use Rattle.machine.proofs.PassLaws.{none_sound}
 use Rattle.machine.proofs.SoundRows.{SoundRow, sound-accepted, accepted-sound, rows_sound}
 use Rattle.machine.proofs.FreshRows.{fresh-sound, fresh_rests}
-use Rattle.exclusion.proofs.Reaching.{isReaching, reaches_of_is_reaching, reaches_competes}
+use Rattle.exclusion.proofs.Reaching.{is_reaching, reaches_of_is_reaching, reaches_competes}
 use Rattle.exclusion.proofs.Bounded.{Bounded}
 use Rattle.exclusion.proofs.Invariant.{Invariant}
 
 module _ (t : Table) (h : fresh t ≡ true) where
-  nobody-competes : (q : ℕ) → competes (row t q) ≡ true → ⊥
-  nobody-competes q c = false≢true (sym (fresh_rests t h q).idle_now ∙ c)
+  nobody_competes : (q : ℕ) → competes (row t q) ≡ true → ⊥
+  nobody_competes q c = false≢true (sym (fresh_rests t h q).idle_now ∙ c)
 
   nobody_ahead : (q x : ℕ) → has (row t q).ahead x ≡ true → ⊥
   nobody_ahead q x m =
       false≢true (sym (has_zero x) ∙ subst (λ (s : ℕ). has s x ≡ true) (fresh_rests t h q).none_ahead m)
 
-  fresh-bounded : (k : ℕ) → Bounded t k
-  fresh-bounded k =
-      let none = count_none (λ q. isReaching k (row t q)) (length t)
-      (λ q l. fails (isReaching k (row t q))
-      (λ m. nobody-competes q (reaches_competes k (row t q) (reaches_of_is_reaching k (row t q) m)))) in
+  fresh_bounded : (k : ℕ) → Bounded t k
+  fresh_bounded k =
+      let none = count_none (λ q. is_reaching k (row t q)) (length t)
+      (λ q l. fails (is_reaching k (row t q))
+      (λ m. nobody_competes q (reaches_competes k (row t q) (reaches_of_is_reaching k (row t q) m)))) in
       inl (omega arith)
 
   pub fresh_invariant : Invariant t
@@ -45,9 +45,9 @@ module _ (t : Table) (h : fresh t ≡ true) where
         sound = sound-accepted t (fresh-sound t h);
         bb_inside = λ q n. absurd (n (fresh_rests t h q).no_bb);
         ahead_in_est = λ q x m. absurd (nobody_ahead q x m);
-        act_shown = λ q c. absurd (nobody-competes q c);
+        act_shown = λ q c. absurd (nobody_competes q c);
         ahead_competes = λ q x m. absurd (nobody_ahead q x m);
-        bounded = fresh-bounded;
+        bounded = fresh_bounded;
       }
 
 -- ---- the table that is made

@@ -68,56 +68,56 @@ differs : (a b : ℕ) → not (eqb a b) ≡ true → a ≡ b → ⊥
 differs a b h = eqb-false a b (not-true (eqb a b) h)
 
 module _ (k : ℕ) (r : Row) where
-  abbrev isFew : Bool
-  isFew = not (eqb r.location 24) && ltb (size r.ahead) k
+  abbrev is_few : Bool
+  is_few = not (eqb r.location 24) && ltb (size r.ahead) k
 
-  abbrev isPushing : Bool
-  isPushing = eqb r.location 24 || not (eqb r.bb 0)
+  abbrev is_pushing : Bool
+  is_pushing = eqb r.location 24 || not (eqb r.bb 0)
 
-  abbrev pub isReaching : Bool
-  isReaching = is_held k r || (competes r && (eqb r.level k && isPushing))
+  abbrev pub is_reaching : Bool
+  is_reaching = is_held k r || (competes r && (eqb r.level k && is_pushing))
 
-  held-cases : (ltb r.level k ≡ true) ⊎ (isFew ≡ true) → (r.level < k) ⊎ Few k r
-  held-cases (inl e) = inl (ltb-true _ _ e)
-  held-cases (inr e) =
+  held_cases : (ltb r.level k ≡ true) ⊎ (is_few ≡ true) → (r.level < k) ⊎ Few k r
+  held_cases (inl e) = inl (ltb-true _ _ e)
+  held_cases (inr e) =
       let both = (and-eq-true_iff (not (eqb r.location 24)) (ltb (size r.ahead) k)).0 e in
       inr (differs _ _ both.0, ltb-true _ _ both.1)
 
   pub held_of_is_held : is_held k r ≡ true → Held k r
   held_of_is_held h =
-      let both = (and-eq-true_iff (competes r) (ltb r.level k || isFew)).0 h in
-      (both.0, held-cases (or_cases (ltb r.level k) isFew both.1))
+      let both = (and-eq-true_iff (competes r) (ltb r.level k || is_few)).0 h in
+      (both.0, held_cases (or_cases (ltb r.level k) is_few both.1))
 
-  isFew-of-few : Few k r → isFew ≡ true
-  isFew-of-few (n, h) = (and-eq-true_iff _ _).1 (ap not (ne_eqb _ _ n), lt-ltb _ _ h)
+  is_few_of_few : Few k r → is_few ≡ true
+  is_few_of_few (n, h) = (and-eq-true_iff _ _).1 (ap not (ne_eqb _ _ n), lt-ltb _ _ h)
 
   pub is_held_of_held : Held k r → is_held k r ≡ true
-  is_held_of_held (c, inl h) = (and-eq-true_iff _ _).1 (c, (or-eq-true_iff _ isFew).1 (Or.inl (lt-ltb _ _ h)))
+  is_held_of_held (c, inl h) = (and-eq-true_iff _ _).1 (c, (or-eq-true_iff _ is_few).1 (Or.inl (lt-ltb _ _ h)))
   is_held_of_held (c, inr h) =
-      (and-eq-true_iff _ _).1 (c, (or-eq-true_iff (ltb r.level k) _).1 (Or.inr (isFew-of-few h)))
+      (and-eq-true_iff _ _).1 (c, (or-eq-true_iff (ltb r.level k) _).1 (Or.inr (is_few_of_few h)))
 
-  pushing-cases : (eqb r.location 24 ≡ true) ⊎ (not (eqb r.bb 0) ≡ true) → Pushing r
-  pushing-cases (inl e) = inl (eqb-true _ _ e)
-  pushing-cases (inr e) = inr (differs _ _ e)
+  pushing_cases : (eqb r.location 24 ≡ true) ⊎ (not (eqb r.bb 0) ≡ true) → Pushing r
+  pushing_cases (inl e) = inl (eqb-true _ _ e)
+  pushing_cases (inr e) = inr (differs _ _ e)
 
-  isPushing-of-pushing : Pushing r → isPushing ≡ true
-  isPushing-of-pushing (inl i) = (or-eq-true_iff _ (not (eqb r.bb 0))).1 (Or.inl (eq-eqb _ _ i))
-  isPushing-of-pushing (inr n) = (or-eq-true_iff (eqb r.location 24) _).1 (Or.inr (ap not (ne_eqb _ _ n)))
+  is_pushing_of_pushing : Pushing r → is_pushing ≡ true
+  is_pushing_of_pushing (inl i) = (or-eq-true_iff _ (not (eqb r.bb 0))).1 (Or.inl (eq-eqb _ _ i))
+  is_pushing_of_pushing (inr n) = (or-eq-true_iff (eqb r.location 24) _).1 (Or.inr (ap not (ne_eqb _ _ n)))
 
-  pub reaches_of_is_reaching : isReaching ≡ true → Reaches k r
-  reaches_of_is_reaching h = go (or_cases (is_held k r) (competes r && (eqb r.level k && isPushing)) h)
+  pub reaches_of_is_reaching : is_reaching ≡ true → Reaches k r
+  reaches_of_is_reaching h = go (or_cases (is_held k r) (competes r && (eqb r.level k && is_pushing)) h)
     where
-      go : (is_held k r ≡ true) ⊎ ((competes r && (eqb r.level k && isPushing)) ≡ true) → Reaches k r
+      go : (is_held k r ≡ true) ⊎ ((competes r && (eqb r.level k && is_pushing)) ≡ true) → Reaches k r
       go (inl e) = inl (held_of_is_held e)
       go (inr e) =
-          let both = (and-eq-true_iff (competes r) (eqb r.level k && isPushing)).0 e in
-          let there = (and-eq-true_iff (eqb r.level k) isPushing).0 both.1 in
-          let pushing = pushing-cases (or_cases (eqb r.location 24) (not (eqb r.bb 0)) there.1) in
+          let both = (and-eq-true_iff (competes r) (eqb r.level k && is_pushing)).0 e in
+          let there = (and-eq-true_iff (eqb r.level k) is_pushing).0 both.1 in
+          let pushing = pushing_cases (or_cases (eqb r.location 24) (not (eqb r.bb 0)) there.1) in
           inr (both.0, eqb-true _ _ there.0, pushing)
 
-  pub is_reaching_of_reaches : Reaches k r → isReaching ≡ true
+  pub is_reaching_of_reaches : Reaches k r → is_reaching ≡ true
   is_reaching_of_reaches (inl h) =
-      (or-eq-true_iff _ (competes r && (eqb r.level k && isPushing))).1 (Or.inl (is_held_of_held h))
+      (or-eq-true_iff _ (competes r && (eqb r.level k && is_pushing))).1 (Or.inl (is_held_of_held h))
   is_reaching_of_reaches (inr (c, e, h)) =
-      let there = (and-eq-true_iff _ _).1 (eq-eqb _ _ e, isPushing-of-pushing h) in
+      let there = (and-eq-true_iff _ _).1 (eq-eqb _ _ e, is_pushing_of_pushing h) in
       (or-eq-true_iff (is_held k r) _).1 (Or.inr ((and-eq-true_iff _ _).1 (c, there)))

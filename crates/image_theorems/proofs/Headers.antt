@@ -46,35 +46,35 @@ bare_header w h =
 
 module _ (w : ℕ) where
   -- how many processes a first word names, by whether it says that passes follow
-  sizeBy : Bool → ℕ
-  sizeBy b = cond b (w - header_of 0) (w - bare_header_of 0)
+  size_by : Bool → ℕ
+  size_by b = cond b (w - header_of 0) (w - bare_header_of 0)
 
   pub header_facts : is_header w ≡ true → Header (says_passes w) (size_in w) w
-  unfolding sizeBy
+  unfolding size_by
   header_facts h = ⊎_elim full bare (or_cases (from (header_of 0) w) (from (bare_header_of 0) w) h)
     where
       full : from (header_of 0) w ≡ true → Header (says_passes w) (size_in w) w
       full e =
           let is : says_passes w ≡ true = le-leb (header_of 0) w (omega (arith, (from_facts (header_of 0) w e).0)) in
-          subst (λ (b : Bool). Header b (sizeBy b) w) (sym is) (full_header w e)
+          subst (λ (b : Bool). Header b (size_by b) w) (sym is) (full_header w e)
 
       bare : from (bare_header_of 0) w ≡ true → Header (says_passes w) (size_in w) w
       bare e =
           let is : says_passes w ≡ false =
           lt-leb (header_of 0) w (omega (arith, (from_facts (bare_header_of 0) w e).1)) in
-          subst (λ (b : Bool). Header b (sizeBy b) w) (sym is) (bare_header w e)
+          subst (λ (b : Bool). Header b (size_by b) w) (sym is) (bare_header w e)
 
   -- a header says what it was made of
   pub header_known : (b : Bool) (n : ℕ) → Header b n w
       → (is_header w ≡ true) × (says_passes w ≡ b) × (size_in w ≡ n)
-  unfolding sizeBy
+  unfolding size_by
   header_known true n h =
       let is : says_passes w ≡ true = le-leb (header_of 0) w (omega (arith, h.header_is)) in
       let in-it = from_true (header_of 0) w (omega (arith, h.header_is, h.some))
       (omega (arith, h.header_is, h.few)) in (
         (or-eq-true_iff (from (header_of 0) w) (from (bare_header_of 0) w)).1 (Or.inl in-it),
         is,
-        ap sizeBy is ∙ omega (arith, h.header_is),
+        ap size_by is ∙ omega (arith, h.header_is),
       )
   header_known false n h =
       let is : says_passes w ≡ false = lt-leb (header_of 0) w (omega (arith, h.header_is, h.few)) in
@@ -82,5 +82,5 @@ module _ (w : ℕ) where
       (omega (arith, h.header_is, h.few)) in (
         (or-eq-true_iff (from (header_of 0) w) (from (bare_header_of 0) w)).1 (Or.inr in-it),
         is,
-        ap sizeBy is ∙ omega (arith, h.header_is),
+        ap size_by is ∙ omega (arith, h.header_is),
       )

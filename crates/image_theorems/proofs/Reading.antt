@@ -159,9 +159,9 @@ module _ (ws : List ℕ) (n : ℕ) (b : Bool) (long : length ws ≡ length_for b
   enough : length (slots_for b n) ≤ length (drop 1 ws)
   enough = omega (arith, length-drop 1 ws, length-slots b n some, long)
 
-  each-passed : (first_refusal n 1 (slots_for b n) (drop 1 ws)).refusal ≡ 0
+  each_passed : (first_refusal n 1 (slots_for b n) (drop 1 ws)).refusal ≡ 0
       → (i : ℕ) (s : Slot) → Placed n b i s → Passes n s (get_or ws i 0)
-  each-passed z i s p =
+  each_passed z i s p =
       let a = slot_at n b p in
       let e : get_or (drop 1 ws) a.index 0 ≡ get_or ws i 0 =
       get_or-drop 1 ws a.index 0 ∙ ap (λ (x : ℕ). get_or ws x 0) {x = 1 + a.index} {y = i}
@@ -228,7 +228,7 @@ module _ (ws : List ℕ) where
       record {
         header = header;
         length_is = long;
-        passed = each-passed ws (size_in head) (says_passes head) long (omega (arith, header.some)) h.2;
+        passed = each_passed ws (size_in head) (says_passes head) long (omega (arith, header.some)) h.2;
       }
 
   pub facts_accepted : (n : ℕ) (b : Bool) → Accepted ws n b → image_refusal ws ≡ none

@@ -18,7 +18,8 @@ use lib.ListN.{length, get_or, length-map, get_or-replicate, get_or-eq_default}
 use lib.Seq.{ext_get_or}
 use Rattle.machine.specs.Rows.{blank, no_passes}
 use Rattle.machine.specs.Tables.{Table, row, table_refusal}
-use Rattle.machine.specs.Images.{Slot, bare_length, image_length, pass_place, pass_slot, size_in, count_in, count_of, body_in}
+use Rattle.machine.specs.Images.{Slot, bare_length, image_length, pass_place, pass_slot, size_in, count_in, count_of}
+use Rattle.machine.specs.Images.{body_in}
 use Rattle.machine.specs.Images.{word_in, image_of, bare_image_of, row_in, rows_in, table_in}
 use Rattle.machine.specs.declared.Row.{Row}
 use Rattle.machine.proofs.PassLaws.{none_sound}
@@ -90,8 +91,8 @@ module _ (ws : List ℕ) (n : ℕ) (size : size_in (get_or ws 0 0) ≡ n) where
 -- ---- a sound table
 
 module _ (b : Bool) (t : Table) (ok : table_refusal t ≡ 0) where
-  image-fits : Accepted (image_for b t) (length t) b
-  image-fits =
+  image_fits : Accepted (image_for b t) (length t) b
+  image_fits =
       let s = sound_rows t ok in
       record {
         header = record { header_is = refl; some = s.0; few = s.1 };
@@ -101,13 +102,13 @@ module _ (b : Bool) (t : Table) (ok : table_refusal t ≡ 0) where
       }
 
   -- the table is read again where its counts are
-  image-read : ((q r : ℕ) → q < length t → r < length t
+  image_read : ((q r : ℕ) → q < length t → r < length t
       → count_in (get_or (image_for b t) (pass_place (length t) q r) 0) ≡ count_of t q r) → table_in (image_for b t) ≡ t
-  image-read counted =
+  image_read counted =
       let s = sound_rows t ok in
       let n = length t in
       let ws = image_for b t in
-      let size = size_is ws n b image-fits in
+      let size = size_is ws n b image_fits in
       ext_get_or blank (table_in ws) t (length-table_in ws n size)
       (λ q h.
       let l : q < n = omega (arith, length-table_in ws n size) in
@@ -117,12 +118,12 @@ module _ (b : Bool) (t : Table) (ok : table_refusal t ≡ 0) where
 module _ (t : Table) (ok : table_refusal t ≡ 0) where
   pub image_accepted : Accepted (image_of t) (length t) true
   unfolding image_of
-  image_accepted = image-fits true t ok
+  image_accepted = image_fits true t ok
 
   pub image_back : table_in (image_of t) ≡ t
   unfolding image_of
   image_back =
-      image-read true t ok
+      image_read true t ok
       (λ q r h l.
       let low = ((sound_rows t ok).2 q h).passes_fit.low r in
       ap count_in (image_at true t (pass_place (length t) q r) (pass_slot q r) (count q r refl h l))
@@ -130,14 +131,14 @@ module _ (t : Table) (ok : table_refusal t ≡ 0) where
 
   pub bare_accepted : Accepted (bare_image_of t) (length t) false
   unfolding bare_image_of
-  bare_accepted = image-fits false t ok
+  bare_accepted = image_fits false t ok
 
   -- a bare image has no counts
   pub bare_back : ((q : ℕ) → q < length t → (row t q).passes ≡ no_passes) → table_in (bare_image_of t) ≡ t
   unfolding bare_image_of
   bare_back none =
       let s = sound_rows t ok in
-      image-read false t ok
+      image_read false t ok
       (λ q r h l.
       bare_count (image_for false t) (length t) q r (length_image_for false t (omega (arith, s.0)))
       ∙ sym (ap (λ (c : List ℕ). get_or c r 0) (none q h) ∙ get_or-replicate 16 r 0 0 (omega (arith, s.1, l))))
@@ -164,9 +165,9 @@ module _ (ws : List ℕ) (n : ℕ) (b : Bool) (a : Accepted ws n b) where
       (row-sound n b ws q l a.header.few a.passed (own_none ws n b a q l))))
 
   -- the word at each place is made again
-  word-again : (i : ℕ) → i < length_for b n → get_or (image_for b (table_in ws)) i 0 ≡ get_or ws i 0
-  word-again zero h = ap (header_for b) (length-table_in ws n (size_is ws n b a)) ∙ sym a.header.header_is
-  word-again (suc j) h =
+  word_again : (i : ℕ) → i < length_for b n → get_or (image_for b (table_in ws)) i 0 ≡ get_or ws i 0
+  word_again zero h = ap (header_for b) (length-table_in ws n (size_is ws n b a)) ∙ sym a.header.header_is
+  word_again (suc j) h =
       let size = size_is ws n b a in
       let x = placed_at n b j h in
       let s = x.here in
@@ -176,22 +177,22 @@ module _ (ws : List ℕ) (n : ℕ) (b : Bool) (a : Accepted ws n b) where
       ∙ made_again n s (get_or ws (suc j) 0) (body_in (table_in ws) s) p
       (kept n ws (table_in ws) b a.header.few (row-table_in ws n size) x.placed p)
 
-  image-again : image_for b (table_in ws) ≡ ws
-  image-again =
+  image_again : image_for b (table_in ws) ≡ ws
+  image_again =
       let long = length-table_in ws n (size_is ws n b a) in
       let whole : length (image_for b (table_in ws)) ≡ length_for b n =
       length_image_for b (table_in ws) (omega (arith, a.header.some)) ∙ ap (length_for b) long in
       ext_get_or 0 (image_for b (table_in ws)) ws (whole ∙ sym a.length_is)
-      (λ i h. word-again i (subst (λ (m : ℕ). i < m) whole h))
+      (λ i h. word_again i (subst (λ (m : ℕ). i < m) whole h))
 
 pub table_image : (ws : List ℕ) (n : ℕ) → Accepted ws n true → image_of (table_in ws) ≡ ws
 unfolding image_of
-table_image ws n a = image-again ws n true a
+table_image ws n a = image_again ws n true a
 
 module _ (ws : List ℕ) (n : ℕ) (a : Accepted ws n false) where
   pub table_bare : bare_image_of (table_in ws) ≡ ws
   unfolding bare_image_of
-  table_bare = image-again ws n false a
+  table_bare = image_again ws n false a
 
   pub table_passes : (q : ℕ) → q < length (table_in ws) → (row (table_in ws) q).passes ≡ no_passes
   table_passes q h =

@@ -60,36 +60,36 @@ use Rattle.image_theorems.proofs.Fields.{turn_back, turn_passes, turn_kept, coun
 
 module _ (n : ℕ) (ws : List ℕ) (q : ℕ) where
   -- the count over i that an image's words hold
-  abbrev pub countAt : ℕ → ℕ
-  countAt i = count_in (get_or ws (pass_place n q i) 0)
+  abbrev pub count_at : ℕ → ℕ
+  count_at i = count_in (get_or ws (pass_place n q i) 0)
 
   abbrev pub readAt : ℕ → ℕ
-  readAt i = cond (ltb i n) (countAt i) 0
+  readAt i = cond (ltb i n) (count_at i) 0
 
-  pub read_at : n ≤ 16 → (i : ℕ) → i < n → get_or (passes_in n ws q) i 0 ≡ countAt i
+  pub read_at : n ≤ 16 → (i : ℕ) → i < n → get_or (passes_in n ws q) i 0 ≡ count_at i
   read_at few i h =
-      up_to_at readAt 16 i (omega arith) ∙ ap (λ (b : Bool). cond b (countAt i) 0) (lt-ltb i n h)
+      up_to_at readAt 16 i (omega arith) ∙ ap (λ (b : Bool). cond b (count_at i) 0) (lt-ltb i n h)
 
   pub read_past : (i : ℕ) → n ≤ i → get_or (passes_in n ws q) i 0 ≡ 0
   read_past i h = go (dec_lt i 16)
     where
       go : Dec (i < 16) → get_or (passes_in n ws q) i 0 ≡ 0
-      go (yes l) = up_to_at readAt 16 i l ∙ ap (λ (b : Bool). cond b (countAt i) 0) (le-ltb i n h)
+      go (yes l) = up_to_at readAt 16 i l ∙ ap (λ (b : Bool). cond b (count_at i) 0) (le-ltb i n h)
       go (no l) = get_or-eq_default (passes_in n ws q) 0 (omega (arith, up_to_length readAt 16, l))
 
   -- counts in range are read from the words that hold them
-  pub passes_back : (l : List ℕ) → SoundPasses n q l → n ≤ 16 → ((i : ℕ) → i < n → countAt i ≡ get_or l i 0)
+  pub passes_back : (l : List ℕ) → SoundPasses n q l → n ≤ 16 → ((i : ℕ) → i < n → count_at i ≡ get_or l i 0)
       → passes_in n ws q ≡ l
   passes_back l s few has = up_to_cong readAt (λ i. get_or l i 0) 16 (λ i k. go i (dec_lt i n)) ∙ up_to_all l 16 s.sixteen
     where
       go : (i : ℕ) → Dec (i < n) → readAt i ≡ get_or l i 0
-      go i (yes h) = ap (λ (b : Bool). cond b (countAt i) 0) (lt-ltb i n h) ∙ has i h
+      go i (yes h) = ap (λ (b : Bool). cond b (count_at i) 0) (lt-ltb i n h) ∙ has i h
       go i (no h) =
           let over : n ≤ i = omega (arith, h) in
-          ap (λ (b : Bool). cond b (countAt i) 0) (le-ltb i n over) ∙ sym (s.rest_none i over)
+          ap (λ (b : Bool). cond b (count_at i) 0) (le-ltb i n over) ∙ sym (s.rest_none i over)
 
   -- the counts that are read are in range where that of q over itself is 0
-  passes_sound : n ≤ 16 → q < n → countAt q ≡ 0 → SoundPasses n q (passes_in n ws q)
+  passes_sound : n ≤ 16 → q < n → count_at q ≡ 0 → SoundPasses n q (passes_in n ws q)
   passes_sound few h own =
       record {
         sixteen = up_to_length readAt 16;
@@ -142,11 +142,11 @@ kept n ws t b few is (count q r e h l) p =
 
 module _ (n : ℕ) (b : Bool) (ws : List ℕ) (q : ℕ) (l : q < n) (few : n ≤ 16) where
   -- the cell of turn[q] is 0 for q = 0, which no word holds, or what its word holds
-  turn-cases : (P : ℕ → Type 0)
+  turn_cases : (P : ℕ → Type 0)
       → (q ≡ 0 → P 0)
       → (0 < q → P (turn_in (get_or ws (turn_place n q) 0)))
       → P (row_in n ws q).turn
-  turn-cases P f g =
+  turn_cases P f g =
       split (λ b. P (cond b 0 (turn_in (get_or ws (turn_place n q) 0)))) (eqb q 0) (λ e. f (eqb-true q 0 e))
       (λ e. g (omega (arith, eqb-false q 0 e)))
 
@@ -158,7 +158,7 @@ module _ (n : ℕ) (b : Bool) (ws : List ℕ) (q : ℕ) (l : q < n) (few : n ≤
   pub row_back : (t : Table)
       → SoundRow n q (row t q)
       → ((i : ℕ) (s : Slot) → Placed n b i s → get_or ws i 0 ≡ word_of s (body_in t s))
-      → ((r : ℕ) → r < n → countAt n ws q r ≡ count_of t q r)
+      → ((r : ℕ) → r < n → count_at n ws q r ≡ count_of t q r)
       → row_in n ws q ≡ row t q
   unfolding body_of
   row_back t s has counted =
@@ -174,7 +174,7 @@ module _ (n : ℕ) (b : Bool) (ws : List ℕ) (q : ℕ) (l : q < n) (few : n ≤
       let lis-has = has (row_place q + 2) (slot LIS q) (lis q l) in
       let ahead-has = has (row_place q + 3) (slot AHEAD q) (ahead q l) in
       let turn_is =
-      turn-cases (λ v. v ≡ r.turn) (λ z. sym (s.turn_none z))
+      turn_cases (λ v. v ≡ r.turn) (λ z. sym (s.turn_none z))
       (λ g. ap turn_in (has (turn_place n q) (slot TURN q) (turn q g l))
       ∙ turn_back q r.turn (omega (arith, s.turn_low))) in
       λ x.
@@ -192,7 +192,7 @@ module _ (n : ℕ) (b : Bool) (ws : List ℕ) (q : ℕ) (l : q < n) (few : n ≤
 
   -- a row is sound where its words pass, and its count over itself is 0
   pub row-sound : ((i : ℕ) (s : Slot) → Placed n b i s → Passes n s (get_or ws i 0))
-      → countAt n ws q q ≡ 0
+      → count_at n ws q q ≡ 0
       → SoundRow n q (row_in n ws q)
   row-sound passed own =
       let f = state_kept n q (get_or ws (row_place q) 0) (passed (row_place q) (slot STATE q) (state q l)) in
@@ -209,9 +209,9 @@ module _ (n : ℕ) (b : Bool) (ws : List ℕ) (q : ℕ) (l : q < n) (few : n ≤
             set_kept n AHEAD q (get_or ws (row_place q + 3) 0) ahead_set
             (passed (row_place q + 3) (slot AHEAD q) (ahead q l));
         turn_low =
-            turn-cases (λ v. v < n) (λ z. omega arith)
+            turn_cases (λ v. v < n) (λ z. omega arith)
             (λ g. (turn_kept n q (get_or ws (turn_place n q) 0) (passed (turn_place n q) (slot TURN q) (turn q g l))).0);
-        turn_none = λ z. turn-cases (λ v. v ≡ 0) (λ e. refl) (λ g. absurd (omega arith));
+        turn_none = λ z. turn_cases (λ v. v ≡ 0) (λ e. refl) (λ g. absurd (omega arith));
         level_some = fits_some _ _ f.fits;
         level_none = fits_none _ _ f.fits;
         passes_fit = passes_sound n ws q few l own;

@@ -17,7 +17,8 @@ use lib.ListN.{length, get_or, length-append, get_or-append}
 use lib.Seq.{get_or-append-add}
 use Rattle.machine.specs.Images.{Slot, slot, pass_slot, STATE, EST, LIS, AHEAD, TURN}
 use Rattle.machine.specs.Images.{row_slots, turn_slots, pass_row, pass_slots, bare_slots, slots}
-use Rattle.machine.specs.Images.{bare_length, image_length, bare_header_of, header_of, row_place, turn_place, pass_place}
+use Rattle.machine.specs.Images.{bare_length, image_length, bare_header_of, header_of, row_place, turn_place}
+use Rattle.machine.specs.Images.{pass_place}
 
 -- ---- by whether passes follow
 
@@ -251,8 +252,8 @@ module _ (n : ℕ) (b : Bool) where
       record { here = slot AHEAD q; placed = subst (λ (x : ℕ). Placed n b x (slot AHEAD q)) e (ahead q h) }
   some-row i q (suc (suc (suc (suc j)))) h l e = absurd (omega arith)
 
-  some-bare : (j : ℕ) → suc j < bare_length n → Some n b (suc j)
-  some-bare j h = go (dec_le (suc j) (4 * n))
+  some_bare : (j : ℕ) → suc j < bare_length n → Some n b (suc j)
+  some_bare j h = go (dec_le (suc j) (4 * n))
     where
       go : Dec (suc j ≤ 4 * n) → Some n b (suc j)
       go (yes l) = some-row (suc j) (j / 4) (j % 4) (omega arith) (omega arith) (omega arith)
@@ -283,9 +284,9 @@ module _ (n : ℕ) (b : Bool) where
       positive (suc m) h = omega arith
 
 pub placed_at : (n : ℕ) (b : Bool) (j : ℕ) → suc j < length_for b n → Some n b (suc j)
-placed_at n false j h = some-bare n false j h
+placed_at n false j h = some_bare n false j h
 placed_at n true j h = go (dec_le (bare_length n) (suc j))
   where
     go : Dec (bare_length n ≤ suc j) → Some n true (suc j)
     go (yes l) = some-count n true (suc j) refl l h
-    go (no l) = some-bare n true j (omega (arith, l))
+    go (no l) = some_bare n true j (omega (arith, l))

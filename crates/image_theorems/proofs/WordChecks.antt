@@ -34,17 +34,17 @@ module _ (n : ℕ) (s : Slot) (w : ℕ) where
   abbrev is_kind : Bool
   is_kind = eqb (w / 2 ^ 28) s.kind
 
-  abbrev isPasser : Bool
-  isPasser = eqb (w / 2 ^ 24 % 2 ^ 4) s.passer
+  abbrev is_passer : Bool
+  is_passer = eqb (w / 2 ^ 24 % 2 ^ 4) s.passer
 
   abbrev is_number : Bool
   is_number = eqb (w / 2 ^ 16 % 2 ^ 8) s.number
 
-  abbrev isSpare : Bool
-  isSpare = spare_body s.kind w
+  abbrev is_spare : Bool
+  is_spare = spare_body s.kind w
 
-  abbrev isLow : Bool
-  isLow = in_range n s.kind w
+  abbrev is_low : Bool
+  is_low = in_range n s.kind w
 
   abbrev misfit : Bool
   misfit = eqb s.kind STATE && not (level_fits (location_in w) (level_in w))
@@ -52,20 +52,20 @@ module _ (n : ℕ) (s : Slot) (w : ℕ) where
   pub passes : slot_refusal n s w ≡ 0 → Passes n s w
   unfolding slot_refusal
   passes z =
-      let a = cond_zero (fits_slot s w) 2 (cond (not (off_diagonal s w && isLow)) 4 (cond misfit 5 0)) z in
-      let b = cond_zero (off_diagonal s w && isLow) 3 (cond misfit 5 0) a.1 in
-      let c = (and-eq-true_iff (off_diagonal s w) isLow).0 b.0 in
-      let h3 = ((and-eq-true_iff (is_kind && isPasser && is_number) isSpare).0 a.0).0 in
-      let h2 = ((and-eq-true_iff (is_kind && isPasser) is_number).0 h3).0 in
+      let a = cond_zero (fits_slot s w) 2 (cond (not (off_diagonal s w && is_low)) 4 (cond misfit 5 0)) z in
+      let b = cond_zero (off_diagonal s w && is_low) 3 (cond misfit 5 0) a.1 in
+      let c = (and-eq-true_iff (off_diagonal s w) is_low).0 b.0 in
+      let h3 = ((and-eq-true_iff (is_kind && is_passer && is_number) is_spare).0 a.0).0 in
+      let h2 = ((and-eq-true_iff (is_kind && is_passer) is_number).0 h3).0 in
       record {
         parts =
             record {
-              kind_is = eqb-true _ _ ((and-eq-true_iff is_kind isPasser).0 h2).0;
-              passer_is = eqb-true _ _ ((and-eq-true_iff is_kind isPasser).0 h2).1;
-              number_is = eqb-true _ _ ((and-eq-true_iff (is_kind && isPasser) is_number).0 h3).1;
+              kind_is = eqb-true _ _ ((and-eq-true_iff is_kind is_passer).0 h2).0;
+              passer_is = eqb-true _ _ ((and-eq-true_iff is_kind is_passer).0 h2).1;
+              number_is = eqb-true _ _ ((and-eq-true_iff (is_kind && is_passer) is_number).0 h3).1;
               body_is = refl;
             };
-        body_spare = ((and-eq-true_iff (is_kind && isPasser && is_number) isSpare).0 a.0).1;
+        body_spare = ((and-eq-true_iff (is_kind && is_passer && is_number) is_spare).0 a.0).1;
         off_diagonal_lem = c.0;
         in_range_lem = c.1;
         level_fits_lem = cond_none misfit b.1;
@@ -74,10 +74,10 @@ module _ (n : ℕ) (s : Slot) (w : ℕ) where
   pub refused_none : Passes n s w → slot_refusal n s w ≡ 0
   unfolding slot_refusal
   refused_none p =
-      let h2 = (and-eq-true_iff is_kind isPasser).1 (eq-eqb _ _ p.parts.kind_is, eq-eqb _ _ p.parts.passer_is) in
-      let h3 = (and-eq-true_iff (is_kind && isPasser) is_number).1 (h2, eq-eqb _ _ p.parts.number_is) in
-      let h = (and-eq-true_iff (is_kind && isPasser && is_number) isSpare).1 (h3, p.body_spare) in
-      let c = (and-eq-true_iff (off_diagonal s w) isLow).1 (p.off_diagonal_lem, p.in_range_lem) in
+      let h2 = (and-eq-true_iff is_kind is_passer).1 (eq-eqb _ _ p.parts.kind_is, eq-eqb _ _ p.parts.passer_is) in
+      let h3 = (and-eq-true_iff (is_kind && is_passer) is_number).1 (h2, eq-eqb _ _ p.parts.number_is) in
+      let h = (and-eq-true_iff (is_kind && is_passer && is_number) is_spare).1 (h3, p.body_spare) in
+      let c = (and-eq-true_iff (off_diagonal s w) is_low).1 (p.off_diagonal_lem, p.in_range_lem) in
       rw (h, c, p.level_fits_lem)
 
 -- a word that was put together has its own parts

@@ -3,9 +3,9 @@
 --   sized_long, sized_counted   the words of either form are at least those of a bare image
 --   passes_within               the words of a process stand within the image
 --   image_mono, image_low, either_low    which is not long
---   counts_start, counts-on, counts-stop, counts_end     the loop over processes: what is left decides
+--   counts_start, counts_on, counts_stop, counts_end     the loop over processes: what is left decides
 --   counts_none                 no word is refused where none of any process is
---   passes_start, passes_on, passes-stop, passes_end     the loop over the words of one process
+--   passes_start, passes_on, passes_stop, passes_end     the loop over the words of one process
 --   upper_joined   no digit of the upper half stands in one of two words alone just where the halves are equal
 --   fit_none       no word of a process is refused where each has its upper half, and that over itself is 0
 --   fit_start, fit_next                whether the words of the rows so far fit
@@ -39,7 +39,7 @@ use Rattle.image_theorems.proofs.Reading.{none_refused}
 use Rattle.image_theorems.proofs.RoundTrip.{bare_count}
 use Rattle.images.specs.Inner.{Long, Counted, Sized, Fits, AllFit, passes_refusal, pass_word, pass_words}
 use Rattle.images.proofs.SlotLaws.{count-slot}
-use Rattle.images.proofs.WalkLaws.{groups-on, groups-stop, groups_end, run_on, run_stop, run_end}
+use Rattle.images.proofs.WalkLaws.{groups_on, groups_stop, groups_end, run_on, run_stop, run_end}
 
 -- ---- how many there are, and where they stand
 
@@ -74,43 +74,43 @@ either_low b n few = cond_le b (image_length n) (bare_length n) 336 (image_low n
 -- ---- the loop over the passes of all rows
 
 module _ (n : ℕ) (ws : List ℕ) where
-  abbrev passesAt : ℕ → ℕ
-  passesAt q = pass_place n q 0
+  abbrev passes_at : ℕ → ℕ
+  passes_at q = pass_place n q 0
 
-  abbrev onePasses : ℕ → List Slot
-  onePasses q = pass_row q 0 n
+  abbrev one_passes : ℕ → List Slot
+  one_passes q = pass_row q 0 n
 
-  no-passes : (q : ℕ) → pass_slots n q 0 ≡ []
+  no_passes : (q : ℕ) → pass_slots n q 0 ≡ []
   unfolding pass_slots
-  no-passes q = refl
+  no_passes q = refl
 
-  first_passes : (q m : ℕ) → pass_slots n q (suc m) ≡ onePasses q ++ pass_slots n (suc q) m
+  first_passes : (q m : ℕ) → pass_slots n q (suc m) ≡ one_passes q ++ pass_slots n (suc q) m
   unfolding pass_slots
   first_passes q m = refl
 
   -- the first refusal from the passes of process q on
-  abbrev pub fromPasses : ℕ → Found
-  fromPasses q = first_refusal n (pass_place n q 0) (pass_slots n q (n - q)) (drop (pass_place n q 0) ws)
+  abbrev pub from_passes : ℕ → Found
+  from_passes q = first_refusal n (pass_place n q 0) (pass_slots n q (n - q)) (drop (pass_place n q 0) ws)
 
-  pub counts_start : first_refusal n (bare_length n) (pass_slots n 0 n) (drop (bare_length n) ws) ≡ fromPasses 0
+  pub counts_start : first_refusal n (bare_length n) (pass_slots n 0 n) (drop (bare_length n) ws) ≡ from_passes 0
   counts_start =
       ap₂ (λ (i m : ℕ). first_refusal n i (pass_slots n 0 m) (drop i ws)) {x = bare_length n} {y = pass_place n 0 0}
       (omega (arith, mul-zero n))
       (omega arith)
 
-  pub counts_end : fromPasses n ≡ record { refusal = 0; place = 0 }
-  counts_end = groups_end n ws passesAt onePasses (pass_slots n) no-passes first_passes
+  pub counts_end : from_passes n ≡ record { refusal = 0; place = 0 }
+  counts_end = groups_end n ws passes_at one_passes (pass_slots n) no_passes first_passes
 
   module _ (q : ℕ) (l : q < n) where
-    pub counts-stop : ((passes_refusal ws n q).refusal ≡ 0 → ⊥) → fromPasses q ≡ passes_refusal ws n q
+    pub counts_stop : ((passes_refusal ws n q).refusal ≡ 0 → ⊥) → from_passes q ≡ passes_refusal ws n q
     unfolding passes_refusal
-    counts-stop = groups-stop n ws passesAt onePasses (pass_slots n) no-passes first_passes q l
+    counts_stop = groups_stop n ws passes_at one_passes (pass_slots n) no_passes first_passes q l
 
-    pub counts-on : image_length n ≤ length ws → (passes_refusal ws n q).refusal ≡ 0 → fromPasses q ≡ fromPasses (q + 1)
+    pub counts_on : image_length n ≤ length ws → (passes_refusal ws n q).refusal ≡ 0 → from_passes q ≡ from_passes (q + 1)
     unfolding passes_refusal
-    counts-on long =
+    counts_on long =
         let next : n * (q + 1) ≡ n * q + n = ap (λ (x : ℕ). n * x) (add-one q) ∙ mul-suc n q in
-        groups-on n ws passesAt onePasses (pass_slots n) no-passes first_passes q l
+        groups_on n ws passes_at one_passes (pass_slots n) no_passes first_passes q l
         (omega (arith, length-pass_row q 0 n, next)) (omega (arith, next, passes_within n q l))
 
   pub counts_none : image_length n ≤ length ws
@@ -118,45 +118,45 @@ module _ (n : ℕ) (ws : List ℕ) where
       → first_refusal n (bare_length n) (pass_slots n 0 n) (drop (bare_length n) ws) ≡ record { refusal = 0; place = 0 }
   counts_none long each = counts_start ∙ to n (omega arith) ∙ counts_end
     where
-      to : (k : ℕ) → k ≤ n → fromPasses 0 ≡ fromPasses k
+      to : (k : ℕ) → k ≤ n → from_passes 0 ≡ from_passes k
       to zero h = refl
       to (suc k) h =
-          to k (omega arith) ∙ counts-on k (omega arith) long (each k (omega arith)) ∙ ap fromPasses (add-one k)
+          to k (omega arith) ∙ counts_on k (omega arith) long (each k (omega arith)) ∙ ap from_passes (add-one k)
 
 -- ---- the loop over the passes of one process
 
 module _ (n : ℕ) (ws : List ℕ) (q : ℕ) where
-  no-counts : (r : ℕ) → pass_row q r 0 ≡ []
+  no_counts : (r : ℕ) → pass_row q r 0 ≡ []
   unfolding pass_row
-  no-counts r = refl
+  no_counts r = refl
 
   first_count : (r m : ℕ) → pass_row q r (suc m) ≡ pass_slot q r ∷ pass_row q (suc r) m
   unfolding pass_row
   first_count r m = refl
 
   -- the first refusal from the passes over r on
-  abbrev pub fromCount : ℕ → Found
-  fromCount r = first_refusal n (pass_place n q r) (pass_row q r (n - r)) (drop (pass_place n q r) ws)
+  abbrev pub from_count : ℕ → Found
+  from_count r = first_refusal n (pass_place n q r) (pass_row q r (n - r)) (drop (pass_place n q r) ws)
 
-  pub passes_start : passes_refusal ws n q ≡ fromCount 0
+  pub passes_start : passes_refusal ws n q ≡ from_count 0
   unfolding passes_refusal
   passes_start =
       ap (λ (m : ℕ). first_refusal n (pass_place n q 0) (pass_row q 0 m) (drop (pass_place n q 0) ws)) {x = n}
       {y = n - 0}
       (omega arith)
 
-  pub passes_end : fromCount n ≡ record { refusal = 0; place = 0 }
-  passes_end = run_end n ws (bare_length n + n * q) (pass_slot q) (pass_row q) no-counts first_count
+  pub passes_end : from_count n ≡ record { refusal = 0; place = 0 }
+  passes_end = run_end n ws (bare_length n + n * q) (pass_slot q) (pass_row q) no_counts first_count
 
   module _ (k i r : ℕ) (l : k < n) (within : pass_place n q k < length ws) (here : i ≡ pass_place n q k)
       (is : r ≡ slot_refusal n (pass_slot q k) (get_or ws i 0)) where
-    pub passes-stop : (r ≡ 0 → ⊥) → record { refusal = r; place = i } ≡ fromCount k
-    passes-stop =
-        run_stop n ws (bare_length n + n * q) (pass_slot q) (pass_row q) no-counts first_count k i r l within here is
+    pub passes_stop : (r ≡ 0 → ⊥) → record { refusal = r; place = i } ≡ from_count k
+    passes_stop =
+        run_stop n ws (bare_length n + n * q) (pass_slot q) (pass_row q) no_counts first_count k i r l within here is
 
-    pub passes_on : r ≡ 0 → fromCount k ≡ fromCount (k + 1)
+    pub passes_on : r ≡ 0 → from_count k ≡ from_count (k + 1)
     passes_on =
-        run_on n ws (bare_length n + n * q) (pass_slot q) (pass_row q) no-counts first_count k i r l within here is
+        run_on n ws (bare_length n + n * q) (pass_slot q) (pass_row q) no_counts first_count k i r l within here is
 
 -- ---- whether none of them is refused
 
@@ -190,16 +190,16 @@ module _ (n : ℕ) (ws : List ℕ) (q : ℕ) (few : n ≤ 16) (l : q < n) (long 
   abbrev word : ℕ → ℕ
   word r = get_or ws (at + r) 0
 
-  abbrev pub hasUpper : ℕ → Bool
-  hasUpper r = eqb (word r / 65536) (u + r)
+  abbrev pub has_upper : ℕ → Bool
+  has_upper r = eqb (word r / 65536) (u + r)
 
-  abbrev ownNone : Bool
-  ownNone = eqb (word q % 65536) 0
+  abbrev own_none : Bool
+  own_none = eqb (word q % 65536) 0
 
-  same-slot : (r : ℕ) → r < n
+  same_slot : (r : ℕ) → r < n
       → slot_refusal n (get_or (pass_row q 0 n) r no_slot) (get_or (drop (pass_place n q 0) ws) r 0)
       ≡ slot_refusal n (pass_slot q r) (word r)
-  same-slot r h =
+  same_slot r h =
       ap₂ (slot_refusal n) (count_at q 0 n r h ∙ ap (pass_slot q) (omega arith))
       (get_or-drop (pass_place n q 0) ws r 0 ∙ ap (λ (i : ℕ). get_or ws (i + r) 0) (sym here))
 
@@ -207,23 +207,23 @@ module _ (n : ℕ) (ws : List ℕ) (q : ℕ) (few : n ≤ 16) (l : q < n) (long 
   enough = omega (arith, length-pass_row q 0 n, length-drop (pass_place n q 0) ws, passes_within n q l, long)
 
   -- by its tests
-  none-at : (r : ℕ) → r < n → hasUpper r ≡ true → ownNone ≡ true → slot_refusal n (pass_slot q r) (word r) ≡ 0
+  none-at : (r : ℕ) → r < n → has_upper r ≡ true → own_none ≡ true → slot_refusal n (pass_slot q r) (word r) ≡ 0
   none-at r h up own =
       let off =
       implies (eqb q r) (eqb (word r % 65536) 0)
       (λ e. ap (λ (j : ℕ). eqb (word j % 65536) 0) (sym (eqb-true q r e)) ∙ own) in
       count-slot n q r (word r) (u + r) (omega arith) (omega arith) (omega (arith, upper)) ∙ rw (up, off)
 
-  pub fit_none : (every hasUpper n && ownNone) ≡ true → (passes_refusal ws n q).refusal ≡ 0
+  pub fit_none : (every has_upper n && own_none) ≡ true → (passes_refusal ws n q).refusal ≡ 0
   unfolding passes_refusal
   fit_none h =
-      let both = (and-eq-true_iff (every hasUpper n) ownNone).0 h in
-      let at_each = every_at hasUpper n both.0 in
+      let both = (and-eq-true_iff (every has_upper n) own_none).0 h in
+      let at_each = every_at has_upper n both.0 in
       let fine =
       none_refused n (pass_place n q 0) (pass_row q 0 n) (drop (pass_place n q 0) ws) enough
       (λ r k.
       let low : r < n = omega (arith, length-pass_row q 0 n) in
-      same-slot r low ∙ none-at r low (at_each r low) both.1) in
+      same_slot r low ∙ none-at r low (at_each r low) both.1) in
       ap (λ (f : Found). f.refusal) fine
 
 -- ---- whether those of the rows so far fit

@@ -3,7 +3,7 @@
 --   header_none, header_some    what the size that a first word names says of it
 --   reading_refused, reading_accepted    the answer
 --   into_refused, into_accepted   the cells with it
---   image_rows, image-turns, image-bare, image-counts    all words: the rows decide where they refuse, else the turn
+--   image_rows, image_turns, image_bare, image_counts    all words: the rows decide where they refuse, else the turn
 --                               cells, else the passes, where there are such words
 --
 -- Assumes nothing.
@@ -117,14 +117,14 @@ empty_header ws e = ap is_header (get_or-eq_default ws 0 (omega arith))
 
 module _ (n : ℕ) (ws : List ℕ) where
   -- the first refusal of each part, of the words of a bare image, and of all words
-  abbrev ofRows : Found
-  ofRows = first_refusal n 1 (row_slots 0 n) (drop 1 ws)
+  abbrev of_rows : Found
+  of_rows = first_refusal n 1 (row_slots 0 n) (drop 1 ws)
 
-  abbrev ofTurns : Found
-  ofTurns = first_refusal n (turn_place n 1) (turn_slots 1 (n - 1)) (drop (turn_place n 1) ws)
+  abbrev of_turns : Found
+  of_turns = first_refusal n (turn_place n 1) (turn_slots 1 (n - 1)) (drop (turn_place n 1) ws)
 
-  abbrev ofCounts : Found
-  ofCounts = first_refusal n (bare_length n) (pass_slots n 0 n) (drop (bare_length n) ws)
+  abbrev of_counts : Found
+  of_counts = first_refusal n (bare_length n) (pass_slots n 0 n) (drop (bare_length n) ws)
 
   abbrev of_bare : Found
   of_bare = first_refusal n 1 (bare_slots n) (drop 1 ws)
@@ -132,35 +132,35 @@ module _ (n : ℕ) (ws : List ℕ) where
   abbrev pub of_all : Bool → Found
   of_all b = first_refusal n 1 (cond b (slots n) (bare_slots n)) (drop 1 ws)
 
-  bare_rows : (ofRows.refusal ≡ 0 → ⊥) → of_bare ≡ ofRows
+  bare_rows : (of_rows.refusal ≡ 0 → ⊥) → of_bare ≡ of_rows
   unfolding bare_slots
   bare_rows some = first_some n 1 (row_slots 0 n) (turn_slots 1 (n - 1)) (drop 1 ws) some
 
-  bare-turns : 2 ≤ n → bare_length n ≤ length ws → ofRows.refusal ≡ 0 → of_bare ≡ ofTurns
+  bare_turns : 2 ≤ n → bare_length n ≤ length ws → of_rows.refusal ≡ 0 → of_bare ≡ of_turns
   unfolding bare_slots
-  bare-turns some long none =
+  bare_turns some long none =
       part_on n 1 (turn_place n 1) (row_slots 0 n) (turn_slots 1 (n - 1)) ws (omega (arith, length-row_slots 0 n))
       (omega arith) none
 
-  all-bare : (b : Bool) → (of_bare.refusal ≡ 0 → ⊥) → of_all b ≡ of_bare
+  all_bare : (b : Bool) → (of_bare.refusal ≡ 0 → ⊥) → of_all b ≡ of_bare
   unfolding slots
-  all-bare false some = refl
-  all-bare true some = first_some n 1 (bare_slots n) (pass_slots n 0 n) (drop 1 ws) some
+  all_bare false some = refl
+  all_bare true some = first_some n 1 (bare_slots n) (pass_slots n 0 n) (drop 1 ws) some
 
-  pub image_rows : (b : Bool) → (ofRows.refusal ≡ 0 → ⊥) → of_all b ≡ ofRows
-  image_rows b some = all-bare b (λ z. some (none_found (bare_rows some) z)) ∙ bare_rows some
+  pub image_rows : (b : Bool) → (of_rows.refusal ≡ 0 → ⊥) → of_all b ≡ of_rows
+  image_rows b some = all_bare b (λ z. some (none_found (bare_rows some) z)) ∙ bare_rows some
 
-  module _ (some : 2 ≤ n) (long : bare_length n ≤ length ws) (none : ofRows.refusal ≡ 0) where
-    pub image-turns : (b : Bool) → (ofTurns.refusal ≡ 0 → ⊥) → of_all b ≡ ofTurns
-    image-turns b bad =
-        let turns = bare-turns some long none in
-        all-bare b (λ z. bad (none_found turns z)) ∙ turns
+  module _ (some : 2 ≤ n) (long : bare_length n ≤ length ws) (none : of_rows.refusal ≡ 0) where
+    pub image_turns : (b : Bool) → (of_turns.refusal ≡ 0 → ⊥) → of_all b ≡ of_turns
+    image_turns b bad =
+        let turns = bare_turns some long none in
+        all_bare b (λ z. bad (none_found turns z)) ∙ turns
 
-    pub image-bare : of_all false ≡ ofTurns
-    image-bare = bare-turns some long none
+    pub image_bare : of_all false ≡ of_turns
+    image_bare = bare_turns some long none
 
-    pub image-counts : ofTurns.refusal ≡ 0 → of_all true ≡ ofCounts
+    pub image_counts : of_turns.refusal ≡ 0 → of_all true ≡ of_counts
     unfolding slots
-    image-counts good =
+    image_counts good =
         part_on n 1 (bare_length n) (bare_slots n) (pass_slots n 0 n) ws
-        (omega (arith, length-bare_slots n (omega arith))) long (none_found (sym (bare-turns some long none)) good)
+        (omega (arith, length-bare_slots n (omega arith))) long (none_found (sym (bare_turns some long none)) good)

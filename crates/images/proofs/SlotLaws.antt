@@ -45,35 +45,35 @@ module _ (s : Slot) (w u : ℕ) (first : s.passer < 16) (second : s.number < 16)
   abbrev is_kind : Bool
   is_kind = eqb (w / 2 ^ 28) s.kind
 
-  abbrev isPasser : Bool
-  isPasser = eqb (w / 2 ^ 24 % 2 ^ 4) s.passer
+  abbrev is_passer : Bool
+  is_passer = eqb (w / 2 ^ 24 % 2 ^ 4) s.passer
 
   abbrev is_number : Bool
   is_number = eqb (w / 2 ^ 16 % 2 ^ 8) s.number
 
-  abbrev isUpper : Bool
-  isUpper = eqb (w / 2 ^ 16) u
+  abbrev is_upper : Bool
+  is_upper = eqb (w / 2 ^ 16) u
 
-  whole-of-parts : w / 2 ^ 28 ≡ s.kind → w / 2 ^ 24 % 2 ^ 4 ≡ s.passer → w / 2 ^ 16 % 2 ^ 8 ≡ s.number
+  whole_of_parts : w / 2 ^ 28 ≡ s.kind → w / 2 ^ 24 % 2 ^ 4 ≡ s.passer → w / 2 ^ 16 % 2 ^ 8 ≡ s.number
       → w / 2 ^ 16 ≡ u
-  whole-of-parts a b c = omega arith
+  whole_of_parts a b c = omega arith
 
-  parts-of-whole : w / 2 ^ 16 ≡ u
+  parts_of_whole : w / 2 ^ 16 ≡ u
       → (w / 2 ^ 28 ≡ s.kind) × (w / 2 ^ 24 % 2 ^ 4 ≡ s.passer) × (w / 2 ^ 16 % 2 ^ 8 ≡ s.number)
-  parts-of-whole e = (omega arith, omega arith, omega arith)
+  parts_of_whole e = (omega arith, omega arith, omega arith)
 
-  pub upper_half : (is_kind && isPasser && is_number) ≡ isUpper
+  pub upper_half : (is_kind && is_passer && is_number) ≡ is_upper
   upper_half =
-      same_test (is_kind && isPasser && is_number) isUpper
+      same_test (is_kind && is_passer && is_number) is_upper
       (λ h.
-      let last = (and-eq-true_iff (is_kind && isPasser) is_number).0 h in
-      let both = (and-eq-true_iff is_kind isPasser).0 last.0 in
+      let last = (and-eq-true_iff (is_kind && is_passer) is_number).0 h in
+      let both = (and-eq-true_iff is_kind is_passer).0 last.0 in
       eq-eqb (w / 2 ^ 16) u
-      (whole-of-parts (eqb-true _ _ both.0) (eqb-true _ _ both.1) (eqb-true _ _ last.1)))
+      (whole_of_parts (eqb-true _ _ both.0) (eqb-true _ _ both.1) (eqb-true _ _ last.1)))
       (λ h.
-      let p = parts-of-whole (eqb-true _ _ h) in
-      (and-eq-true_iff (is_kind && isPasser) is_number).1 (
-        (and-eq-true_iff is_kind isPasser).1 (eq-eqb _ _ p.0, eq-eqb _ _ p.1),
+      let p = parts_of_whole (eqb-true _ _ h) in
+      (and-eq-true_iff (is_kind && is_passer) is_number).1 (
+        (and-eq-true_iff is_kind is_passer).1 (eq-eqb _ _ p.0, eq-eqb _ _ p.1),
         eq-eqb _ _ p.2,
       ))
 
@@ -141,34 +141,34 @@ or_above_r a b = omega (arith, or_add_and a b, and_le_l a b)
 
 -- three sets by one comparison of their union
 module _ (n q b c d full : ℕ) (is : full + 1 ≡ 2 ^ n) (low : q < 16) where
-  abbrev upperIs : ℕ → ℕ → Bool
-  upperIs k w = eqb (w / 65536) (k * 4096 + q)
+  abbrev upper_is : ℕ → ℕ → Bool
+  upper_is k w = eqb (w / 65536) (k * 4096 + q)
 
-  abbrev twoSets : ℕ
-  twoSets = bit_or (b % 65536) (c % 65536)
+  abbrev two_sets : ℕ
+  two_sets = bit_or (b % 65536) (c % 65536)
 
-  abbrev threeSets : ℕ
-  threeSets = bit_or twoSets (d % 65536)
+  abbrev three_sets : ℕ
+  three_sets = bit_or two_sets (d % 65536)
 
-  passes : (k w : ℕ) → SetKind k → upperIs k w ≡ true → w % 65536 ≤ full → slot_refusal n (slot k q) w ≡ 0
+  passes : (k w : ℕ) → SetKind k → upper_is k w ≡ true → w % 65536 ≤ full → slot_refusal n (slot k q) w ≡ 0
   passes k w kind u l = set-slot n k q w full kind is low ∙ rw (u, le-leb (w % 65536) full l) refl
 
-  pub sets_fit : SetsFit n q b c d (upperIs EST b && upperIs LIS c && upperIs AHEAD d && leb threeSets full)
+  pub sets_fit : SetsFit n q b c d (upper_is EST b && upper_is LIS c && upper_is AHEAD d && leb three_sets full)
   sets_fit =
       record {
         est = λ h. passes EST b kind-est (tests h).0 (omega (
           arith,
           or_above_l (b % 65536) (c % 65536),
-          or_above_l twoSets (d % 65536),
+          or_above_l two_sets (d % 65536),
           (tests h).3,
         ));
         lis = λ h. passes LIS c kind-lis (tests h).1 (omega (
           arith,
           or_above_r (b % 65536) (c % 65536),
-          or_above_l twoSets (d % 65536),
+          or_above_l two_sets (d % 65536),
           (tests h).3,
         ));
-        ahead = λ h. passes AHEAD d kind-ahead (tests h).2 (omega (arith, or_above_r twoSets (d % 65536), (tests h).3));
+        ahead = λ h. passes AHEAD d kind-ahead (tests h).2 (omega (arith, or_above_r two_sets (d % 65536), (tests h).3));
       }
     where
       kind-est : SetKind EST
@@ -180,13 +180,13 @@ module _ (n q b c d full : ℕ) (is : full + 1 ≡ 2 ^ n) (low : q < 16) where
       kind-ahead : SetKind AHEAD
       kind-ahead = record { from = omega arith; to = omega arith }
 
-      tests : (upperIs EST b && upperIs LIS c && upperIs AHEAD d && leb threeSets full) ≡ true
-          → (upperIs EST b ≡ true) × (upperIs LIS c ≡ true) × (upperIs AHEAD d ≡ true) × (threeSets ≤ full)
+      tests : (upper_is EST b && upper_is LIS c && upper_is AHEAD d && leb three_sets full) ≡ true
+          → (upper_is EST b ≡ true) × (upper_is LIS c ≡ true) × (upper_is AHEAD d ≡ true) × (three_sets ≤ full)
       tests h =
-          let last = (and-eq-true_iff (upperIs EST b && upperIs LIS c && upperIs AHEAD d) (leb threeSets full)).0 h in
-          let third = (and-eq-true_iff (upperIs EST b && upperIs LIS c) (upperIs AHEAD d)).0 last.0 in
-          let both = (and-eq-true_iff (upperIs EST b) (upperIs LIS c)).0 third.0 in
-          (both.0, both.1, third.1, leb-true threeSets full last.1)
+          let last = (and-eq-true_iff (upper_is EST b && upper_is LIS c && upper_is AHEAD d) (leb three_sets full)).0 h in
+          let third = (and-eq-true_iff (upper_is EST b && upper_is LIS c) (upper_is AHEAD d)).0 last.0 in
+          let both = (and-eq-true_iff (upper_is EST b) (upper_is LIS c)).0 third.0 in
+          (both.0, both.1, third.1, leb-true three_sets full last.1)
 
 pub count-slot : (n q r w u : ℕ) → q < 16 → r < 16 → u ≡ PASSES * 4096 + q * 256 + r
     → slot_refusal n (pass_slot q r) w ≡ by_tests (eqb (w / 65536) u) (not (eqb q r) || eqb (w % 65536) 0) false

@@ -1,7 +1,7 @@
 -- A whole new table: a row of it, and what is handed back, by the answer to an image.
 --
 --   row_taken      a row of the first n cells
---   read_table, read-few, read_none    what the answer to an image says of the table that is handed back
+--   read_table, read_few, read_none    what the answer to an image says of the table that is handed back
 --
 -- Assumes nothing.
 use Prim.Native.Nat.{ℕ, ◌≤◌, ◌<◌}
@@ -27,8 +27,8 @@ row_taken x n q h = rows_row x q ∙ ap row_of (sym (get_or-take n x q [] h)) �
 
 module _ (ws : List ℕ) (x y : List (List ℕ)) where
   module _ (n : ℕ) (r : ReadInto ws x y (Reading.Table n)) where
-    pub read-few : n ≤ 16
-    read-few = (loaded ws x y (Reading.Table n) n r refl).few
+    pub read_few : n ≤ 16
+    read_few = (loaded ws x y (Reading.Table n) n r refl).few
 
     pub read_table : handed 0 0 (rows_of (take n y)) ≡ read_image ws
     read_table =

@@ -3,8 +3,8 @@
 --   row_found                    the first refusal of a row is that of its four words
 --   row_passes                   a row that passes has a location code
 --   part_on                      slots that pass leave the refusal to those after them
---   groups-on, groups-stop, groups_end    a loop over groups of slots; rows_start, rows_on, .. over rows
---   run_on, run_stop, run_end             a loop over single slots; turns-on, .. over turn cells
+--   groups_on, groups_stop, groups_end    a loop over groups of slots; rows_start, rows_on, .. over rows
+--   run_on, run_stop, run_end             a loop over single slots; turns_on, .. over turn cells
 --
 -- Assumes nothing.
 use Prim.Native.Nat.{ℕ, zero, suc, ◌+◌, ◌-◌, ◌*◌, ◌≤◌, ◌<◌}
@@ -90,33 +90,33 @@ part_on n i j ss us ws e h none =
 module _ (n : ℕ) (ws : List ℕ) (place : ℕ → ℕ) (group : ℕ → List Slot) (groups : ℕ → ℕ → List Slot)
     (nothing : (q : ℕ) → groups q 0 ≡ []) (first : (q m : ℕ) → groups q (suc m) ≡ group q ++ groups (suc q) m) where
   -- the first refusal from group q on, and that of group q
-  abbrev pub fromGroup : ℕ → Found
-  fromGroup q = first_refusal n (place q) (groups q (n - q)) (drop (place q) ws)
+  abbrev pub from_group : ℕ → Found
+  from_group q = first_refusal n (place q) (groups q (n - q)) (drop (place q) ws)
 
-  abbrev pub ofGroup : ℕ → Found
-  ofGroup q = first_refusal n (place q) (group q) (drop (place q) ws)
+  abbrev pub of_group : ℕ → Found
+  of_group q = first_refusal n (place q) (group q) (drop (place q) ws)
 
-  pub groups_end : fromGroup n ≡ record { refusal = 0; place = 0 }
+  pub groups_end : from_group n ≡ record { refusal = 0; place = 0 }
   unfolding first_refusal
   groups_end =
       ap (λ (ss : List Slot). first_refusal n (place n) ss (drop (place n) ws))
       (ap (groups n) {x = n - n} {y = 0} (omega arith) ∙ nothing n)
 
   module _ (q : ℕ) (l : q < n) where
-    split-groups : fromGroup q
+    split_groups : from_group q
         ≡ first_refusal n (place q) (group q ++ groups (suc q) (n - suc q)) (drop (place q) ws)
-    split-groups =
+    split_groups =
         ap (λ (ss : List Slot). first_refusal n (place q) ss (drop (place q) ws))
         (ap (groups q) {x = n - q} {y = suc (n - suc q)} (omega arith) ∙ first q (n - suc q))
 
-    pub groups-stop : ((ofGroup q).refusal ≡ 0 → ⊥) → fromGroup q ≡ ofGroup q
-    groups-stop some =
-        split-groups ∙ first_some n (place q) (group q) (groups (suc q) (n - suc q)) (drop (place q) ws) some
+    pub groups_stop : ((of_group q).refusal ≡ 0 → ⊥) → from_group q ≡ of_group q
+    groups_stop some =
+        split_groups ∙ first_some n (place q) (group q) (groups (suc q) (n - suc q)) (drop (place q) ws) some
 
-    pub groups-on : place q + length (group q) ≡ place (q + 1) → place (q + 1) ≤ length ws → (ofGroup q).refusal ≡ 0
-        → fromGroup q ≡ fromGroup (q + 1)
-    groups-on here long none =
-        split-groups
+    pub groups_on : place q + length (group q) ≡ place (q + 1) → place (q + 1) ≤ length ws → (of_group q).refusal ≡ 0
+        → from_group q ≡ from_group (q + 1)
+    groups_on here long none =
+        split_groups
         ∙ part_on n (place q) (place (q + 1)) (group q) (groups (suc q) (n - suc q)) ws here long none
         ∙ ap (λ (x : ℕ). first_refusal n (place (q + 1)) (groups x (n - x)) (drop (place (q + 1)) ws))
         {x = suc q} {y = q + 1} (omega arith)
@@ -124,37 +124,37 @@ module _ (n : ℕ) (ws : List ℕ) (place : ℕ → ℕ) (group : ℕ → List S
 -- ---- the loop over rows
 
 module _ (n : ℕ) (ws : List ℕ) where
-  abbrev oneRow : ℕ → List Slot
-  oneRow q = row_slots q 1
+  abbrev one_row : ℕ → List Slot
+  one_row q = row_slots q 1
 
   no_rows : (q : ℕ) → row_slots q 0 ≡ []
   unfolding row_slots
   no_rows q = refl
 
-  first-row : (q m : ℕ) → row_slots q (suc m) ≡ oneRow q ++ row_slots (suc q) m
+  first_row : (q m : ℕ) → row_slots q (suc m) ≡ one_row q ++ row_slots (suc q) m
   unfolding row_slots
-  first-row q m = refl
+  first_row q m = refl
 
   -- the first refusal from row q on, and that of row q
-  abbrev pub fromRow : ℕ → Found
-  fromRow q = first_refusal n (row_place q) (row_slots q (n - q)) (drop (row_place q) ws)
+  abbrev pub from_row : ℕ → Found
+  from_row q = first_refusal n (row_place q) (row_slots q (n - q)) (drop (row_place q) ws)
 
-  abbrev pub ofRow : ℕ → Found
-  ofRow q = first_refusal n (row_place q) (row_slots q 1) (drop (row_place q) ws)
+  abbrev pub of_row : ℕ → Found
+  of_row q = first_refusal n (row_place q) (row_slots q 1) (drop (row_place q) ws)
 
-  pub rows_start : first_refusal n 1 (row_slots 0 n) (drop 1 ws) ≡ fromRow 0
+  pub rows_start : first_refusal n 1 (row_slots 0 n) (drop 1 ws) ≡ from_row 0
   rows_start = ap (λ (m : ℕ). first_refusal n 1 (row_slots 0 m) (drop 1 ws)) {x = n} {y = n - 0} (omega arith)
 
-  pub rows_end : fromRow n ≡ record { refusal = 0; place = 0 }
-  rows_end = groups_end n ws row_place oneRow row_slots no_rows first-row
+  pub rows_end : from_row n ≡ record { refusal = 0; place = 0 }
+  rows_end = groups_end n ws row_place one_row row_slots no_rows first_row
 
   module _ (q : ℕ) (l : q < n) where
-    pub rows-stop : ((ofRow q).refusal ≡ 0 → ⊥) → fromRow q ≡ ofRow q
-    rows-stop = groups-stop n ws row_place oneRow row_slots no_rows first-row q l
+    pub rows_stop : ((of_row q).refusal ≡ 0 → ⊥) → from_row q ≡ of_row q
+    rows_stop = groups_stop n ws row_place one_row row_slots no_rows first_row q l
 
-    pub rows_on : bare_length n ≤ length ws → (ofRow q).refusal ≡ 0 → fromRow q ≡ fromRow (q + 1)
+    pub rows_on : bare_length n ≤ length ws → (of_row q).refusal ≡ 0 → from_row q ≡ from_row (q + 1)
     rows_on long =
-        groups-on n ws row_place oneRow row_slots no_rows first-row q l (omega (arith, length-row_slots q 1))
+        groups_on n ws row_place one_row row_slots no_rows first_row q l (omega (arith, length-row_slots q 1))
         (omega arith)
 
 -- ---- the rows that the cells stand for
@@ -169,10 +169,10 @@ map-take {B = B} f (suc k) (x ∷ l) = ap (λ (v : List B). f x ∷ v) (map-take
 module _ (n : ℕ) (ws : List ℕ) (base : ℕ) (one : ℕ → Slot) (run : ℕ → ℕ → List Slot)
     (nothing : (k : ℕ) → run k 0 ≡ []) (first : (k m : ℕ) → run k (suc m) ≡ one k ∷ run (suc k) m) where
   -- the first refusal from slot k on
-  abbrev pub fromSlot : ℕ → Found
-  fromSlot k = first_refusal n (base + k) (run k (n - k)) (drop (base + k) ws)
+  abbrev pub from_slot : ℕ → Found
+  from_slot k = first_refusal n (base + k) (run k (n - k)) (drop (base + k) ws)
 
-  pub run_end : fromSlot n ≡ record { refusal = 0; place = 0 }
+  pub run_end : from_slot n ≡ record { refusal = 0; place = 0 }
   unfolding first_refusal
   run_end =
       ap (λ (ss : List Slot). first_refusal n (base + n) ss (drop (base + n) ws))
@@ -183,24 +183,24 @@ module _ (n : ℕ) (ws : List ℕ) (base : ℕ) (one : ℕ → Slot) (run : ℕ 
     found : r ≡ slot_refusal n (one k) (get_or ws (base + k) 0)
     found = is ∙ ap (λ (x : ℕ). slot_refusal n (one k) (get_or ws x 0)) here
 
-    split-run : fromSlot k
+    split_run : from_slot k
         ≡ first_refusal n (base + k) (one k ∷ run (suc k) (n - suc k))
         (get_or ws (base + k) 0 ∷ drop (suc (base + k)) ws)
-    split-run =
+    split_run =
         ap₂ (λ (ss : List Slot) (v : List ℕ). first_refusal n (base + k) ss v)
         (ap (run k) {x = n - k} {y = suc (n - suc k)} (omega arith) ∙ first k (n - suc k))
         (drop-cons ws (base + k) 0 within)
 
-    pub run_stop : (r ≡ 0 → ⊥) → record { refusal = r; place = i } ≡ fromSlot k
+    pub run_stop : (r ≡ 0 → ⊥) → record { refusal = r; place = i } ≡ from_slot k
     run_stop some =
         sym
-        (split-run
+        (split_run
         ∙ stop_at n (base + k) i r (one k) (run (suc k) (n - suc k)) (get_or ws (base + k) 0)
         (drop (suc (base + k)) ws) (sym here) found some)
 
-    pub run_on : r ≡ 0 → fromSlot k ≡ fromSlot (k + 1)
+    pub run_on : r ≡ 0 → from_slot k ≡ from_slot (k + 1)
     run_on none =
-        split-run
+        split_run
         ∙ pass_at n (base + k) r (one k) (run (suc k) (n - suc k)) (get_or ws (base + k) 0)
         (drop (suc (base + k)) ws) found none
         ∙ ap (λ (x : ℕ). first_refusal n x (run (suc k) (n - suc k)) (drop x ws)) {x = suc (base + k)}
@@ -211,25 +211,25 @@ module _ (n : ℕ) (ws : List ℕ) (base : ℕ) (one : ℕ → Slot) (run : ℕ 
 -- ---- the loop over turn cells
 
 module _ (n : ℕ) (ws : List ℕ) where
-  no-turns : (k : ℕ) → turn_slots k 0 ≡ []
+  no_turns : (k : ℕ) → turn_slots k 0 ≡ []
   unfolding turn_slots
-  no-turns k = refl
+  no_turns k = refl
 
-  first-turn : (k m : ℕ) → turn_slots k (suc m) ≡ slot TURN k ∷ turn_slots (suc k) m
+  first_turn : (k m : ℕ) → turn_slots k (suc m) ≡ slot TURN k ∷ turn_slots (suc k) m
   unfolding turn_slots
-  first-turn k m = refl
+  first_turn k m = refl
 
   -- the first refusal from turn[k] on
-  abbrev pub fromTurn : ℕ → Found
-  fromTurn k = first_refusal n (turn_place n k) (turn_slots k (n - k)) (drop (turn_place n k) ws)
+  abbrev pub from_turn : ℕ → Found
+  from_turn k = first_refusal n (turn_place n k) (turn_slots k (n - k)) (drop (turn_place n k) ws)
 
-  pub turns_end : fromTurn n ≡ record { refusal = 0; place = 0 }
-  turns_end = run_end n ws (4 * n) (slot TURN) turn_slots no-turns first-turn
+  pub turns_end : from_turn n ≡ record { refusal = 0; place = 0 }
+  turns_end = run_end n ws (4 * n) (slot TURN) turn_slots no_turns first_turn
 
   module _ (k i r : ℕ) (l : k < n) (long : bare_length n ≤ length ws) (here : i ≡ turn_place n k)
       (is : r ≡ slot_refusal n (slot TURN k) (get_or ws i 0)) where
-    pub turns-stop : (r ≡ 0 → ⊥) → record { refusal = r; place = i } ≡ fromTurn k
-    turns-stop = run_stop n ws (4 * n) (slot TURN) turn_slots no-turns first-turn k i r l (omega arith) here is
+    pub turns_stop : (r ≡ 0 → ⊥) → record { refusal = r; place = i } ≡ from_turn k
+    turns_stop = run_stop n ws (4 * n) (slot TURN) turn_slots no_turns first_turn k i r l (omega arith) here is
 
-    pub turns-on : r ≡ 0 → fromTurn k ≡ fromTurn (k + 1)
-    turns-on = run_on n ws (4 * n) (slot TURN) turn_slots no-turns first-turn k i r l (omega arith) here is
+    pub turns_on : r ≡ 0 → from_turn k ≡ from_turn (k + 1)
+    turns_on = run_on n ws (4 * n) (slot TURN) turn_slots no_turns first_turn k i r l (omega arith) here is

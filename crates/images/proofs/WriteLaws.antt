@@ -3,10 +3,10 @@
 --   length-rows_part, length-turns_part, length-passes_part
 --                  how many words of the rows, turn cells and passes there are
 --   row_words, turn_word, pass_words_lem    which
---   passes_start, passes-next, passes_end    the loop that puts the passes, process by process
---   image-placed           header, rows, turn cells and passes put one after the other are the image
+--   passes_start, passes_next, passes_end    the loop that puts the passes, process by process
+--   image_placed           header, rows, turn cells and passes put one after the other are the image
 --   packable               the rows of a sound table fit their words
---   written-sound, written-few, written-image    the three outcomes
+--   written_sound, written_few, written_image    the three outcomes
 --
 -- Assumes nothing.
 use Prim.Native.Nat.{ℕ, zero, suc, ◌+◌, ◌-◌, ◌*◌, ◌≤◌, ◌<◌}
@@ -86,11 +86,11 @@ module _ (t : Table) where
       ∙ ap (word_in t) (slot_of_count (length t) q r h l))
 
   -- those of process q, after those of the processes before it
-  next-passes : (o : List ℕ) (q : ℕ) → q < length t → image_length (length t) ≤ length o
+  next_passes : (o : List ℕ) (q : ℕ) → q < length t → image_length (length t) ≤ length o
       → placed (begun o (bare_length (length t)) (passes_part t) (length t * q)) (pass_place (length t) q 0)
       (pass_words (length t) q (row t q).passes)
       ≡ begun o (bare_length (length t)) (passes_part t) (length t * (q + 1))
-  next-passes o q h long =
+  next_passes o q h long =
       let n = length t in
       let words = pass_words n q (row t q).passes in
       let count = length-pass_words n q (row t q).passes in
@@ -101,21 +101,21 @@ module _ (t : Table) where
       (λ r l. pass_words_lem q r h (omega (arith, count, l)))
 
   -- the words before the passes
-  abbrev firstPart : List ℕ
-  firstPart = (header_of (length t) ∷ rows_part t) ++ turns_part t
+  abbrev first_part : List ℕ
+  first_part = (header_of (length t) ∷ rows_part t) ++ turns_part t
 
-  image-parts : image_of t ≡ firstPart ++ passes_part t
+  image_parts : image_of t ≡ first_part ++ passes_part t
   unfolding image_of slots bare_slots
-  image-parts =
+  image_parts =
       let n = length t in
       ap (λ (l : List ℕ). header_of n ∷ l)
       (map-append (word_in t) (row_slots 0 n ++ turn_slots 1 (n - 1)) (pass_slots n 0 n)
       ∙ ap (λ (l : List ℕ). l ++ passes_part t) (map-append (word_in t) (row_slots 0 n) (turn_slots 1 (n - 1))))
 
   module _ (l : List ℕ) (some : 0 < length t) (long : image_length (length t) ≤ length l) where
-    first-placed : (k : ℕ) → k ≡ turn_place (length t) 1
-        → placed (placed (set l 0 (header_of (length t))) 1 (rows_part t)) k (turns_part t) ≡ placed l 0 firstPart
-    first-placed k here =
+    first_placed : (k : ℕ) → k ≡ turn_place (length t) 1
+        → placed (placed (set l 0 (header_of (length t))) 1 (rows_part t)) k (turns_part t) ≡ placed l 0 first_part
+    first_placed k here =
         let h = header_of (length t) in
         ap (λ (v : List ℕ). placed (placed v 1 (rows_part t)) k (turns_part t)) (placed_one l 0 h (omega arith))
         ∙ ap (λ (v : List ℕ). placed v k (turns_part t)) (placed_then l 0 (h ∷ []) (rows_part t) (omega arith))
@@ -123,39 +123,39 @@ module _ (t : Table) where
         {y = 0 + suc (length (rows_part t))} (omega (arith, length-rows_part))
         ∙ placed_then l 0 (h ∷ rows_part t) (turns_part t) (omega arith)
 
-    pub image-placed : (k i : ℕ) → k ≡ turn_place (length t) 1 → i ≡ bare_length (length t)
+    pub image_placed : (k i : ℕ) → k ≡ turn_place (length t) 1 → i ≡ bare_length (length t)
         → placed (placed (placed (set l 0 (header_of (length t))) 1 (rows_part t)) k (turns_part t)) i (passes_part t)
         ≡ placed l 0 (image_of t)
-    image-placed k i here there =
+    image_placed k i here there =
         let whole = length-append (header_of (length t) ∷ rows_part t) (turns_part t) in
-        ap (λ (v : List ℕ). placed v i (passes_part t)) (first-placed k here)
-        ∙ ap (λ (x : ℕ). placed (placed l 0 firstPart) x (passes_part t)) {x = i} {y = 0 + length firstPart}
+        ap (λ (v : List ℕ). placed v i (passes_part t)) (first_placed k here)
+        ∙ ap (λ (x : ℕ). placed (placed l 0 first_part) x (passes_part t)) {x = i} {y = 0 + length first_part}
         (omega (arith, whole, length-rows_part, length-turns_part))
-        ∙ placed_then l 0 firstPart (passes_part t) (omega arith)
-        ∙ ap (placed l 0) (sym image-parts)
+        ∙ placed_then l 0 first_part (passes_part t) (omega arith)
+        ∙ ap (placed l 0) (sym image_parts)
 
 -- ---- the loop over processes, of which there are n
 
 module _ (t : Table) (o : List ℕ) (n : ℕ) where
   -- after the passes of q processes
-  abbrev pub passesPut : ℕ → List ℕ
-  passesPut q = begun o (bare_length n) (passes_part t) (n * q)
+  abbrev pub passes_put : ℕ → List ℕ
+  passes_put q = begun o (bare_length n) (passes_part t) (n * q)
 
-  pub passes_start : o ≡ passesPut 0
+  pub passes_start : o ≡ passes_put 0
   passes_start =
       begun_start o (bare_length n) (passes_part t)
       ∙ ap (begun o (bare_length n) (passes_part t)) (sym (mul-zero n))
 
   module _ (is : n ≡ length t) (q : ℕ) where
-    pub passes-next : q < n → image_length (length t) ≤ length o
-        → placed (passesPut q) (pass_place n q 0) (pass_words n q (row t q).passes) ≡ passesPut (q + 1)
-    passes-next =
+    pub passes_next : q < n → image_length (length t) ≤ length o
+        → placed (passes_put q) (pass_place n q 0) (pass_words n q (row t q).passes) ≡ passes_put (q + 1)
+    passes_next =
         subst (λ (m : ℕ). q < m
         → image_length (length t) ≤ length o
         → placed (begun o (bare_length m) (passes_part t) (m * q)) (pass_place m q 0) (pass_words m q (row t q).passes)
-        ≡ begun o (bare_length m) (passes_part t) (m * (q + 1))) (sym is) (next-passes t o q)
+        ≡ begun o (bare_length m) (passes_part t) (m * (q + 1))) (sym is) (next_passes t o q)
 
-    pub passes_end : q ≡ n → passesPut q ≡ placed o (bare_length n) (passes_part t)
+    pub passes_end : q ≡ n → passes_put q ≡ placed o (bare_length n) (passes_part t)
     passes_end end =
         let whole : n * q ≡ length t * length t = ap₂ (λ (a b : ℕ). a * b) is (end ∙ is) in
         begun_end o (bare_length n) (passes_part t) (n * q) (omega (arith, whole, length-passes_part t))
@@ -183,9 +183,9 @@ module _ (t : Table) (l : List ℕ) where
       (record { refusal = 0; words = placed l 0 (image_of t) }))
 
   module _ (r : ℕ) (is : r ≡ table_refusal t) where
-    pub written-sound : (r ≡ 0 → ⊥) → Writes t l l r
+    pub written_sound : (r ≡ 0 → ⊥) → Writes t l l r
     unfolding written_of
-    written-sound ne =
+    written_sound ne =
         let e = ap (λ (a : Bool). outcome a (leb (image_length (length t)) (length l)))
         (ne_eqb (table_refusal t) 0 (λ z. ne (is ∙ z))) in
         record {
@@ -194,9 +194,9 @@ module _ (t : Table) (l : List ℕ) where
               (ap (λ (w : Written). w.words) e);
         }
 
-    pub written-few : r ≡ 0 → length l < image_length (length t) → Writes t l l 13
+    pub written_few : r ≡ 0 → length l < image_length (length t) → Writes t l l 13
     unfolding written_of
-    written-few z few =
+    written_few z few =
         let e =
         ap₂ outcome (eq-eqb (table_refusal t) 0 (sym is ∙ z)) (lt-leb (image_length (length t)) (length l) few) in
         record {
@@ -205,10 +205,10 @@ module _ (t : Table) (l : List ℕ) where
               (ap (λ (w : Written). w.words) e);
         }
 
-    pub written-image : (m : List ℕ) → r ≡ 0 → image_length (length t) ≤ length l → m ≡ placed l 0 (image_of t)
+    pub written_image : (m : List ℕ) → r ≡ 0 → image_length (length t) ≤ length l → m ≡ placed l 0 (image_of t)
         → Writes t l m 0
     unfolding written_of
-    written-image m z long words =
+    written_image m z long words =
         let fits = le-leb (image_length (length t)) (length l) long in
         let e = ap₂ outcome (eq-eqb (table_refusal t) 0 (sym is ∙ z)) fits in
         record {

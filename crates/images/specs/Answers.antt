@@ -1,9 +1,9 @@
 -- What reading an image into cells and writing one promise to other crates, in the terms of machine/specs/Images.
 --
---   reading_of ws      ==   the answer to the words of an image.
---   ReadInto ..       <=>  the answer, and the cells that an image was read into.
---   Room t l          <=>  the table t is sound, and the lent words l hold its image.
---   Writes t l m r    <=>  writing the image of t into l leaves m and answers r.
+--   reading_of ws   ==   the answer to the words of an image.
+--   ReadInto ..     <=>  the answer, and the cells that an image was read into.
+--   Room t l        <=>  the table t is sound, and the lent words l hold its image.
+--   Writes t l m r  <=>  writing the image of t into l leaves m and answers r.
 --
 -- Assumes nothing.
 use Rattle.std.specs.Prelude.{ℕ, ◌≤◌, ◌≡◌, true, false, List, eqb, length, get_or, take}

@@ -33,43 +33,43 @@ module _ (ws : List ℕ) (m : ℕ) (split : Splits ws m) where
   pub holds_refused : (number place : ℕ) → reading_of image ≡ Reading.Refused number place
       → words_hold ws ≡ Input.BadImage place number
   holds_refused number place answer =
-      let same = split.image-is in
+      let same = split.image_is in
       words_bad_image ws (λ z. refused-some image number place answer (ap found same ∙ z))
       ∙ ap (λ (k : List ℕ). Input.BadImage (image_refusal k).place (found k)) (sym same)
       ∙ (λ x. Input.BadImage (refused-place image number place answer x) (refused_number image number place answer x))
 
   -- the event words are those past the image
   pub events_past : part ws m (length ws) ≡ event_part ws
-  events_past = take_all (length ws - m) (drop m ws) (omega (arith, length-drop m ws)) ∙ split.events-are
+  events_past = take_all (length ws - m) (drop m ws) (omega (arith, length-drop m ws)) ∙ split.events_are
 
-  events-count : length (event_part ws) ≡ length ws - m
-  events-count = ap length (sym split.events-are) ∙ length-drop m ws
+  events_count : length (event_part ws) ≡ length ws - m
+  events_count = ap length (sym split.events_are) ∙ length-drop m ws
 
   -- an image that was read into the first n cells y
   module _ (y : List (List ℕ)) (n : ℕ) (read : Loaded image y n) where
     table_is : table_in (image_part ws) ≡ table_of y n
-    table_is = ap table_in (sym split.image-is) ∙ sym read.rows_are
+    table_is = ap table_in (sym split.image_is) ∙ sym read.rows_are
 
-    image-read : found (image_part ws) ≡ 0
-    image-read = ap found (sym split.image-is) ∙ read.accepted
+    image_read : found (image_part ws) ≡ 0
+    image_read = ap found (sym split.image_is) ∙ read.accepted
 
     tabled : n ≤ length y → Tabled y n
     tabled h = record { sound = read.sound; few = read.few; within = h }
 
-    pub shows-many : (last : ℕ) → last ≡ length ws → n ≤ length y → limit < last - m → ShowsMany (words_hold ws) y n
-    shows-many last is h many =
+    pub shows_many : (last : ℕ) → last ≡ length ws → n ≤ length y → limit < last - m → ShowsMany (words_hold ws) y n
+    shows_many last is h many =
         record {
           holds =
-              words_too_many ws image-read (omega (arith, events-count, is)) ∙ ap Input.TooMany table_is;
+              words_too_many ws image_read (omega (arith, events_count, is)) ∙ ap Input.TooMany table_is;
           table = tabled h;
         }
 
-    pub shows-ready : (last : ℕ) → last ≡ length ws → n ≤ length y → last - m ≤ limit
+    pub shows_ready : (last : ℕ) → last ≡ length ws → n ≤ length y → last - m ≤ limit
         → ShowsReady (words_hold ws) ws y n m last
-    shows-ready last is h few =
+    shows_ready last is h few =
         record {
           holds =
-              words_ready ws image-read (omega (arith, events-count, is))
+              words_ready ws image_read (omega (arith, events_count, is))
               ∙ (λ x. Input.Ready (table_is x) ((sym events_past ∙ ap (part ws m) (sym is)) x));
           table = tabled h;
           ordered = omega (arith, split.within, is);

@@ -18,8 +18,8 @@ module _ (ws : List ℕ) where
   splits_at m e h =
       record {
         within = h;
-        image-is = ap (λ (k : ℕ). take k ws) e;
-        events-are = ap (λ (k : ℕ). drop k ws) e;
+        image_is = ap (λ (k : ℕ). take k ws) e;
+        events_are = ap (λ (k : ℕ). drop k ws) e;
       }
 
   -- or every word
@@ -27,10 +27,10 @@ module _ (ws : List ℕ) where
   splits_over m e h =
       record {
         within = omega arith;
-        image-is = take_all m ws (omega arith) ∙ sym (take_all all ws h);
-        events-are = drop_of_length-le ws {i = m} (omega arith) ∙ sym (drop_of_length-le ws h);
+        image_is = take_all m ws (omega arith) ∙ sym (take_all all ws h);
+        events_are = drop_of_length-le ws {i = m} (omega arith) ∙ sym (drop_of_length-le ws h);
       }
 
 -- how many words the image has
 pub split_count : (ws : List ℕ) (m : ℕ) → Splits ws m → m ≡ length (image_part ws)
-split_count ws m s = sym (length-take-le m ws s.within) ∙ ap length s.image-is
+split_count ws m s = sym (length-take-le m ws s.within) ∙ ap length s.image_is

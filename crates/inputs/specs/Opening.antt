@@ -1,12 +1,12 @@
 -- What opening an input requires and answers (machine/specs/Inputs).
 --
---   table_of y n         ==   the table that the first n of the cells y stand for.
---   part ws a b         ==   the words of ws from place a up to place b.
---   Tabled y n          <=>  that table is a sound one.
---   Shows i ws y r      <=>  the answer r, with the words ws and the cells y, shows what an input i holds.
---   Roomy bs ws         <=>  ws has room for the words of the image in the bytes bs, unless it is longer than any is.
---   Openable bs ws x    <=>  so it has, and the cells x have room for every table.
---   Opens bs ws y r     <=>  the answer r shows what the bytes bs hold, whose words are ws.
+--   table_of y n      ==   the table that the first n of the cells y stand for.
+--   part ws a b       ==   the words of ws from place a up to place b.
+--   Tabled y n        <=>  that table is a sound one.
+--   Shows i ws y r    <=>  the answer r, with the words ws and the cells y, shows what an input i holds.
+--   Roomy bs ws       <=>  ws has room for the words of the image in the bytes bs, unless it is longer than any is.
+--   Openable bs ws x  <=>  so it has, and the cells x have room for every table.
+--   Opens bs ws y r   <=>  the answer r shows what the bytes bs hold, whose words are ws.
 --
 -- Assumes nothing.
 use Rattle.std.specs.Prelude.{ℕ, ◌-◌, ◌≤◌, ◌≡◌, List, length, take, drop}

@@ -8,5 +8,5 @@ use Rattle.machine.specs.Inputs.{image_part, event_part}
 
 pub record Splits (ws : List ℕ) (m : ℕ) : Type 0 where
   pub within : m ≤ length ws
-  pub image-is : take m ws ≡ image_part ws
-  pub events-are : drop m ws ≡ event_part ws
+  pub image_is : take m ws ≡ image_part ws
+  pub events_are : drop m ws ≡ event_part ws

@@ -23,8 +23,8 @@ use Rattle.machine.specs.Words.{FLICKER, GO, is_kind, kind_of, process_of, argum
 use Rattle.machine.specs.Steps.{raised, entered, looked, flickered, gone, moved, allowed, argument_fits}
 use Rattle.machine.specs.Steps.{overflows, word_refusal, refusal_of, after_word, after_words}
 use Rattle.machine.specs.System.{Step}
-use Rattle.machine.specs.System.Step.{rests, comes, flickers_20, enters, starts-scan, wins, discards, keeps}
-use Rattle.machine.specs.System.Step.{ends_scan, lowers, to-push, waits, skips, flickers_24, pushes, exits}
+use Rattle.machine.specs.System.Step.{rests, comes, flickers_20, enters, starts_scan, wins, discards, keeps}
+use Rattle.machine.specs.System.Step.{ends_scan, lowers, to_push, waits, skips, flickers_24, pushes, exits}
 use Rattle.machine.specs.System.Step.{flickers_40, leaves, cancels}
 use Rattle.counting.proofs.TestLaws.{or_cases, cond_zero}
 use Rattle.machine.proofs.KindLaws.{by_kind}
@@ -35,31 +35,31 @@ use Rattle.machine.proofs.Forms.{gone_23, gone_40, flickered_act, flickered_turn
 -- ---- GO is a step at each location
 
 module _ (t : Table) (p : ℕ) (l : p < length t) where
-  go-20 : (row t p).location ≡ 20 → Step t p (gone t p)
+  go_20 : (row t p).location ≡ 20 → Step t p (gone t p)
   unfolding entered raised competitors
-  go-20 e = rw (gone_20 t p e) (enters e)
+  go_20 e = rw (gone_20 t p e) (enters e)
 
-  go-21 : (row t p).location ≡ 21 → Step t p (gone t p)
-  go-21 e = rw (gone_21 t p e) (started_cases (λ r. Step t p (set t p r)) (row t p) (starts-scan e) (wins e))
+  go_21 : (row t p).location ≡ 21 → Step t p (gone t p)
+  go_21 e = rw (gone_21 t p e) (started_cases (λ r. Step t p (set t p r)) (row t p) (starts_scan e) (wins e))
 
-  go-22 : (row t p).location ≡ 22 → (row t p).lis ≡ 0 → Step t p (gone t p)
-  go-22 e z = rw (gone_22 t p e) (ends_scan e z)
+  go_22 : (row t p).location ≡ 22 → (row t p).lis ≡ 0 → Step t p (gone t p)
+  go_22 e z = rw (gone_22 t p e) (ends_scan e z)
 
-  go-23 : (row t p).location ≡ 23 → Step t p (gone t p)
-  go-23 e =
+  go_23 : (row t p).location ≡ 23 → Step t p (gone t p)
+  go_23 e =
       rw (gone_23 t p e)
       (reconsidered_cases (λ r. Step t p (set t p r)) p (row t (row t p).level).turn (row t p)
-      (lowers e) (to-push e) (waits e) (skips e))
+      (lowers e) (to_push e) (waits e) (skips e))
 
-  go-24 : (row t p).location ≡ 24 → Step t p (gone t p)
+  go_24 : (row t p).location ≡ 24 → Step t p (gone t p)
   unfolding competitors
-  go-24 e = rw (gone_push t p l e) (pushes e)
+  go_24 e = rw (gone_push t p l e) (pushes e)
 
-  go-30 : (row t p).location ≡ 30 → Step t p (gone t p)
-  go-30 e = rw (gone_exit t p l e) (exits e)
+  go_30 : (row t p).location ≡ 30 → Step t p (gone t p)
+  go_30 e = rw (gone_exit t p l e) (exits e)
 
-  go-40 : (row t p).location ≡ 40 → Step t p (gone t p)
-  go-40 e = rw (gone_40 t p e) (leaves e)
+  go_40 : (row t p).location ≡ 40 → Step t p (gone t p)
+  go_40 e = rw (gone_40 t p e) (leaves e)
 
   -- ---- each kind, where it is allowed with its argument
 
@@ -68,18 +68,18 @@ module _ (t : Table) (p : ℕ) (l : p < length t) where
   go_step h =
       let r = row t p in
       ⊎_elim
-      (by_one r.location (20 ∷ 21 ∷ 23 ∷ 24 ∷ 30 ∷ 40 ∷ []) (go-20, (go-21, (go-23, (go-24, (go-30, (go-40, tt)))))))
+      (by_one r.location (20 ∷ 21 ∷ 23 ∷ 24 ∷ 30 ∷ 40 ∷ []) (go_20, (go_21, (go_23, (go_24, (go_30, (go_40, tt)))))))
       (λ k.
-      go-22 (eqb-true _ _ ((and-eq-true_iff (eqb r.location 22) (eqb r.lis 0)).0 k).0)
+      go_22 (eqb-true _ _ ((and-eq-true_iff (eqb r.location 22) (eqb r.lis 0)).0 k).0)
       (eqb-true _ _ ((and-eq-true_iff (eqb r.location 22) (eqb r.lis 0)).0 k).1))
       (or_cases (one_of r.location (20 ∷ 21 ∷ 23 ∷ 24 ∷ 30 ∷ 40 ∷ [])) _ h)
 
-  flicker-step : (a : ℕ)
+  flicker_step : (a : ℕ)
       → allowed FLICKER (row t p) ≡ true
       → argument_fits (length t) FLICKER (row t p) a ≡ true
       → Step t p (flickered t p a)
   unfolding allowed argument_fits
-  flicker-step a h g =
+  flicker_step a h g =
       by_one (row t p).location (20 ∷ 40 ∷ 24 ∷ []) (
         (λ e. rw (flickered_act t p a (omega arith)) (flickers_20 a e (ltb-true a 2 (rw e at g)))),
         (
@@ -89,11 +89,11 @@ module _ (t : Table) (p : ℕ) (l : p < length t) where
       )
       h
 
-  look-step : (q : ℕ)
+  look_step : (q : ℕ)
       → (row t p).location ≡ 22
       → has (row t p).lis q ≡ true
       → Step t p (set t p (looked q (row t q).act (row t p)))
-  look-step q e h = looked_cases (λ r. Step t p (set t p r)) q (row t q).act (row t p) (discards q e h) (keeps q e h)
+  look_step q e h = looked_cases (λ r. Step t p (set t p r)) q (row t q).act (row t p) (discards q e h) (keeps q e h)
 
   pub moved_step : (k a : ℕ)
       → is_kind k ≡ true
@@ -106,17 +106,17 @@ module _ (t : Table) (p : ℕ) (l : p < length t) where
       (λ k. allowed k (row t p) ≡ true → argument_fits (length t) k (row t p) a ≡ true → Step t p (moved t k p a))
       (λ h g. rests (eqb-true _ _ h))
       (λ h g. comes (eqb-true _ _ h))
-      (flicker-step a)
+      (flicker_step a)
       (λ h g. go_step h)
       (λ h g.
-      look-step a (eqb-true _ _ ((and-eq-true_iff (eqb (row t p).location 22) (not (eqb (row t p).lis 0))).0 h).0) g)
+      look_step a (eqb-true _ _ ((and-eq-true_iff (eqb (row t p).location 22) (not (eqb (row t p).lis 0))).0 h).0) g)
       (λ h g. cancels (eqb-true _ _ h))
       k
 
 -- ---- what an accepted word says
 
 pub record Says (t : Table) (w : ℕ) : Type 0 where
-  pub formed-so : formed w ≡ true
+  pub formed_so : formed w ≡ true
   pub kind_known : is_kind (kind_of w) ≡ true
   pub process_in : process_of w < length t
   pub allowed_there : allowed (kind_of w) (row t (process_of w)) ≡ true
@@ -136,7 +136,7 @@ word_says t w z =
     let c = cond_zero _ 9 _ b.1 in
     let d = cond_zero _ 10 _ c.1 in
     record {
-      formed-so = a.0;
+      formed_so = a.0;
       kind_known = ((and-eq-true_iff (is_kind (kind_of w)) (spare_clear w)).0 a.0).0;
       process_in = ltb-true _ _ b.0;
       allowed_there = c.0;
@@ -147,7 +147,7 @@ word_says t w z =
 -- a word that says so is not refused
 pub says_word : (t : Table) (w : ℕ) → Says t w → word_refusal t w ≡ 0
 unfolding word_refusal
-says_word t w s = rw (s.formed-so, lt-ltb _ _ s.process_in, s.allowed_there, s.argument_fits_lem, s.passes_fit)
+says_word t w s = rw (s.formed_so, lt-ltb _ _ s.process_in, s.allowed_there, s.argument_fits_lem, s.passes_fit)
 
 -- ---- one word
 

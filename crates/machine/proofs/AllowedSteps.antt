@@ -20,8 +20,8 @@ use Rattle.machine.specs.Tables.{Table, row, table_refusal}
 use Rattle.machine.specs.Words.{STAY, COME, FLICKER, GO, LOOK, CANCEL, kind_of, process_of, word_of}
 use Rattle.machine.specs.Settings.{flicker_forbidden, writes_turn, other_writer, goes_to24, go_forbidden, forbidden_by}
 use Rattle.machine.specs.System.{Step, step_word, StepAllowed}
-use Rattle.machine.specs.System.Step.{rests, comes, flickers_20, enters, starts-scan, wins, discards, keeps}
-use Rattle.machine.specs.System.Step.{ends_scan, lowers, to-push, waits, skips, flickers_24, pushes, exits}
+use Rattle.machine.specs.System.Step.{rests, comes, flickers_20, enters, starts_scan, wins, discards, keeps}
+use Rattle.machine.specs.System.Step.{ends_scan, lowers, to_push, waits, skips, flickers_24, pushes, exits}
 use Rattle.machine.specs.System.Step.{flickers_40, leaves, cancels}
 use Rattle.machine.specs.declared.Row.{Row}
 use Rattle.machine.specs.declared.Settings.{Settings}
@@ -43,45 +43,45 @@ module _ (s : Settings) (t : Table) (p : ℕ) (z : table_refusal t ≡ 0) (l : p
 
   -- ---- FLICKER
 
-  act-free : (v : ℕ) → (row t p).location ≡ v → eqb v 24 ≡ false → s.act ≢ 1 → flicker_forbidden s (row t p) ≡ false
-  act-free v e away ne = rw (e, away) (ne_eqb _ _ ne)
+  act_free : (v : ℕ) → (row t p).location ≡ v → eqb v 24 ≡ false → s.act ≢ 1 → flicker_forbidden s (row t p) ≡ false
+  act_free v e away ne = rw (e, away) (ne_eqb _ _ ne)
 
-  act-forbidden : (v : ℕ) → (row t p).location ≡ v → eqb v 24 ≡ false → s.act ≡ 1 → flicker_forbidden s (row t p) ≡ true
-  act-forbidden v e away i = rw (e, away) (eq-eqb _ _ i)
+  act_forbidden : (v : ℕ) → (row t p).location ≡ v → eqb v 24 ≡ false → s.act ≡ 1 → flicker_forbidden s (row t p) ≡ true
+  act_forbidden v e away i = rw (e, away) (eq-eqb _ _ i)
 
   turn_free : (row t p).location ≡ 24 → s.turn ≢ 2 → flicker_forbidden s (row t p) ≡ false
   turn_free e ne = rw e (ne_eqb _ _ ne)
 
-  turn-forbidden : (row t p).location ≡ 24 → s.turn ≡ 2 → flicker_forbidden s (row t p) ≡ true
-  turn-forbidden e i = rw e (eq-eqb _ _ i)
+  turn_forbidden : (row t p).location ≡ 24 → s.turn ≡ 2 → flicker_forbidden s (row t p) ≡ true
+  turn_forbidden e i = rw e (eq-eqb _ _ i)
 
   -- ---- GO
 
   -- where it does not go from 23 to 24
-  stays-free : goes_to24 t p ≡ false → go_forbidden s t p ≡ false
-  stays-free h =
+  stays_free : goes_to24 t p ≡ false → go_forbidden s t p ≡ false
+  stays_free h =
       split (λ b. (b && (goes_to24 t p && other_writer t p)) ≡ false) (eqb s.turn 1) (λ _. rw h refl) (λ _. refl)
 
   away : (v : ℕ) → (row t p).location ≡ v → eqb v 23 ≡ false → go_forbidden s t p ≡ false
-  away v e ne = stays-free (goes_by t p l ∙ rw (e, ne) refl)
+  away v e ne = stays_free (goes_by t p l ∙ rw (e, ne) refl)
 
   lower : (row t p).location ≡ 23 → size (row t p).est < (row t p).level → go_forbidden s t p ≡ false
-  lower e i = stays-free (goes_by t p l ∙ rw (e, lt-ltb _ _ i) refl)
+  lower e i = stays_free (goes_by t p l ∙ rw (e, lt-ltb _ _ i) refl)
 
   pushed-before : (row t p).location ≡ 23
       → (row t p).level ≤ size (row t p).est
       → (row t p).bb ≢ 0
       → go_forbidden s t p ≡ false
-  pushed-before e i b = stays-free (goes_by t p l ∙ rw (e, le-ltb _ _ i, ne_eqb _ _ b) refl)
+  pushed-before e i b = stays_free (goes_by t p l ∙ rw (e, le-ltb _ _ i, ne_eqb _ _ b) refl)
 
   -- where it does
   goes : (row t p).location ≡ 23 → (row t p).level ≤ size (row t p).est → (row t p).bb ≡ 0 → goes_to24 t p ≡ true
   goes e i b = goes_by t p l ∙ rw (e, le-ltb _ _ i, eq-eqb _ _ b) refl
 
-  alone-free : (s.turn ≡ 1 → (q : ℕ) → (q ≡ p → ⊥) → (row t q).location ≡ 24 → (row t q).level ≡ (row t p).level → ⊥)
+  alone_free : (s.turn ≡ 1 → (q : ℕ) → (q ≡ p → ⊥) → (row t q).location ≡ 24 → (row t q).level ≡ (row t p).level → ⊥)
       → go_forbidden s t p ≡ false
   unfolding other_writer
-  alone-free none =
+  alone_free none =
       fails (go_forbidden s t p)
       (λ h.
       let one = (and-eq-true_iff (eqb s.turn 1) _).0 h in
@@ -127,52 +127,52 @@ module _ (s : Settings) (t : Table) (p : ℕ) (z : table_refusal t ≡ 0) (l : p
   pub allowed_free : {u : Table} (x : Step t p u) → StepAllowed s p x → Free (step_word p x)
   allowed_free (rests e) h = other STAY 0 (omega arith) (omega arith) (omega arith)
   allowed_free (comes e) h = other COME 0 (omega arith) (omega arith) (omega arith)
-  allowed_free (flickers_20 a e i) h = flicker a (omega arith) (act-free 20 e refl h)
+  allowed_free (flickers_20 a e i) h = flicker a (omega arith) (act_free 20 e refl h)
   allowed_free (enters e) h = go_on (away 20 e refl)
-  allowed_free (starts-scan e i) h = go_on (away 21 e refl)
+  allowed_free (starts_scan e i) h = go_on (away 21 e refl)
   allowed_free (wins e i) h = go_on (away 21 e refl)
   allowed_free (discards q e i a) h = other LOOK q (member_low t p z l q i) (omega arith) (omega arith)
   allowed_free (keeps q e i a) h = other LOOK q (member_low t p z l q i) (omega arith) (omega arith)
   allowed_free (ends_scan e i) h = go_on (away 22 e refl)
   allowed_free (lowers e i) h = go_on (lower e i)
-  allowed_free (to-push e i b) h = go_on (alone-free h)
+  allowed_free (to_push e i b) h = go_on (alone_free h)
   allowed_free (waits e i b v) h = go_on (pushed-before e i b)
   allowed_free (skips e i b v) h = go_on (pushed-before e i b)
   allowed_free (flickers_24 a e i) h =
       let few = sound_few t z in flicker a (omega arith) (turn_free e h)
   allowed_free (pushes e) h = go_on (away 24 e refl)
   allowed_free (exits e) h = go_on (away 30 e refl)
-  allowed_free (flickers_40 a e i) h = flicker a (omega arith) (act-free 40 e refl h)
+  allowed_free (flickers_40 a e i) h = flicker a (omega arith) (act_free 40 e refl h)
   allowed_free (leaves e) h = go_on (away 40 e refl)
   allowed_free (cancels e) h = other CANCEL 0 (omega arith) (omega arith) (omega arith)
 
   -- not both
-  forbids-flicker : (a : ℕ) → a < 256 → flicker_forbidden s (row t p) ≡ true → Free (word_of FLICKER p a) → ⊥
-  forbids-flicker a small h f =
+  forbids_flicker : (a : ℕ) → a < 256 → flicker_forbidden s (row t p) ≡ true → Free (word_of FLICKER p a) → ⊥
+  forbids_flicker a small h f =
       omega (arith, flicker_forbidden_lem s t FLICKER p refl h, by_parts FLICKER a small, f)
 
-  forbids-go : go_forbidden s t p ≡ true → Free (word_of GO p 0) → ⊥
-  forbids-go h f = omega (arith, go_forbidden_lem s t GO p refl h, by_parts GO 0 (omega arith), f)
+  forbids_go : go_forbidden s t p ≡ true → Free (word_of GO p 0) → ⊥
+  forbids_go h f = omega (arith, go_forbidden_lem s t GO p refl h, by_parts GO 0 (omega arith), f)
 
   pub free_allowed : {u : Table} (x : Step t p u) → Free (step_word p x) → StepAllowed s p x
   free_allowed (rests e) f = tt
   free_allowed (comes e) f = tt
-  free_allowed (flickers_20 a e i) f = λ one. forbids-flicker a (omega arith) (act-forbidden 20 e refl one) f
+  free_allowed (flickers_20 a e i) f = λ one. forbids_flicker a (omega arith) (act_forbidden 20 e refl one) f
   free_allowed (enters e) f = tt
-  free_allowed (starts-scan e i) f = tt
+  free_allowed (starts_scan e i) f = tt
   free_allowed (wins e i) f = tt
   free_allowed (discards q e i a) f = tt
   free_allowed (keeps q e i a) f = tt
   free_allowed (ends_scan e i) f = tt
   free_allowed (lowers e i) f = tt
-  free_allowed (to-push e i b) f =
-      λ one q ne there level. forbids-go (beside_forbidden q one (goes e i b) ne there level) f
+  free_allowed (to_push e i b) f =
+      λ one q ne there level. forbids_go (beside_forbidden q one (goes e i b) ne there level) f
   free_allowed (waits e i b v) f = tt
   free_allowed (skips e i b v) f = tt
   free_allowed (flickers_24 a e i) f =
-      λ two. let few = sound_few t z in forbids-flicker a (omega arith) (turn-forbidden e two) f
+      λ two. let few = sound_few t z in forbids_flicker a (omega arith) (turn_forbidden e two) f
   free_allowed (pushes e) f = tt
   free_allowed (exits e) f = tt
-  free_allowed (flickers_40 a e i) f = λ one. forbids-flicker a (omega arith) (act-forbidden 40 e refl one) f
+  free_allowed (flickers_40 a e i) f = λ one. forbids_flicker a (omega arith) (act_forbidden 40 e refl one) f
   free_allowed (leaves e) f = tt
   free_allowed (cancels e) f = tt

@@ -32,8 +32,8 @@ module _ (n : ℕ) (d : Told) where
   moved_by : (s : Told) → answer ≡ Stepped.Moved s → (n ≡ 0) × (s ≡ d)
   moved_by s h = let m = moved_case (eqb n 0) d s n h in (eqb-true _ _ m.0, m.1)
 
-  refused-by : (u : ℕ) → answer ≡ Stepped.Refused u → (n ≡ 0 → ⊥) × (u ≡ n)
-  refused-by u h = let m = refused_case (eqb n 0) d u n h in (eqb-false _ _ m.0, m.1)
+  refused_by : (u : ℕ) → answer ≡ Stepped.Refused u → (n ≡ 0 → ⊥) × (u ≡ n)
+  refused_by u h = let m = refused_case (eqb n 0) d u n h in (eqb-false _ _ m.0, m.1)
 
 module _ (t : Table) (w : ℕ) where
   pub answer-moved : (s : Told) → answer_of t w ≡ Stepped.Moved s → (refusal_of t w ≡ 0) × (s ≡ told_of t w)
@@ -42,7 +42,7 @@ module _ (t : Table) (w : ℕ) where
 
   pub answer_refused : (u : ℕ) → answer_of t w ≡ Stepped.Refused u → (refusal_of t w ≡ 0 → ⊥) × (u ≡ refusal_of t w)
   unfolding answer_of
-  answer_refused = refused-by (refusal_of t w) (told_of t w)
+  answer_refused = refused_by (refusal_of t w) (told_of t w)
 
 -- under settings
 module _ (m : Settings) (t : Table) (w : ℕ) where
@@ -53,4 +53,4 @@ module _ (m : Settings) (t : Table) (w : ℕ) where
   pub under_refused : (u : ℕ) → answer_under m t w ≡ Stepped.Refused u
       → (refusal_under m t w ≡ 0 → ⊥) × (u ≡ refusal_under m t w)
   unfolding answer_under
-  under_refused = refused-by (refusal_under m t w) (told_of t w)
+  under_refused = refused_by (refusal_under m t w) (told_of t w)

@@ -23,8 +23,8 @@ use Rattle.machine.specs.Tables.{Table, row, one_of, locations}
 use Rattle.machine.specs.Words.{process_of}
 use Rattle.machine.specs.Steps.{refusal_of, after_word}
 use Rattle.machine.specs.System.{turn_assigned, Step, exited}
-use Rattle.machine.specs.System.Step.{rests, comes, flickers_20, enters, starts-scan, wins, discards, keeps}
-use Rattle.machine.specs.System.Step.{ends_scan, lowers, to-push, waits, skips, flickers_24, pushes, exits}
+use Rattle.machine.specs.System.Step.{rests, comes, flickers_20, enters, starts_scan, wins, discards, keeps}
+use Rattle.machine.specs.System.Step.{ends_scan, lowers, to_push, waits, skips, flickers_24, pushes, exits}
 use Rattle.machine.specs.System.Step.{flickers_40, leaves, cancels}
 use Rattle.machine.specs.declared.Row.{Row}
 use Rattle.machine.proofs.OneOfLaws.{each_passes, by_test}
@@ -60,39 +60,39 @@ module _ (t : Table) (p : ℕ) (l : p < length t) where
   leads u b a e f h = ap₂ (λ (x y : ℕ). one_of y (nexts x)) e f ∙ h
 
   -- where the row of p is set last, in a table v as long
-  leads-set : (v : Table) (r : Row) (b a : ℕ)
+  leads_set : (v : Table) (r : Row) (b a : ℕ)
       → length v ≡ length t
       → (row t p).location ≡ b
       → r.location ≡ a
       → one_of a (nexts b) ≡ true
       → Leads (set v p r)
-  leads-set v r b a i e f =
+  leads_set v r b a i e f =
       leads (set v p r) b a e (ap (λ (s : Row). s.location) (row_same v p r (omega arith)) ∙ f)
 
   pub step_leads : {u : Table} → Step t p u → Leads u
   step_leads (rests e) = leads t 10 10 e e refl
-  step_leads (comes e) = leads-set t _ 10 20 refl e refl refl
-  step_leads (flickers_20 a e h) = leads-set t _ 20 20 refl e e refl
-  step_leads (enters e) = leads-set t _ 20 21 refl e refl refl
-  step_leads (starts-scan e h) = leads-set t _ 21 22 refl e refl refl
-  step_leads (wins e h) = leads-set t _ 21 30 refl e refl refl
-  step_leads (discards q e h a) = leads-set t _ 22 22 refl e e refl
-  step_leads (keeps q e h a) = leads-set t _ 22 22 refl e e refl
-  step_leads (ends_scan e h) = leads-set t _ 22 23 refl e refl refl
-  step_leads (lowers e h) = leads-set t _ 23 21 refl e refl refl
-  step_leads (to-push e h b) = leads-set t _ 23 24 refl e refl refl
-  step_leads (waits e h b v) = leads-set t _ 23 21 refl e refl refl
-  step_leads (skips e h b v) = leads-set t _ 23 21 refl e refl refl
+  step_leads (comes e) = leads_set t _ 10 20 refl e refl refl
+  step_leads (flickers_20 a e h) = leads_set t _ 20 20 refl e e refl
+  step_leads (enters e) = leads_set t _ 20 21 refl e refl refl
+  step_leads (starts_scan e h) = leads_set t _ 21 22 refl e refl refl
+  step_leads (wins e h) = leads_set t _ 21 30 refl e refl refl
+  step_leads (discards q e h a) = leads_set t _ 22 22 refl e e refl
+  step_leads (keeps q e h a) = leads_set t _ 22 22 refl e e refl
+  step_leads (ends_scan e h) = leads_set t _ 22 23 refl e refl refl
+  step_leads (lowers e h) = leads_set t _ 23 21 refl e refl refl
+  step_leads (to_push e h b) = leads_set t _ 23 24 refl e refl refl
+  step_leads (waits e h b v) = leads_set t _ 23 21 refl e refl refl
+  step_leads (skips e h b v) = leads_set t _ 23 21 refl e refl refl
   step_leads (flickers_24 a e h) =
       leads (turn_assigned t (row t p).level a) 24 24 e
       (turn_free (λ r. r.location ≡ 24) t (row t p).level a p (λ r i. i) e)
       refl
-  step_leads (pushes e) = leads-set (turn_assigned t (row t p).level p) _ 24 21 (simp length-set) e refl refl
+  step_leads (pushes e) = leads_set (turn_assigned t (row t p).level p) _ 24 21 (simp length-set) e refl refl
   step_leads (exits e) =
-      leads-set (map (exited p) t) _ 30 40 (simp length-map) e refl refl
-  step_leads (flickers_40 a e h) = leads-set t _ 40 40 refl e e refl
-  step_leads (leaves e) = leads-set t _ 40 10 refl e refl refl
-  step_leads (cancels e) = leads-set t _ 20 40 refl e refl refl
+      leads_set (map (exited p) t) _ 30 40 (simp length-map) e refl refl
+  step_leads (flickers_40 a e h) = leads_set t _ 40 40 refl e e refl
+  step_leads (leaves e) = leads_set t _ 40 10 refl e refl refl
+  step_leads (cancels e) = leads_set t _ 20 40 refl e refl refl
 
   pub by_arc : (T : ℕ → ℕ → Bool)
       → every_arc T ≡ true

@@ -18,10 +18,10 @@ use Rattle.machine.specs.Census.{is_critical}
 use Rattle.machine.specs.declared.Row.{Row}
 use Rattle.machine.proofs.SoundRows.{sound-row}
 use Rattle.machine.proofs.Frames.{step_others}
-use Rattle.machine.proofs.StepRows.{stepRow, step-becomes}
+use Rattle.machine.proofs.StepRows.{step_row, step_becomes}
 use Rattle.machine.proofs.RoundLaws.{Move, move_step}
-use Rattle.machine.proofs.RoundLaws.Move.{rests, enters, starts-scan, wins, discards, keeps, ends_scan, lowers}
-use Rattle.machine.proofs.RoundLaws.Move.{to-push, waits, skips, pushes, exits, leaves}
+use Rattle.machine.proofs.RoundLaws.Move.{rests, enters, starts_scan, wins, discards, keeps, ends_scan, lowers}
+use Rattle.machine.proofs.RoundLaws.Move.{to_push, waits, skips, pushes, exits, leaves}
 
 -- the row of a process whose next move leads to 30
 abbrev pub arriving : Row → Bool
@@ -32,32 +32,32 @@ module _ (t : Table) (p : ℕ) where
   elsewhere : (v : ℕ) → (row t p).location ≡ v → eqb v 21 ≡ false → false ≡ arriving (row t p)
   elsewhere v e z = sym (ap (λ (b : Bool). b && eqb (row t p).level 0) (ap (λ (x : ℕ). eqb x 21) e ∙ z))
 
-  at-21 : (row t p).location ≡ 21 → arriving (row t p) ≡ eqb (row t p).level 0
-  at-21 e = ap (λ (x : ℕ). eqb x 21 && eqb (row t p).level 0) e
+  at_21 : (row t p).location ≡ 21 → arriving (row t p) ≡ eqb (row t p).level 0
+  at_21 e = ap (λ (x : ℕ). eqb x 21 && eqb (row t p).level 0) e
 
   -- the row after the move is at 30
-  own-arrives : {u : Table} (m : Move t p u) → is_critical (stepRow t p (move_step m)) ≡ arriving (row t p)
+  own_arrives : {u : Table} (m : Move t p u) → is_critical (step_row t p (move_step m)) ≡ arriving (row t p)
   unfolding move_step
-  own-arrives (rests e) = ap (λ (x : ℕ). eqb x 30) e ∙ elsewhere 10 e refl
-  own-arrives (enters e) = elsewhere 20 e refl
-  own-arrives (starts-scan e h) = sym (at-21 e ∙ ne_eqb (row t p).level 0 (λ z. absurd (omega arith)))
-  own-arrives (wins e h) = sym (at-21 e ∙ eq-eqb _ _ h)
-  own-arrives (discards e h a) = ap (λ (x : ℕ). eqb x 30) e ∙ elsewhere 22 e refl
-  own-arrives (keeps e h a) = ap (λ (x : ℕ). eqb x 30) e ∙ elsewhere 22 e refl
-  own-arrives (ends_scan e h) = elsewhere 22 e refl
-  own-arrives (lowers e h) = elsewhere 23 e refl
-  own-arrives (to-push e h b) = elsewhere 23 e refl
-  own-arrives (waits e h b v) = elsewhere 23 e refl
-  own-arrives (skips e h b v) = elsewhere 23 e refl
-  own-arrives (pushes e) = elsewhere 24 e refl
-  own-arrives (exits e) = elsewhere 30 e refl
-  own-arrives (leaves e) = elsewhere 40 e refl
+  own_arrives (rests e) = ap (λ (x : ℕ). eqb x 30) e ∙ elsewhere 10 e refl
+  own_arrives (enters e) = elsewhere 20 e refl
+  own_arrives (starts_scan e h) = sym (at_21 e ∙ ne_eqb (row t p).level 0 (λ z. absurd (omega arith)))
+  own_arrives (wins e h) = sym (at_21 e ∙ eq-eqb _ _ h)
+  own_arrives (discards e h a) = ap (λ (x : ℕ). eqb x 30) e ∙ elsewhere 22 e refl
+  own_arrives (keeps e h a) = ap (λ (x : ℕ). eqb x 30) e ∙ elsewhere 22 e refl
+  own_arrives (ends_scan e h) = elsewhere 22 e refl
+  own_arrives (lowers e h) = elsewhere 23 e refl
+  own_arrives (to_push e h b) = elsewhere 23 e refl
+  own_arrives (waits e h b v) = elsewhere 23 e refl
+  own_arrives (skips e h b v) = elsewhere 23 e refl
+  own_arrives (pushes e) = elsewhere 24 e refl
+  own_arrives (exits e) = elsewhere 30 e refl
+  own_arrives (leaves e) = elsewhere 40 e refl
 
 module _ (t u : Table) (p : ℕ) (z : table_refusal t ≡ 0) (l : p < length t) (m : Move t p u) where
   pub move_arrives : is_critical (row u p) ≡ arriving (row t p)
   move_arrives =
-      let b = step-becomes t p l (sound-row t z p l).level_low (move_step m) in
-      ap is_critical b.own ∙ own-arrives t p m
+      let b = step_becomes t p l (sound-row t z p l).level_low (move_step m) in
+      ap is_critical b.own ∙ own_arrives t p m
 
   pub critical_next : count (λ q. is_critical (row u q)) (suc p)
       ≡ count (λ q. is_critical (row t q)) p + bit (is_critical (row u p))

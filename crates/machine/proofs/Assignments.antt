@@ -88,29 +88,29 @@ module _ (t : Table) (j v : ℕ) (i : j < length t) (p : ℕ) (l : p < length t)
   abbrev put : Table
   put = turn_assigned t j v
 
-  in-put : p < length put
-  in-put = subst (λ (n : ℕ). p < n) (sym (turn_becomes t j v i p).same_size) l
+  in_put : p < length put
+  in_put = subst (λ (n : ℕ). p < n) (sym (turn_becomes t j v i p).same_size) l
 
   own_put : bare (f (row put p)) ≡ bare (f (row t p))
   own_put = blind (row put p) ∙ ap (λ (r : Row). bare (f r)) (turn_keeps_rows t j v i p) ∙ sym (blind (row t p))
 
   pub turn_set_becomes : Becomes t p (λ r. r) (f (row t p)) (assigned put p f)
   turn_set_becomes =
-      let b = set_becomes put p in-put (f (row put p)) in
+      let b = set_becomes put p in_put (f (row put p)) in
       record {
         same_size = b.same_size ∙ (turn_becomes t j v i p).same_size;
         own = b.own ∙ own_put;
         other = λ q ne. b.other q ne ∙ turn_keeps_rows t j v i q;
       }
 
-  turn-set-turns : TurnsKept put (assigned put p f)
-  turn-set-turns = set_keeps_turns put p in-put (f (row put p)) (keeps (row put p))
+  turn_set_turns : TurnsKept put (assigned put p f)
+  turn_set_turns = set_keeps_turns put p in_put (f (row put p)) (keeps (row put p))
 
   pub turn_set_is : (row (assigned put p f) j).turn ≡ v
-  turn_set_is = turn-set-turns j ∙ turn_is t j v i
+  turn_set_is = turn_set_turns j ∙ turn_is t j v i
 
-  pub turn_set-others : TurnsKeptBut j t (assigned put p f)
-  turn_set-others k ne = turn-set-turns k ∙ other_turns_keep t j v i k ne
+  pub turn_set_others : TurnsKeptBut j t (assigned put p f)
+  turn_set_others k ne = turn_set_turns k ∙ other_turns_keep t j v i k ne
 
 -- every row r becomes g r, and then that of p becomes f of it
 pub map_becomes : (t : Table) (p : ℕ) (g f : Row → Row)

@@ -12,13 +12,13 @@ use lib.Dec.{leb}
 use lib.ListN.{length}
 use Rattle.machine.specs.Tables.{Table, row, table_refusal, competes}
 use Rattle.machine.specs.System.{Step}
-use Rattle.machine.specs.System.Step.{rests, comes, flickers_20, enters, starts-scan, wins, discards, keeps}
-use Rattle.machine.specs.System.Step.{ends_scan, lowers, to-push, waits, skips, flickers_24, pushes, exits}
+use Rattle.machine.specs.System.Step.{rests, comes, flickers_20, enters, starts_scan, wins, discards, keeps}
+use Rattle.machine.specs.System.Step.{ends_scan, lowers, to_push, waits, skips, flickers_24, pushes, exits}
 use Rattle.machine.specs.System.Step.{flickers_40, leaves, cancels}
 use Rattle.machine.specs.declared.Row.{Row}
 use Rattle.machine.proofs.Assignments.{competes_at}
 use Rattle.machine.proofs.SoundRows.{sound-row}
-use Rattle.machine.proofs.StepRows.{stepRow, step-keeps-rows}
+use Rattle.machine.proofs.StepRows.{step_row, step_keeps-rows}
 
 abbrev pub BbInside : Row → Type 0
 BbInside r = (r.bb ≡ 0 → ⊥) → (competes r ≡ true) × (r.location ≤ 23) × (0 < r.level)
@@ -32,18 +32,18 @@ module _ (t : Table) (p : ℕ) (z : table_refusal t ≡ 0) (l : p < length t) (h
       → M
   idle v e o n = absurd (false≢true (sym (competes_at (row t p) v e ∙ o) ∙ (h p n).0))
 
-  own : {u : Table} (x : Step t p u) → BbInside (stepRow t p x)
+  own : {u : Table} (x : Step t p u) → BbInside (step_row t p x)
   own (rests e) n = h p n
   own (comes e) n = idle 10 e refl n
   own (flickers_20 a e b) n = idle 20 e refl n
   own (enters e) n = idle 20 e refl n
-  own (starts-scan e b) n = (refl, omega arith, b)
+  own (starts_scan e b) n = (refl, omega arith, b)
   own (wins e b) n = absurd (omega (arith, (h p n).2))
   own (discards q e b a) n = h p n
   own (keeps q e b a) n = h p n
   own (ends_scan e b) n = (refl, omega arith, (h p n).2)
   own (lowers e b) n = absurd (n refl)
-  own (to-push e b c) n = absurd (n c)
+  own (to_push e b c) n = absurd (n c)
   own (waits e b c v) n = absurd (n refl)
   own (skips e b c v) n = (refl, omega arith, (h p n).2)
   own (flickers_24 a e b) n = h p n
@@ -55,4 +55,4 @@ module _ (t : Table) (p : ℕ) (z : table_refusal t ≡ 0) (l : p < length t) (h
 
   pub step_keeps_bb_inside : {u : Table} → Step t p u → (q : ℕ) → BbInside (row u q)
   step_keeps_bb_inside x =
-      step-keeps-rows t p l (sound-row t z p l).level_low (λ q r. BbInside r) x (own x) (λ q ne. h q)
+      step_keeps-rows t p l (sound-row t z p l).level_low (λ q r. BbInside r) x (own x) (λ q ne. h q)

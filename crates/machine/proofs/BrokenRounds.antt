@@ -32,13 +32,13 @@ use Rattle.machine.proofs.SoundRows.{sound-row, sound_few}
 use Rattle.machine.proofs.Soundness.{word_keeps_sound, step_keeps_length}
 use Rattle.machine.proofs.Frames.{other_row, step_others}
 use Rattle.machine.proofs.Assignments.{competes_within}
-use Rattle.machine.proofs.StepRows.{stepRow, step-becomes}
+use Rattle.machine.proofs.StepRows.{step_row, step_becomes}
 use Rattle.machine.proofs.RoundLaws.{Move, move_step, process_moves_on, round_word_answered, round_word_process}
-use Rattle.machine.proofs.RoundLaws.{round_to-length, round_to-sound, round-length, round-sound, by-moves}
+use Rattle.machine.proofs.RoundLaws.{round_to-length, round_to-sound, round-length, round-sound, by_moves}
 use Rattle.machine.proofs.RoundLaws.{rounds_zero, rounds_suc}
 use Rattle.machine.proofs.FullLaws.{full_word}
-use Rattle.machine.proofs.RoundLaws.Move.{rests, enters, starts-scan, wins, discards, keeps, ends_scan, lowers}
-use Rattle.machine.proofs.RoundLaws.Move.{to-push, waits, skips, pushes, exits, leaves}
+use Rattle.machine.proofs.RoundLaws.Move.{rests, enters, starts_scan, wins, discards, keeps, ends_scan, lowers}
+use Rattle.machine.proofs.RoundLaws.Move.{to_push, waits, skips, pushes, exits, leaves}
 
 abbrev pub RoomyRow : Row → Type 0
 RoomyRow r = r.location ≡ 20 → (i : ℕ) → i < 16 → get_or r.passes i 0 < 65535
@@ -50,17 +50,17 @@ Roomy t = (q : ℕ) → q < length t → RoomyRow (row t q)
 
 module _ (t : Table) (p : ℕ) where
   -- no move of a round leads to 20
-  own-leaves : {u : Table} (m : Move t p u) → (stepRow t p (move_step m)).location ≢ 20
+  own-leaves : {u : Table} (m : Move t p u) → (step_row t p (move_step m)).location ≢ 20
   unfolding move_step
   own-leaves (rests e) i = omega arith
   own-leaves (enters e) i = omega arith
-  own-leaves (starts-scan e h) i = omega arith
+  own-leaves (starts_scan e h) i = omega arith
   own-leaves (wins e h) i = omega arith
   own-leaves (discards e h a) i = omega arith
   own-leaves (keeps e h a) i = omega arith
   own-leaves (ends_scan e h) i = omega arith
   own-leaves (lowers e h) i = omega arith
-  own-leaves (to-push e h b) i = omega arith
+  own-leaves (to_push e h b) i = omega arith
   own-leaves (waits e h b v) i = omega arith
   own-leaves (skips e h b v) i = omega arith
   own-leaves (pushes e) i = omega arith
@@ -70,20 +70,20 @@ module _ (t : Table) (p : ℕ) where
 module _ (t u : Table) (p : ℕ) (z : table_refusal t ≡ 0) (l : p < length t) (m : Move t p u) where
   pub move_leaves : (row u p).location ≢ 20
   move_leaves e =
-      let b = step-becomes t p l (sound-row t z p l).level_low (move_step m) in
+      let b = step_becomes t p l (sound-row t z p l).level_low (move_step m) in
       own-leaves t p m (sym (ap (λ (r : Row). r.location) b.own) ∙ e)
 
   -- nor is another process, where it was not
-  rest-leaves : (q : ℕ) → (q ≢ p → (row t q).location ≢ 20) → (row u q).location ≢ 20
-  rest-leaves q h = go (ℕ_discrete q p)
+  rest_leaves : (q : ℕ) → (q ≢ p → (row t q).location ≢ 20) → (row u q).location ≢ 20
+  rest_leaves q h = go (ℕ_discrete q p)
     where
       go : Dec (q ≡ p) → (row u q).location ≢ 20
       go (yes e) = subst (λ (x : ℕ). (row u x).location ≢ 20) (sym e) move_leaves
       go (no ne) = λ e. h ne (sym (step_others t u p q (move_step m) ne).location_same ∙ e)
 
   -- no move raises a count of another process
-  move-roomy : Roomy t → Roomy u
-  move-roomy h q k = go (ℕ_discrete q p)
+  move_roomy : Roomy t → Roomy u
+  move_roomy h q k = go (ℕ_discrete q p)
     where
       cleared : (r : Row) → RoomyRow r → RoomyRow (exited p r)
       cleared r room e i k = count (ℕ_discrete i p)
@@ -94,7 +94,7 @@ module _ (t u : Table) (p : ℕ) (z : table_refusal t ≡ 0) (l : p < length t) 
           count (no ne) = omega (arith, cleared_at r.passes p i ne, room e i k)
 
       go : Dec (q ≡ p) → RoomyRow (row u q)
-      go (yes e) = λ f. absurd (rest-leaves q (λ ne. absurd (ne e)) f)
+      go (yes e) = λ f. absurd (rest_leaves q (λ ne. absurd (ne e)) f)
       go (no ne) =
           other_row RoomyRow t p q ne (λ e v r room. room) (λ e. cleared) (move_step m)
           (h q (omega (arith, step_keeps_length t u p (move_step m))))
@@ -121,29 +121,29 @@ roomy_accepted t p z l h =
     (round_word_answered t p z l)
 
 module _ (t : Table) (z : table_refusal t ≡ 0) where
-  roomy-to : Roomy t → (p : ℕ) → p ≤ length t → Roomy (round_to t p)
+  roomy_to : Roomy t → (p : ℕ) → p ≤ length t → Roomy (round_to t p)
   unfolding round_to
-  roomy-to h zero l = λ q k. h q k
-  roomy-to h (suc p) l =
+  roomy_to h zero l = λ q k. h q k
+  roomy_to h (suc p) l =
       let v = round_to t p in
       let y = round_to-sound t z p in
       let in-v : p < length v = omega (arith, round_to-length t p) in
-      let before = roomy-to h p (omega arith) in
-      move-roomy v _ p y in-v (process_moves_on v p y in-v (roomy_accepted v p y in-v before)) before
+      let before = roomy_to h p (omega arith) in
+      move_roomy v _ p y in-v (process_moves_on v p y in-v (roomy_accepted v p y in-v before)) before
 
   pub roomy_unbroken : Roomy t → Unbroken t
   roomy_unbroken h p l =
       roomy_accepted (round_to t p) p (round_to-sound t z p) (omega (arith, round_to-length t p))
-      (roomy-to h p (omega arith))
+      (roomy_to h p (omega arith))
 
   pub entered_unbroken : ((q : ℕ) → q < length t → (row t q).location ≢ 20) → Unbroken t
   entered_unbroken h = roomy_unbroken (λ q l e. absurd (h q l e))
 
   pub round_enters : Unbroken t → (q : ℕ) → q < length t → (row (round t) q).location ≢ 20
   round_enters whole q l =
-      by-moves t (λ p v. (q : ℕ) → q < p → (row v q).location ≢ 20) z whole
+      by_moves t (λ p v. (q : ℕ) → q < p → (row v q).location ≢ 20) z whole
       (λ p v u i n y after ok m h q k.
-      rest-leaves v u p y (subst (λ (x : ℕ). p < x) (sym n) i) m q (λ ne. h q (omega (arith, ne))))
+      rest_leaves v u p y (subst (λ (x : ℕ). p < x) (sym n) i) m q (λ ne. h q (omega (arith, ne))))
       (λ q k. absurd (omega arith)) q l
 
 -- ---- the rounds after it
@@ -224,24 +224,24 @@ on_none t p = refl
 
 module _ (t : Table) where
   -- the first p words, where they are accepted
-  on-to : (p m : ℕ) → ((q : ℕ) → q < p → Given t q) → round_on t 0 (p + m) ≡ round_on (round_to t p) p m
+  on_to : (p m : ℕ) → ((q : ℕ) → q < p → Given t q) → round_on t 0 (p + m) ≡ round_on (round_to t p) p m
   unfolding round_to
-  on-to zero m h = ap (round_on t 0) (omega arith)
-  on-to (suc p) m h =
+  on_to zero m h = ap (round_on t 0) (omega arith)
+  on_to (suc p) m h =
       ap (round_on t 0) (omega arith)
-      ∙ on-to p (suc m) (λ q k. h q (omega arith))
+      ∙ on_to p (suc m) (λ q k. h q (omega arith))
       ∙ on_word (round_to t p) p m (h p (omega arith))
 
   pub on_whole : Unbroken t → round_on t 0 (length t) ≡ record { refusal = 0; table = round t }
   unfolding round
-  on_whole whole = ap (round_on t 0) (omega arith) ∙ on-to (length t) 0 whole ∙ on_none (round t) (length t)
+  on_whole whole = ap (round_on t 0) (omega arith) ∙ on_to (length t) 0 whole ∙ on_none (round t) (length t)
 
   pub on_stops : (s : Stops t) → round_on t 0 (length t) ≡ record { refusal = 15; table = round_to t s.process }
   on_stops s =
       let p = s.process in
       let v = round_to t p in
       ap (round_on t 0) (omega (arith, s.process_in))
-      ∙ on-to p (suc (length t - (p + 1))) s.before_accepted
+      ∙ on_to p (suc (length t - (p + 1))) s.before_accepted
       ∙ on_refused v p _ (λ e. omega (arith, e, s.refused_then))
       ∙ ap (λ (x : ℕ). record { refusal = x; table = v }) s.refused_then
 

@@ -72,9 +72,9 @@ module _ (t : Table) (w : ℕ) (z : refusal_of t w ≡ 0) where
   says = accepted_says t w z
 
   -- COME is allowed at 10 alone, and no step leads from 10 to 30
-  come-apart : eqb (kind_of w) COME ≡ true → (is_critical (row t p) ≡ false) × (is_critical (row u p) ≡ false)
+  come_apart : eqb (kind_of w) COME ≡ true → (is_critical (row t p) ≡ false) × (is_critical (row u p) ≡ false)
   unfolding allowed
-  come-apart c =
+  come_apart c =
       let l = (row t p).location in
       let at10 : eqb l 10 ≡ true =
       sym (ap (λ (k : ℕ). allowed k (row t p)) (eqb-true (kind_of w) COME c)) ∙ says.allowed_there in
@@ -90,7 +90,7 @@ module _ (t : Table) (w : ℕ) (z : refusal_of t w ≡ 0) where
             ∙ count_same_but (λ q. is_critical (row u q)) (λ q. is_critical (row t q)) (length t) p
             (λ q l ne. ap (λ (x : ℕ). eqb x 30) (step_others t u p q (accepted_step t w z) ne).location_same)
             says.process_in;
-        come = come-apart;
+        come = come_apart;
       }
 
   -- Excludes: a departure that does not lower the figure; a step from 40 to 10 that does, or one from 21 to 22 that

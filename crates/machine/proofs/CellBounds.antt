@@ -25,22 +25,22 @@ module _ (n : ℕ) where
   Low c = c.index < n
 
   -- of either alternative
-  low-cond : (b : Bool) (c d : SharedCell) → (b ≡ true → Low c) → Low d → Low (cond b c d)
-  low-cond b c d h k = split (λ x. Low (cond x c d)) b h (λ _. k)
+  low_cond : (b : Bool) (c d : SharedCell) → (b ≡ true → Low c) → Low d → Low (cond b c d)
+  low_cond b c d h k = split (λ x. Low (cond x c d)) b h (λ _. k)
 
   module _ (k p a : ℕ) (r : Row) (process : p < n) (level : r.level < n) (looked : k ≡ LOOK → a < n) where
     written_low : Low (written_at p r)
     written_low =
-        low-cond (one_of r.location (20 ∷ 40 ∷ [])) _ _ (λ _. process)
-        (low-cond (eqb r.location 24) _ _ (λ _. level) (omega arith))
+        low_cond (one_of r.location (20 ∷ 40 ∷ [])) _ _ (λ _. process)
+        (low_cond (eqb r.location 24) _ _ (λ _. level) (omega arith))
 
     at_low : Low (cell_at k p a r)
     unfolding cell_at
     at_low =
-        low-cond (eqb k LOOK) _ _ (λ e. looked (eqb-true k LOOK e))
-        (low-cond (eqb k FLICKER) _ _ (λ _. written_low)
-        (low-cond (eqb k GO) _ _
-        (λ _. low-cond (eqb r.location 23 && asks_turn r) _ _ (λ _. omega (arith, level)) written_low)
+        low_cond (eqb k LOOK) _ _ (λ e. looked (eqb-true k LOOK e))
+        (low_cond (eqb k FLICKER) _ _ (λ _. written_low)
+        (low_cond (eqb k GO) _ _
+        (λ _. low_cond (eqb r.location 23 && asks_turn r) _ _ (λ _. omega (arith, level)) written_low)
         (omega arith)))
 
 module _ (t : Table) (w : ℕ) (z : refusal_of t w ≡ 0) where

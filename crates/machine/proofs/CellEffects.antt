@@ -26,8 +26,8 @@ use Rattle.machine.specs.Words.{process_of}
 use Rattle.machine.specs.Shared.{no_cell, act_read, act_written, turn_read, turn_written, is_written, own, present}
 use Rattle.machine.specs.Steps.{refusal_of, after_word, cell_of}
 use Rattle.machine.specs.System.{assigned, turn_assigned, Cp, Step, step_word, step_cell, exited}
-use Rattle.machine.specs.System.Step.{rests, comes, flickers_20, enters, starts-scan, wins, discards, keeps}
-use Rattle.machine.specs.System.Step.{ends_scan, lowers, to-push, waits, skips, flickers_24, pushes, exits}
+use Rattle.machine.specs.System.Step.{rests, comes, flickers_20, enters, starts_scan, wins, discards, keeps}
+use Rattle.machine.specs.System.Step.{ends_scan, lowers, to_push, waits, skips, flickers_24, pushes, exits}
 use Rattle.machine.specs.System.Step.{flickers_40, leaves, cancels}
 use Rattle.machine.specs.declared.Row.{Row}
 use Rattle.machine.specs.declared.SharedCell.{SharedCell}
@@ -51,8 +51,8 @@ Private f = (r : Row) → present (f r) ≡ with_turn r.turn (with_act r.act (ow
 
 -- a cell g of each row, where the row of p is set
 module _ {A : Type 0} (g : Row → A) (t : Table) (p : ℕ) (s : Row) (l : p < length t) where
-  cell-kept : g s ≡ g (row t p) → (q : ℕ) → g (row (set t p s) q) ≡ g (row t q)
-  cell-kept e = row_cases (λ q r. g r ≡ g (row t q)) t p s l e (λ q ne. refl)
+  cell_kept : g s ≡ g (row t p) → (q : ℕ) → g (row (set t p s) q) ≡ g (row t q)
+  cell_kept e = row_cases (λ q r. g r ≡ g (row t q)) t p s l e (λ q ne. refl)
 
   cell_set : (q : ℕ) → g (row (set t p s) q) ≡ cond (eqb p q) (g s) (g (row t q))
   cell_set =
@@ -88,7 +88,7 @@ module _ (p : ℕ) (t : Table) (l : p < length t) where
   acting s h =
       record {
         acts = cell_set (λ r. r.act) t p s l;
-        turns = cell-kept (λ r. r.turn) t p s l h;
+        turns = cell_kept (λ r. r.turn) t p s l h;
         mover = ap own (row_same t p s l);
       }
 
@@ -102,8 +102,8 @@ module _ (p : ℕ) (t : Table) (l : p < length t) where
       let s = f (row v p) in
       let lv : p < length v = omega (arith, n) in
       record {
-        acts = λ q. cell-kept (λ r. r.act) v p s lv (ap (λ (r : Row). r.act) (h (row v p))) q ∙ e.acts q;
-        turns = λ k. cell-kept (λ r. r.turn) v p s lv (ap (λ (r : Row). r.turn) (h (row v p))) k ∙ e.turns k;
+        acts = λ q. cell_kept (λ r. r.act) v p s lv (ap (λ (r : Row). r.act) (h (row v p))) q ∙ e.acts q;
+        turns = λ k. cell_kept (λ r. r.turn) v p s lv (ap (λ (r : Row). r.turn) (h (row v p))) k ∙ e.turns k;
         mover = ap own (row_same v p s lv) ∙ ap own (h (row v p)) ∙ ap (λ (r : Row). own (f r)) e.mover;
       }
 
@@ -205,9 +205,9 @@ module _ (t u : Table) (p : ℕ) (st : sound t ≡ true) (su : sound u ≡ true)
         follows (enters (at e)) refl refl
         (ap₂ (λ (k : ℕ) (r : Row). with_location 21 (with_est (others k p) (with_level (k - 1) r))) n same)
         (acting p t l _ refl) (acting p u lu _ refl)
-    follow (starts-scan e h) a b =
+    follow (starts_scan e h) a b =
         moves (λ r. with_location 22 (with_lis r.est r)) (λ r. refl)
-        (starts-scan (at e) (guard (λ r. 0 < r.level) h)) refl refl refl
+        (starts_scan (at e) (guard (λ r. 0 < r.level) h)) refl refl refl
     follow (wins e h) a b = moves (with_location 30) (λ r. refl) (wins (at e) (level_same ∙ h)) refl refl refl
     follow (discards q e h v) a b =
         moves (λ r. with_est (without r.est q) (with_lis (without r.lis q) r)) (λ r. refl)
@@ -220,9 +220,9 @@ module _ (t u : Table) (p : ℕ) (st : sound t ≡ true) (su : sound u ≡ true)
     follow (lowers e h) a b =
         moves (λ r. with_location 21 (with_bb 0 (with_level (size r.est) r))) (λ r. refl)
         (lowers (at e) (guard (λ r. size r.est < r.level) h)) refl refl refl
-    follow (to-push e h i) a b =
+    follow (to_push e h i) a b =
         moves (with_location 24) (λ r. refl)
-        (to-push (at e) (guard (λ r. r.level ≤ size r.est) h) (guard (λ r. r.bb ≡ 0) i)) refl refl refl
+        (to_push (at e) (guard (λ r. r.level ≤ size r.est) h) (guard (λ r. r.bb ≡ 0) i)) refl refl refl
     follow (waits e h i v) a b =
         moves (λ r. with_location 21 (with_bb 0 (with_level (r.level - 1) r))) (λ r. refl)
         (waits (at e) (guard (λ r. r.level ≤ size r.est) h) (guard (λ r. r.bb ≢ 0) i) (λ z. v (sym (asked b) ∙ z)))

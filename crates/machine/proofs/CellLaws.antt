@@ -23,8 +23,8 @@ use Rattle.machine.specs.Words.{STAY, COME, FLICKER, GO, LOOK, CANCEL, kind_of, 
 use Rattle.machine.specs.Shared.{no_cell, cell_at, same_cell, is_written, clash}
 use Rattle.machine.specs.Steps.{refusal_of, cell_of}
 use Rattle.machine.specs.System.{Step, step_word, step_cell}
-use Rattle.machine.specs.System.Step.{rests, comes, flickers_20, enters, starts-scan, wins, discards, keeps}
-use Rattle.machine.specs.System.Step.{ends_scan, lowers, to-push, waits, skips, flickers_24, pushes, exits}
+use Rattle.machine.specs.System.Step.{rests, comes, flickers_20, enters, starts_scan, wins, discards, keeps}
+use Rattle.machine.specs.System.Step.{ends_scan, lowers, to_push, waits, skips, flickers_24, pushes, exits}
 use Rattle.machine.specs.System.Step.{flickers_40, leaves, cancels}
 use Rattle.machine.specs.declared.SharedCell.{SharedCell}
 use Rattle.counting.proofs.TestLaws.{same_test, split}
@@ -70,13 +70,13 @@ module _ (t : Table) (p : ℕ) (h : sound t ≡ true) (l : p < length t) where
       go (comes e) = cell-at COME 0 10 (omega arith) e
       go (flickers_20 a e i) = cell-at FLICKER a 20 (omega arith) e
       go (enters e) = cell-at GO 0 20 (omega arith) e
-      go (starts-scan e i) = cell-at GO 0 21 (omega arith) e
+      go (starts_scan e i) = cell-at GO 0 21 (omega arith) e
       go (wins e i) = cell-at GO 0 21 (omega arith) e
       go (discards q e i a) = cell-at LOOK q 22 (member_low t p (sound-accepted t h) l q i) e
       go (keeps q e i a) = cell-at LOOK q 22 (member_low t p (sound-accepted t h) l q i) e
       go (ends_scan e i) = cell-at GO 0 22 (omega arith) e
       go (lowers e i) = λ z. cell-at GO 0 23 (omega arith) e z ∙ rw (lt-ltb _ _ i)
-      go (to-push e i b) = λ z. cell-at GO 0 23 (omega arith) e z ∙ rw (le-ltb _ _ i, eq-eqb _ _ b)
+      go (to_push e i b) = λ z. cell-at GO 0 23 (omega arith) e z ∙ rw (le-ltb _ _ i, eq-eqb _ _ b)
       go (waits e i b v) = λ z. cell-at GO 0 23 (omega arith) e z ∙ rw (le-ltb _ _ i, ne_eqb _ _ b)
       go (skips e i b v) = λ z. cell-at GO 0 23 (omega arith) e z ∙ rw (le-ltb _ _ i, ne_eqb _ _ b)
       go (flickers_24 a e i) =

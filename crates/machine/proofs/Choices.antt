@@ -50,78 +50,78 @@ module _ (t : Table) (p : ℕ) (l : p < length t) where
   tells u b a e f = ap₂ (λ (x y : ℕ). kind_by x y) e f
 
   -- where the row of p is set, its new location tells
-  tells-set : (r : Row) (b a : ℕ) → (row t p).location ≡ b → r.location ≡ a → Tells (kind_by b a) (set t p r)
-  tells-set r b a e f = tells (set t p r) b a e (ap (λ (s : Row). s.location) (row_same t p r l) ∙ f)
+  tells_set : (r : Row) (b a : ℕ) → (row t p).location ≡ b → r.location ≡ a → Tells (kind_by b a) (set t p r)
+  tells_set r b a e f = tells (set t p r) b a e (ap (λ (s : Row). s.location) (row_same t p r l) ∙ f)
 
-  go-20-tells : (row t p).location ≡ 20 → Tells GO (gone t p)
+  go_20_tells : (row t p).location ≡ 20 → Tells GO (gone t p)
   unfolding entered
-  go-20-tells e = rw (gone_20 t p e) (tells-set _ 20 21 e refl)
+  go_20_tells e = rw (gone_20 t p e) (tells_set _ 20 21 e refl)
 
-  go-21-tells : (row t p).location ≡ 21 → Tells GO (gone t p)
-  go-21-tells e =
+  go_21_tells : (row t p).location ≡ 21 → Tells GO (gone t p)
+  go_21_tells e =
       rw (gone_21 t p e)
       (started_cases (λ r. Tells GO (set t p r)) (row t p)
-      (λ h. tells-set _ 21 22 e refl)
-      (λ h. tells-set _ 21 30 e refl))
+      (λ h. tells_set _ 21 22 e refl)
+      (λ h. tells_set _ 21 30 e refl))
 
-  go-22-tells : (row t p).location ≡ 22 → Tells GO (gone t p)
-  go-22-tells e = rw (gone_22 t p e) (tells-set _ 22 23 e refl)
+  go_22_tells : (row t p).location ≡ 22 → Tells GO (gone t p)
+  go_22_tells e = rw (gone_22 t p e) (tells_set _ 22 23 e refl)
 
-  go-23-tells : (row t p).location ≡ 23 → Tells GO (gone t p)
-  go-23-tells e =
+  go_23_tells : (row t p).location ≡ 23 → Tells GO (gone t p)
+  go_23_tells e =
       rw (gone_23 t p e)
       (reconsidered_cases (λ r. Tells GO (set t p r)) p (row t (row t p).level).turn (row t p)
-      (λ h. tells-set _ 23 21 e refl)
-      (λ h b. tells-set _ 23 24 e refl)
-      (λ h b v. tells-set _ 23 21 e refl)
-      (λ h b v. tells-set _ 23 21 e refl))
+      (λ h. tells_set _ 23 21 e refl)
+      (λ h b. tells_set _ 23 24 e refl)
+      (λ h b v. tells_set _ 23 21 e refl)
+      (λ h b v. tells_set _ 23 21 e refl))
 
   -- at 24 and at 30 the row of p is set last, in a table as long
-  tells-last : (v : Table) (r : Row) (b a : ℕ)
+  tells_last : (v : Table) (r : Row) (b a : ℕ)
       → length v ≡ length t
       → (row t p).location ≡ b
       → r.location ≡ a
       → Tells (kind_by b a) (set v p r)
-  tells-last v r b a i e f =
+  tells_last v r b a i e f =
       tells (set v p r) b a e (ap (λ (s : Row). s.location) (row_same v p r (omega arith)) ∙ f)
 
-  go-24-tells : (row t p).location ≡ 24 → Tells GO (gone t p)
-  go-24-tells e =
+  go_24_tells : (row t p).location ≡ 24 → Tells GO (gone t p)
+  go_24_tells e =
       rw (gone_push t p l e)
-      (tells-last (turn_assigned t (row t p).level p) _ 24 21 (simp length-set) e refl)
+      (tells_last (turn_assigned t (row t p).level p) _ 24 21 (simp length-set) e refl)
 
-  go-30-tells : (row t p).location ≡ 30 → Tells GO (gone t p)
-  go-30-tells e =
+  go_30_tells : (row t p).location ≡ 30 → Tells GO (gone t p)
+  go_30_tells e =
       rw (gone_exit t p l e)
-      (tells-last (map (exited p) t) _ 30 40 (simp length-map) e refl)
+      (tells_last (map (exited p) t) _ 30 40 (simp length-map) e refl)
 
-  go-40-tells : (row t p).location ≡ 40 → Tells GO (gone t p)
-  go-40-tells e = rw (gone_40 t p e) (tells-set _ 40 10 e refl)
+  go_40_tells : (row t p).location ≡ 40 → Tells GO (gone t p)
+  go_40_tells e = rw (gone_40 t p e) (tells_set _ 40 10 e refl)
 
-  go-tells : allowed GO (row t p) ≡ true → Tells GO (gone t p)
+  go_tells : allowed GO (row t p) ≡ true → Tells GO (gone t p)
   unfolding allowed
-  go-tells h =
+  go_tells h =
       let r = row t p in
       ⊎_elim
       (by_one r.location (20 ∷ 21 ∷ 23 ∷ 24 ∷ 30 ∷ 40 ∷ [])
-      (go-20-tells, (go-21-tells, (go-23-tells, (go-24-tells, (go-30-tells, (go-40-tells, tt)))))))
-      (λ k. go-22-tells (eqb-true _ _ ((and-eq-true_iff (eqb r.location 22) (eqb r.lis 0)).0 k).0))
+      (go_20_tells, (go_21_tells, (go_23_tells, (go_24_tells, (go_30_tells, (go_40_tells, tt)))))))
+      (λ k. go_22_tells (eqb-true _ _ ((and-eq-true_iff (eqb r.location 22) (eqb r.lis 0)).0 k).0))
       (or_cases (one_of r.location (20 ∷ 21 ∷ 23 ∷ 24 ∷ 30 ∷ 40 ∷ [])) _ h)
 
-  tells-turn : (a : ℕ) → (row t p).location ≡ 24 → Tells FLICKER (turn_assigned t (row t p).level a)
-  tells-turn a e =
+  tells_turn : (a : ℕ) → (row t p).location ≡ 24 → Tells FLICKER (turn_assigned t (row t p).level a)
+  tells_turn a e =
       tells (turn_assigned t (row t p).level a) 24 24 e
       (turn_free (λ r. r.location ≡ 24) t (row t p).level a p (λ r i. i) e)
 
-  flicker-tells : (a : ℕ) → allowed FLICKER (row t p) ≡ true → Tells FLICKER (flickered t p a)
+  flicker_tells : (a : ℕ) → allowed FLICKER (row t p) ≡ true → Tells FLICKER (flickered t p a)
   unfolding allowed
-  flicker-tells a h =
+  flicker_tells a h =
       by_one (row t p).location (20 ∷ 40 ∷ 24 ∷ []) (
-        (λ e. rw (flickered_act t p a (omega arith)) (tells-set _ 20 20 e e)),
+        (λ e. rw (flickered_act t p a (omega arith)) (tells_set _ 20 20 e e)),
         (
-          (λ e. rw (flickered_act t p a (omega arith)) (tells-set _ 40 40 e e)),
+          (λ e. rw (flickered_act t p a (omega arith)) (tells_set _ 40 40 e e)),
           (
-            (λ e. rw (flickered_turn t p a e) (tells-turn a e)),
+            (λ e. rw (flickered_turn t p a e) (tells_turn a e)),
             tt,
           ),
         ),
@@ -133,13 +133,13 @@ module _ (t : Table) (p : ℕ) (l : p < length t) where
   kind_shows k a =
       by_kind (λ k. allowed k (row t p) ≡ true → Tells k (moved t k p a))
       (λ h. tells t 10 10 (eqb-true _ _ h) (eqb-true _ _ h))
-      (λ h. tells-set _ 10 20 (eqb-true _ _ h) refl)
-      (flicker-tells a) go-tells
+      (λ h. tells_set _ 10 20 (eqb-true _ _ h) refl)
+      (flicker_tells a) go_tells
       (λ h.
       let f = ((and-eq-true_iff (eqb (row t p).location 22) (not (eqb (row t p).lis 0))).0 h).0 in
       let e = eqb-true (row t p).location 22 f in
-      tells-set _ 22 22 e e)
-      (λ h. tells-set _ 20 40 (eqb-true _ _ h) refl)
+      tells_set _ 22 22 e e)
+      (λ h. tells_set _ 20 40 (eqb-true _ _ h) refl)
       k
 
   -- ---- the argument
@@ -182,7 +182,7 @@ module _ (t : Table) (p : ℕ) (l : p < length t) where
       → moved t k p a ≡ moved t k p b
       → a ≡ b)
       none none
-      (λ h f g e. flicker-shows e (ℕ_discrete (row t p).location 24))
+      (λ h f g e. flicker_shows e (ℕ_discrete (row t p).location 24))
       none
       (λ h f g e.
       without_injective (row t p).lis a b (lt_of_lt_of_le s.lis_low (pow_mono few)) f g
@@ -194,9 +194,9 @@ module _ (t : Table) (p : ℕ) (l : p < length t) where
       none : {A B : Type 0} → A → eqb a 0 ≡ true → eqb b 0 ≡ true → B → a ≡ b
       none h f g e = eqb-true a 0 f ∙ sym (eqb-true b 0 g)
 
-      flicker-shows : flickered t p a ≡ flickered t p b → Dec ((row t p).location ≡ 24) → a ≡ b
-      flicker-shows e (yes i) =
+      flicker_shows : flickered t p a ≡ flickered t p b → Dec ((row t p).location ≡ 24) → a ≡ b
+      flicker_shows e (yes i) =
           sym (turn_shows a s.level_low i)
           ∙ ap (λ (u : Table). (row u (row t p).level).turn) e
           ∙ turn_shows b s.level_low i
-      flicker-shows e (no ne) = sym (act_shows a ne) ∙ ap (λ (u : Table). (row u p).act) e ∙ act_shows b ne
+      flicker_shows e (no ne) = sym (act_shows a ne) ∙ ap (λ (u : Table). (row u p).act) e ∙ act_shows b ne

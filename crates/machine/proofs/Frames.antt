@@ -13,8 +13,8 @@ use Rattle.counting.specs.Sets.{without}
 use Rattle.machine.specs.Rows.{with_ahead, with_turn, with_passes}
 use Rattle.machine.specs.Tables.{Table, row}
 use Rattle.machine.specs.System.{turn_assigned, Step, exited}
-use Rattle.machine.specs.System.Step.{rests, comes, flickers_20, enters, starts-scan, wins, discards, keeps}
-use Rattle.machine.specs.System.Step.{ends_scan, lowers, to-push, waits, skips, flickers_24, pushes, exits}
+use Rattle.machine.specs.System.Step.{rests, comes, flickers_20, enters, starts_scan, wins, discards, keeps}
+use Rattle.machine.specs.System.Step.{ends_scan, lowers, to_push, waits, skips, flickers_24, pushes, exits}
 use Rattle.machine.specs.System.Step.{flickers_40, leaves, cancels}
 use Rattle.machine.specs.declared.Row.{Row}
 use Rattle.machine.proofs.TableLaws.{row_other, turn_free, map_free}
@@ -42,13 +42,13 @@ module _ (P : Row → Type 0) (t : Table) (p q : ℕ) (ne : q ≢ p)
     other_row (comes e) h = same t _ h
     other_row (flickers_20 a e b) h = same t _ h
     other_row (enters e) h = same t _ h
-    other_row (starts-scan e b) h = same t _ h
+    other_row (starts_scan e b) h = same t _ h
     other_row (wins e b) h = same t _ h
     other_row (discards x e b a) h = same t _ h
     other_row (keeps x e b a) h = same t _ h
     other_row (ends_scan e b) h = same t _ h
     other_row (lowers e b) h = same t _ h
-    other_row (to-push e a b) h = same t _ h
+    other_row (to_push e a b) h = same t _ h
     other_row (waits e a b v) h = same t _ h
     other_row (skips e a b v) h = same t _ h
     other_row (flickers_24 a e b) h = turn_free P t (row t p).level a q (writes e a) h

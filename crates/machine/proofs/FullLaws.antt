@@ -52,7 +52,7 @@ table_not_full t e =
 -- what a word that meets 15 says
 record Full (t : Table) (w : ℕ) : Type 0 where
   table_sound : table_refusal t ≡ 0
-  formed-so : formed w ≡ true
+  formed_so : formed w ≡ true
   process_in : process_of w < length t
   argument_fits_lem : argument_fits (length t) (kind_of w) (row t (process_of w)) (argument_of w) ≡ true
   overflows_so : overflows t (kind_of w) (process_of w) ≡ true
@@ -80,7 +80,7 @@ full_says t w h =
     let d = passed_test (argument_fits (length t) k (row t p) (argument_of w)) 11 _ c.1 (omega arith) in
     record {
       table_sound = z.0;
-      formed-so = a.0;
+      formed_so = a.0;
       process_in = ltb-true _ _ b.0;
       argument_fits_lem = d.0;
       overflows_so = over (overflows t (kind_of w) (process_of w)) d.1;
@@ -149,7 +149,7 @@ full_word t w h =
     (subst (λ (k : ℕ). argument_fits (length t) k (row t p) (argument_of w) ≡ true) kind s.argument_fits_lem) in
     let full = full_count t p s.table_sound s.process_in (not-true _ there.1) in (
       accepted-sound t s.table_sound,
-      sym (formed_is w s.formed-so) ∙ ap₂ (λ (k a : ℕ). word_of k p a) kind none,
+      sym (formed_is w s.formed_so) ∙ ap₂ (λ (k a : ℕ). word_of k p a) kind none,
       (full_go t w h).1,
       full.0,
       full.1,

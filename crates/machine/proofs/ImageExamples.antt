@@ -79,13 +79,13 @@ unfolding entry Images.image_refusal Images.image_of
 full_stops = (refl, refl, refl)
 
 -- from 65,534 it is accepted and leads to 65,535
-pub last-count :
+pub last_count :
     ((entry 65534).refusal ≡ 0)
     × (Images.image_of (entry 65534).table
     ≡ 0x81000002 ∷ 0x90002201 ∷ 0xA0000002 ∷ 0xB0000000 ∷ 0xC0000000 ∷ 0x90012201 ∷ 0xA0010001 ∷ 0xB0010000 ∷
     0xC0010001 ∷ 0xD0010000 ∷ 0xE0000000 ∷ 0xE0010000 ∷ 0xE100FFFF ∷ 0xE1010000 ∷ [])
 unfolding entry Images.image_of
-last-count = (refl, refl)
+last_count = (refl, refl)
 
 -- GO of process 0 and of process 1
 abbrev events : List ℕ

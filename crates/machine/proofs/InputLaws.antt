@@ -36,23 +36,23 @@ module _ (ws : List ℕ) where
         | true ↦ runs (leb (length (event_part ws)) limit)
       ]
 
-  words-by : (b : Bool) → eqb refusal accepted ≡ b → words_hold ws ≡ reads b
+  words_by : (b : Bool) → eqb refusal accepted ≡ b → words_hold ws ≡ reads b
   unfolding words_hold
-  words-by b e = ap reads e
+  words_by b e = ap reads e
 
   pub words_bad_image : (refusal ≡ accepted → ⊥)
       → words_hold ws ≡ Input.BadImage (image_refusal (image_part ws)).place refusal
-  words_bad_image n = words-by false (ne_eqb refusal accepted n)
+  words_bad_image n = words_by false (ne_eqb refusal accepted n)
 
   pub words_too_many : refusal ≡ accepted → limit < length (event_part ws)
       → words_hold ws ≡ Input.TooMany (table_in (image_part ws))
   words_too_many z h =
-      words-by true (eq-eqb refusal accepted z) ∙ ap runs (lt-leb (length (event_part ws)) limit h)
+      words_by true (eq-eqb refusal accepted z) ∙ ap runs (lt-leb (length (event_part ws)) limit h)
 
   pub words_ready : refusal ≡ accepted → length (event_part ws) ≤ limit
       → words_hold ws ≡ Input.Ready (table_in (image_part ws)) (event_part ws)
   words_ready z h =
-      words-by true (eq-eqb refusal accepted z) ∙ ap runs (le-leb (length (event_part ws)) limit h)
+      words_by true (eq-eqb refusal accepted z) ∙ ap runs (le-leb (length (event_part ws)) limit h)
 
 -- ---- the bytes of an input
 
@@ -60,15 +60,15 @@ module _ (bs : List ℕ) where
   abbrev fits : Bool → Input
   fits b = elim b [ false ↦ Input.BadBytes | true ↦ words_hold (words_in bs) ]
 
-  bytes-by : input_of bs ≡ fits (bytes_fit bs)
+  bytes_by : input_of bs ≡ fits (bytes_fit bs)
   unfolding input_of
-  bytes-by = refl
+  bytes_by = refl
 
   pub bytes_bad : bytes_fit bs ≡ false → input_of bs ≡ Input.BadBytes
-  bytes_bad e = bytes-by ∙ ap fits e
+  bytes_bad e = bytes_by ∙ ap fits e
 
   pub bytes_words : bytes_fit bs ≡ true → input_of bs ≡ words_hold (words_in bs)
-  bytes_words e = bytes-by ∙ ap fits e
+  bytes_words e = bytes_by ∙ ap fits e
 
 -- ---- the call for a table, under settings
 

@@ -11,15 +11,15 @@ module _ (l v : ℕ) where
   abbrev pushing : Bool
   pushing = leb 22 l && leb l 24
 
-  abbrev someFits : Bool
-  someFits = not pushing || ltb 0 v
+  abbrev some_fits : Bool
+  some_fits = not pushing || ltb 0 v
 
-  abbrev noneFits : Bool
-  noneFits = not (eqb l 30) || eqb v 0
+  abbrev none_fits : Bool
+  none_fits = not (eqb l 30) || eqb v 0
 
   pub fits_true : (22 ≤ l → l ≤ 24 → 0 < v) → (l ≡ 30 → v ≡ 0) → level_fits l v ≡ true
   fits_true f g =
-      (and-eq-true_iff someFits noneFits).1 (
+      (and-eq-true_iff some_fits none_fits).1 (
         implies pushing (ltb 0 v)
             (λ e.
             let both = (and-eq-true_iff (leb 22 l) (leb l 24)).0 e in
@@ -30,10 +30,10 @@ module _ (l v : ℕ) where
   pub fits_some : level_fits l v ≡ true → 22 ≤ l → l ≤ 24 → 0 < v
   fits_some h a b =
       ltb-true _ _
-      (implied pushing (ltb 0 v) ((and-eq-true_iff someFits noneFits).0 h).0
+      (implied pushing (ltb 0 v) ((and-eq-true_iff some_fits none_fits).0 h).0
       ((and-eq-true_iff (leb 22 l) (leb l 24)).1 (le-leb _ _ a, le-leb _ _ b)))
 
   pub fits_none : level_fits l v ≡ true → l ≡ 30 → v ≡ 0
   fits_none h e =
       eqb-true _ _
-      (implied (eqb l 30) (eqb v 0) ((and-eq-true_iff someFits noneFits).0 h).1 (eq-eqb _ _ e))
+      (implied (eqb l 30) (eqb v 0) ((and-eq-true_iff some_fits none_fits).0 h).1 (eq-eqb _ _ e))

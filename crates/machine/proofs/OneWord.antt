@@ -25,8 +25,8 @@ use Rattle.machine.specs.Words.{spare_clear, formed, word_of}
 use Rattle.machine.specs.Steps.{raised, entered, started, looked, reconsidered, gone, moved, allowed, argument_fits}
 use Rattle.machine.specs.Steps.{raisable, overflows, word_refusal, refusal_of, after_word}
 use Rattle.machine.specs.System.{assigned, Cp, Step, step_word}
-use Rattle.machine.specs.System.Step.{rests, comes, flickers_20, enters, starts-scan, wins, discards, keeps}
-use Rattle.machine.specs.System.Step.{ends_scan, lowers, to-push, waits, skips, flickers_24, pushes, exits}
+use Rattle.machine.specs.System.Step.{rests, comes, flickers_20, enters, starts_scan, wins, discards, keeps}
+use Rattle.machine.specs.System.Step.{ends_scan, lowers, to_push, waits, skips, flickers_24, pushes, exits}
 use Rattle.machine.specs.System.Step.{flickers_40, leaves, cancels}
 use Rattle.machine.specs.declared.Row.{Row}
 use Rattle.machine.proofs.OneOfLaws.{one_of_at}
@@ -88,7 +88,7 @@ same_word t v w x y i e =
     (subst (λ (q : ℕ). argument_fits (length t) (kind_of v) (row t q) (argument_of v) ≡ true) i sv.argument_fits_lem)
     sw.argument_fits_lem
     m in
-    parts_injective v w sv.formed-so sw.formed-so c.0 i c.1
+    parts_injective v w sv.formed_so sw.formed_so c.0 i c.1
 
 -- ---- at least one
 
@@ -113,7 +113,7 @@ says_choice : (t : Table) (w k p a : ℕ)
     → Says t w
 says_choice t w k p a f ik ip ia l h g o =
     record {
-      formed-so = f;
+      formed_so = f;
       kind_known = ((and-eq-true_iff (is_kind (kind_of w)) (spare_clear w)).0 f).0;
       process_in = subst (λ (x : ℕ). x < length t) (sym ip) l;
       allowed_there = ap₂ (λ (x y : ℕ). allowed x (row t y)) ik ip ∙ h;
@@ -163,14 +163,14 @@ module _ (t : Table) (p : ℕ) (z : table_refusal t ≡ 0) (l : p < length t) wh
       ap (λ (b : Bool). b && not (raisable (competitors t) (row t p).passes)) (ap (λ (x : ℕ). eqb x 20) e ∙ h)
 
   -- GO at a location where it is always allowed
-  chosen-go : {u : Table} (v : ℕ)
+  chosen_go : {u : Table} (v : ℕ)
       → (row t p).location ≡ v
       → one_of v goes ≡ true
       → overflows t GO p ≡ false
       → gone t p ≡ u
       → One t p u (word_of GO p 0)
   unfolding allowed argument_fits moved
-  chosen-go v e o c m =
+  chosen_go v e o c m =
       let h = one_of_at (row t p).location v goes e o in
       chosen GO 0 refl ((or-eq-true_iff (one_of (row t p).location goes) _).1 (Or.inl h)) refl (omega arith) c m
 
@@ -181,17 +181,17 @@ module _ (t : Table) (p : ℕ) (z : table_refusal t ≡ 0) (l : p < length t) wh
       → eqb v 20 ≡ false
       → gone t p ≡ u
       → One t p u (word_of GO p 0)
-  chosen_on v e o away m = chosen-go v e o (counts_none v e away) m
+  chosen_on v e o away m = chosen_go v e o (counts_none v e away) m
 
   -- FLICKER away from 24
-  chosen-act : (v a : ℕ)
+  chosen_act : (v a : ℕ)
       → (row t p).location ≡ v
       → one_of v flickers ≡ true
       → v ≢ 24
       → a < 2
       → One t p (assigned t p (with_act a)) (word_of FLICKER p a)
   unfolding allowed argument_fits moved overflows
-  chosen-act v a e o ne h =
+  chosen_act v a e o ne h =
       let away : (row t p).location ≢ 24 = λ i. ne (sym e ∙ i) in
       chosen FLICKER a refl (one_of_at (row t p).location v flickers e o)
       (ap (λ (b : Bool). cond b (ltb a (length t)) (ltb a 2)) (ne_eqb _ _ away) ∙ lt-ltb a 2 h)
@@ -205,13 +205,13 @@ module _ (t : Table) (p : ℕ) (z : table_refusal t ≡ 0) (l : p < length t) wh
       omega arith
 
   -- LOOK at a member of lis
-  chosen-look : {u : Table} (q : ℕ)
+  chosen_look : {u : Table} (q : ℕ)
       → (row t p).location ≡ 22
       → has (row t p).lis q ≡ true
       → set t p (looked q (row t q).act (row t p)) ≡ u
       → One t p u (word_of LOOK p q)
   unfolding allowed argument_fits moved overflows
-  chosen-look q e h m =
+  chosen_look q e h m =
       let some : (row t p).lis ≢ 0 = λ i. false≢true (sym (has_zero q) ∙ ap (λ (s : ℕ). has s q) (sym i) ∙ h) in
       chosen LOOK q refl
       ((and-eq-true_iff (eqb (row t p).location 22) (not (eqb (row t p).lis 0))).1
@@ -225,21 +225,21 @@ module _ (t : Table) (p : ℕ) (z : table_refusal t ≡ 0) (l : p < length t) wh
   unfolding allowed argument_fits moved entered raised competitors started looked reconsidered overflows
   one (rests e) room = chosen STAY 0 refl (eq-eqb _ _ e) refl (omega arith) refl refl
   one (comes e) room = chosen COME 0 refl (eq-eqb _ _ e) refl (omega arith) refl refl
-  one (flickers_20 a e h) room = chosen-act 20 a e refl (omega arith) h
+  one (flickers_20 a e h) room = chosen_act 20 a e refl (omega arith) h
   one (enters e) room =
       let fit = room e (ap (λ (r : Row). r.location) (row_same t p _ l)) in
-      chosen-go 20 e refl (room_fits t p fit) (gone_20 t p e)
-  one (starts-scan e h) room = chosen_on 21 e refl refl (gone_21 t p e ∙ rw (lt-ltb _ _ h))
+      chosen_go 20 e refl (room_fits t p fit) (gone_20 t p e)
+  one (starts_scan e h) room = chosen_on 21 e refl refl (gone_21 t p e ∙ rw (lt-ltb _ _ h))
   one (wins e h) room = chosen_on 21 e refl refl (gone_21 t p e ∙ rw (le-ltb 0 (row t p).level (omega arith)))
-  one (discards q e h a) room = chosen-look q e h (rw (eq-eqb _ _ a))
-  one (keeps q e h a) room = chosen-look q e h (rw (ne_eqb _ _ a))
+  one (discards q e h a) room = chosen_look q e h (rw (eq-eqb _ _ a))
+  one (keeps q e h a) room = chosen_look q e h (rw (ne_eqb _ _ a))
   one (ends_scan e h) room =
       chosen GO 0 refl
       ((or-eq-true_iff (one_of (row t p).location goes) _).1
       (Or.inr ((and-eq-true_iff (eqb (row t p).location 22) (eqb (row t p).lis 0)).1 (eq-eqb _ _ e, eq-eqb _ _ h))))
       refl (omega arith) (counts_none 22 e refl) (gone_22 t p e)
   one (lowers e h) room = chosen_on 23 e refl refl (gone_23 t p e ∙ rw (lt-ltb _ _ h))
-  one (to-push e h b) room = chosen_on 23 e refl refl (gone_23 t p e ∙ rw (le-ltb _ _ h, eq-eqb _ _ b))
+  one (to_push e h b) room = chosen_on 23 e refl refl (gone_23 t p e ∙ rw (le-ltb _ _ h, eq-eqb _ _ b))
   one (waits e h b v) room =
       chosen_on 23 e refl refl (gone_23 t p e ∙ rw (le-ltb _ _ h, ne_eqb _ _ b, ne_eqb _ _ v))
   one (skips e h b v) room =
@@ -251,7 +251,7 @@ module _ (t : Table) (p : ℕ) (z : table_refusal t ≡ 0) (l : p < length t) wh
       (omega arith) refl (flickered_turn t p a e)
   one (pushes e) room = chosen_on 24 e refl refl (gone_push t p l e)
   one (exits e) room = chosen_on 30 e refl refl (gone_exit t p l e)
-  one (flickers_40 a e h) room = chosen-act 40 a e refl (omega arith) h
+  one (flickers_40 a e h) room = chosen_act 40 a e refl (omega arith) h
   one (leaves e) room = chosen_on 40 e refl refl (gone_40 t p e)
   one (cancels e) room = chosen CANCEL 0 refl (eq-eqb _ _ e) refl (omega arith) refl refl
 
@@ -318,13 +318,13 @@ one_word t u p h l x = go x
         plain (flickers_20 a e k)
         (λ i f. absurd (omega (arith, ap (λ (r : Row). r.location) (row_same t p (with_act a (row t p)) l))))
     go (enters e) = enter e (raisable (Cp t) (row t p).passes) refl
-    go (starts-scan e k) = from (starts-scan e k) 21 e (omega arith)
+    go (starts_scan e k) = from (starts_scan e k) 21 e (omega arith)
     go (wins e k) = from (wins e k) 21 e (omega arith)
     go (discards q e k a) = from (discards q e k a) 22 e (omega arith)
     go (keeps q e k a) = from (keeps q e k a) 22 e (omega arith)
     go (ends_scan e k) = from (ends_scan e k) 22 e (omega arith)
     go (lowers e k) = from (lowers e k) 23 e (omega arith)
-    go (to-push e k b) = from (to-push e k b) 23 e (omega arith)
+    go (to_push e k b) = from (to_push e k b) 23 e (omega arith)
     go (waits e k b v) = from (waits e k b v) 23 e (omega arith)
     go (skips e k b v) = from (skips e k b v) 23 e (omega arith)
     go (flickers_24 a e k) = from (flickers_24 a e k) 24 e (omega arith)

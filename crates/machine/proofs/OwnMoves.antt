@@ -14,7 +14,7 @@ use Rattle.machine.specs.Tables.{Table, row, table_refusal}
 use Rattle.machine.specs.Steps.{refusal_of}
 use Rattle.machine.specs.Rounds.{round_word, round, Unbroken}
 use Rattle.machine.proofs.Frames.{Untouched, untouched, untouched_twice, step_others}
-use Rattle.machine.proofs.RoundLaws.{Move, move_step, by-moves}
+use Rattle.machine.proofs.RoundLaws.{Move, move_step, by_moves}
 
 pub record OwnMove (t : Table) (q : ℕ) (w : Table) : Type 0 where
   pub before : Table
@@ -77,6 +77,6 @@ module _ (t : Table) (q : ℕ) where
 
   pub own_move : table_refusal t ≡ 0 → Unbroken t → q < length t → OwnMove t q (round t)
   own_move z whole l =
-      (by-moves t Turns z whole (λ p v u k n y after ok m. turns p v u n y ok m)
+      (by_moves t Turns z whole (λ p v u k n y after ok m. turns p v u n y ok m)
       (record { made = λ k. absurd (omega arith); still = λ k. untouched (row t q) })
       ).made l

@@ -175,13 +175,13 @@ unfolding evaluated
 counts_in_range = refl
 
 -- the fresh table that is made is fresh; one with a count is sound and not fresh
-pub fresh-without_counts :
+pub fresh_without_counts :
     (fresh (fresh_table 2) ≡ true)
     × (fresh (fresh_table 16) ≡ true)
     × (sound (idle ∷ passing (1 ∷ []) idle ∷ []) ≡ true)
     × (fresh (idle ∷ passing (1 ∷ []) idle ∷ []) ≡ false)
 unfolding fresh
-fresh-without_counts = (refl, refl, refl, refl)
+fresh_without_counts = (refl, refl, refl, refl)
 
 -- ---- two words in both orders
 

@@ -89,17 +89,17 @@ module _ (n q : ℕ) (l : List ℕ) where
         every_all (sound_count n q l) 16 (λ i k. fits i (ℕ_discrete (get_or l i 0) 0) (dec_lt i n) (ℕ_discrete i q)),
       )
     where
-      with-low : (i : ℕ) → (eqb (get_or l i 0) 0 || (ltb i n && not (eqb i q))) ≡ true → sound_count n q l i ≡ true
-      with-low i h =
+      with_low : (i : ℕ) → (eqb (get_or l i 0) 0 || (ltb i n && not (eqb i q))) ≡ true → sound_count n q l i ≡ true
+      with_low i h =
           (and-eq-true_iff (leb (get_or l i 0) count_limit) (eqb (get_or l i 0) 0 || (ltb i n && not (eqb i q)))).1
           (le-leb _ _ (s.low i), h)
 
       fits : (i : ℕ) → Dec (get_or l i 0 ≡ 0) → Dec (i < n) → Dec (i ≡ q) → sound_count n q l i ≡ true
-      fits i (yes z) b c = with-low i ((or-eq-true_iff (eqb (get_or l i 0) 0) _).1 (Or.inl (eq-eqb _ _ z)))
+      fits i (yes z) b c = with_low i ((or-eq-true_iff (eqb (get_or l i 0) 0) _).1 (Or.inl (eq-eqb _ _ z)))
       fits i (no nz) (no b) c = absurd (nz (s.rest_none i (omega (arith, b))))
       fits i (no nz) (yes b) (yes c) = absurd (nz (ap (λ (j : ℕ). get_or l j 0) c ∙ s.own_none))
       fits i (no nz) (yes b) (no c) =
-          with-low i
+          with_low i
           ((or-eq-true_iff (eqb (get_or l i 0) 0) _).1
           (Or.inr ((and-eq-true_iff (ltb i n) (not (eqb i q))).1 (lt-ltb _ _ b, ap not (ne_eqb _ _ c)))))
 

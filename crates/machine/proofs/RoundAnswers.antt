@@ -33,17 +33,17 @@ module _ (b r : ℕ) (t : Table) where
   unfolding more
   next c = elim c [ true ↦ rounded r t | false ↦ more (eqb w.refusal 0) ]
 
-  next-is : rounds_from (suc b) r t ≡ next (ltb 0 (critical t))
+  next_is : rounds_from (suc b) r t ≡ next (ltb 0 (critical t))
   unfolding rounds_from next more
-  next-is = refl
+  next_is = refl
 
   pub from_here : (critical t ≡ 0 → ⊥) → rounds_from (suc b) r t ≡ rounded r t
   unfolding next
-  from_here n = next-is ∙ ap next (lt-ltb 0 (critical t) (omega (arith, n)))
+  from_here n = next_is ∙ ap next (lt-ltb 0 (critical t) (omega (arith, n)))
 
   free : critical t ≡ 0 → rounds_from (suc b) r t ≡ more (eqb w.refusal 0)
   unfolding next
-  free z = next-is ∙ ap (λ (k : ℕ). next (ltb 0 k)) z
+  free z = next_is ∙ ap (λ (k : ℕ). next (ltb 0 k)) z
 
   pub from_next : critical t ≡ 0 → w.refusal ≡ 0 → rounds_from (suc b) r t ≡ rounds_from b (suc r) w.table
   unfolding more

@@ -151,12 +151,12 @@ waited_for =
 
 -- if rounds went on past the word that meets 15, nobody would ever come to 30: that the first round is unbroken is
 -- needed
-pub broken-rounds_end_nothing :
+pub broken_rounds_end_nothing :
     (map (λ r. critical (rounds r waited_for)) (0 ∷ 1 ∷ 2 ∷ 3 ∷ []) ≡ 0 ∷ 0 ∷ 0 ∷ 0 ∷ [])
     × (rounds 4 waited_for ≡ waited_for)
     × ((rounds_of waited_for).answer ≡ answers 15 0 0)
 unfolding completed rounds
-broken-rounds_end_nothing = (refl, refl, refl)
+broken_rounds_end_nothing = (refl, refl, refl)
 
 -- ---- the longest silence
 

@@ -52,23 +52,23 @@ turn_again t k a e = ap (λ (x : ℕ). set t k (with_turn x (row t k))) (sym e) 
 
 module _ (t : Table) (p : ℕ) (l : p < length t) where
   -- COME and CANCEL move
-  goes-elsewhere : {A : Type 0} (b a : ℕ)
+  goes_elsewhere : {A : Type 0} (b a : ℕ)
       → b ≢ a
       → (row t p).location ≡ b
       → Untouched (row t p) (row (set t p (with_location a (row t p))) p)
       → A
-  goes-elsewhere b a ne e s =
+  goes_elsewhere b a ne e s =
       absurd (ne (sym e ∙ sym s.location_same ∙ ap (λ (r : Row). r.location) (row_same t p _ l)))
 
   -- nothing changed, or it is a FLICKER at 24
-  quiet-choice : (k a : ℕ)
+  quiet_choice : (k a : ℕ)
       → is_kind k ≡ true
       → allowed k (row t p) ≡ true
       → argument_fits (length t) k (row t p) a ≡ true
       → Untouched (row t p) (row (moved t k p a) p)
       → (moved t k p a ≡ t) ⊎ ((k ≡ FLICKER) × ((row t p).location ≡ 24))
   unfolding moved allowed argument_fits
-  quiet-choice k a =
+  quiet_choice k a =
       by_kind
       (λ k.
       allowed k (row t p) ≡ true
@@ -76,7 +76,7 @@ module _ (t : Table) (p : ℕ) (l : p < length t) where
       → Untouched (row t p) (row (moved t k p a) p)
       → (moved t k p a ≡ t) ⊎ ((k ≡ FLICKER) × ((row t p).location ≡ 24)))
       (λ h g s. inl refl)
-      (λ h g s. goes-elsewhere 10 20 (omega arith) (eqb-true _ _ h) s)
+      (λ h g s. goes_elsewhere 10 20 (omega arith) (eqb-true _ _ h) s)
       (λ h g s. by_cases (ℕ_discrete (row t p).location 24)
       (λ e. inr (refl, e))
       (λ ne. inl (flickered_act t p a ne ∙ act_again t p a (sym s.act_same ∙ act_shows t p l a ne))))
@@ -88,7 +88,7 @@ module _ (t : Table) (p : ℕ) (l : p < length t) where
       absurd
       (false≢true
       (sym (without_same (row t p).lis a) ∙ ap (λ (i : ℕ). has i a) (sym (lis_shows t p l a) ∙ s.lis_same) ∙ g)))
-      (λ h g s. goes-elsewhere 20 40 (omega arith) (eqb-true _ _ h) s)
+      (λ h g s. goes_elsewhere 20 40 (omega arith) (eqb-true _ _ h) s)
       k
 
 -- ---- words
@@ -114,7 +114,7 @@ quiet_word t w y s =
     (λ f.
     let i = ap (λ (k : ℕ). moved t k p (argument_of w)) f.0 in
     inr (f.0, f.1, m ∙ i ∙ moved_turn t p (argument_of w) f.1))
-    (quiet-choice t p c.process_in (kind_of w) (argument_of w)
+    (quiet_choice t p c.process_in (kind_of w) (argument_of w)
     c.kind_known c.allowed_there c.argument_fits_lem
     (subst (λ (u : Table). Untouched (row t p) (row u p)) m s))
 

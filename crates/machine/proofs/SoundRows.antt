@@ -39,8 +39,8 @@ pub record SoundRow (n q : ℕ) (r : Row) : Type 0 where
 
 -- the tests of a row, in the order of `sound_row`, each with those before it
 module _ (n q : ℕ) (r : Row) where
-  abbrev turnFits : Bool
-  turnFits = not (eqb q 0) || eqb r.turn 0
+  abbrev turn_fits : Bool
+  turn_fits = not (eqb q 0) || eqb r.turn 0
 
   abbrev fits : Bool
   fits = level_fits r.location r.level
@@ -70,7 +70,7 @@ module _ (n q : ℕ) (r : Row) where
   b8 = b7 && ltb r.turn n
 
   abbrev b9 : Bool
-  b9 = b8 && turnFits
+  b9 = b8 && turn_fits
 
   abbrev b10 : Bool
   b10 = b9 && fits
@@ -79,7 +79,7 @@ module _ (n q : ℕ) (r : Row) where
   sound_row_facts h =
       let p10 = (and-eq-true_iff b10 (sound_passes n q r.passes)).0 h in
       let p9 = (and-eq-true_iff b9 fits).0 p10.0 in
-      let p8 = (and-eq-true_iff b8 turnFits).0 p9.0 in
+      let p8 = (and-eq-true_iff b8 turn_fits).0 p9.0 in
       let p7 = (and-eq-true_iff b7 (ltb r.turn n)).0 p8.0 in
       let p6 = (and-eq-true_iff b6 (ltb r.ahead (2 ^ n))).0 p7.0 in
       let p5 = (and-eq-true_iff b5 (ltb r.lis (2 ^ n))).0 p6.0 in
@@ -112,7 +112,7 @@ module _ (n q : ℕ) (r : Row) where
       let h7 = (and-eq-true_iff b6 (ltb r.ahead (2 ^ n))).1 (h6, lt-ltb _ _ s.ahead_low) in
       let h8 = (and-eq-true_iff b7 (ltb r.turn n)).1 (h7, lt-ltb _ _ s.turn_low) in
       let turn = implies (eqb q 0) (eqb r.turn 0) (λ e. eq-eqb _ _ (s.turn_none (eqb-true _ _ e))) in
-      let h9 = (and-eq-true_iff b8 turnFits).1 (h8, turn) in
+      let h9 = (and-eq-true_iff b8 turn_fits).1 (h8, turn) in
       let h10 = (and-eq-true_iff b9 fits).1
       (h9, fits_true r.location r.level s.level_some s.level_none) in
       (and-eq-true_iff b10 (sound_passes n q r.passes)).1 (h10, passes_true n q r.passes s.passes_fit)

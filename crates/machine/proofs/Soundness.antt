@@ -24,8 +24,8 @@ use Rattle.machine.specs.Tables.{Table, row, one_of, locations, table_refusal, c
 use Rattle.machine.specs.Words.{GO, is_kind, kind_of, process_of, argument_of}
 use Rattle.machine.specs.Steps.{moved, allowed, raisable, overflows, refusal_of, after_word, after_words}
 use Rattle.machine.specs.System.{assigned, turn_assigned, Cp, incremented, exited, Step}
-use Rattle.machine.specs.System.Step.{rests, comes, flickers_20, enters, starts-scan, wins, discards, keeps}
-use Rattle.machine.specs.System.Step.{ends_scan, lowers, to-push, waits, skips, flickers_24, pushes, exits}
+use Rattle.machine.specs.System.Step.{rests, comes, flickers_20, enters, starts_scan, wins, discards, keeps}
+use Rattle.machine.specs.System.Step.{ends_scan, lowers, to_push, waits, skips, flickers_24, pushes, exits}
 use Rattle.machine.specs.System.Step.{flickers_40, leaves, cancels}
 use Rattle.machine.specs.declared.Row.{Row}
 use Rattle.machine.proofs.KindLaws.{by_kind}
@@ -62,10 +62,10 @@ module _ {t : Table} (s : SoundTable (length t) t) (p : ℕ) (l : p < length t) 
       sound-set s p (with_location v (row t p)) l (sound-moved own v (row t p).level o own.level_low some none)
 
   -- the level of p is lowered, at 21
-  sound-lowered : (k : ℕ)
+  sound_lowered : (k : ℕ)
       → k < length t
       → SoundTable (length t) (assigned t p (λ r. with_location 21 (with_bb 0 (with_level k r))))
-  sound-lowered k h =
+  sound_lowered k h =
       sound-set s p _ l (sound_bb (sound-moved own 21 k refl h (omega arith) (omega arith)) 0 (omega arith))
 
   -- q leaves lis
@@ -114,7 +114,7 @@ step_sound {t} p few l s (enters e) room =
     (incremented-sound (length t) p (Cp t) (row t p).passes (own s p l).passes_fit (Cp-fits t)
     (not_among t p l e) fit) in
     sound-set s p _ l (sound_est counted (others (length t) p) (others_lt (length t) p))
-step_sound {t} p few l s (starts-scan e h) room =
+step_sound {t} p few l s (starts_scan e h) room =
     let o = own s p l in
     let placed = sound-moved o 22 (row t p).level refl o.level_low (λ x y. h) (omega arith) in
     sound-set s p _ l (sound_lis placed (row t p).est o.est_low)
@@ -127,11 +127,11 @@ step_sound {t} p few l s (keeps q e h a) room = sound-set s p _ l (sound-seen s 
 step_sound {t} p few l s (ends_scan e h) room =
     sound-placed s p l 23 refl (λ x y. high s p l 22 e refl refl) (omega arith)
 step_sound {t} p few l s (lowers e h) room =
-    sound-lowered s p l (size (row t p).est) (let k = (own s p l).level_low in omega arith)
-step_sound {t} p few l s (to-push e h b) room =
+    sound_lowered s p l (size (row t p).est) (let k = (own s p l).level_low in omega arith)
+step_sound {t} p few l s (to_push e h b) room =
     sound-placed s p l 24 refl (λ x y. high s p l 23 e refl refl) (omega arith)
 step_sound {t} p few l s (waits e h b v) room =
-    sound-lowered s p l ((row t p).level - 1) (let k = (own s p l).level_low in omega arith)
+    sound_lowered s p l ((row t p).level - 1) (let k = (own s p l).level_low in omega arith)
 step_sound {t} p few l s (skips e h b v) room = sound-placed s p l 21 refl (omega arith) (omega arith)
 step_sound {t} p few l s (flickers_24 a e h) room =
     sound-turned s (row t p).level a (own s p l).level_low (high s p l 24 e refl refl) h
@@ -249,13 +249,13 @@ step_keeps_length t u p x = go x
     go (comes e) = simp length-set
     go (flickers_20 a e h) = simp length-set
     go (enters e) = simp length-set
-    go (starts-scan e h) = simp length-set
+    go (starts_scan e h) = simp length-set
     go (wins e h) = simp length-set
     go (discards q e h a) = simp length-set
     go (keeps q e h a) = simp length-set
     go (ends_scan e h) = simp length-set
     go (lowers e h) = simp length-set
-    go (to-push e h b) = simp length-set
+    go (to_push e h b) = simp length-set
     go (waits e h b v) = simp length-set
     go (skips e h b v) = simp length-set
     go (flickers_24 a e h) = simp length-set

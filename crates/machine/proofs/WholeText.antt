@@ -66,18 +66,18 @@ module _ (last : Bool) (s : List ℕ) (after : Sealed last s) where
   within-whole (c ∷ l) p =
       ap (λ (b : Bool). Text.ends_whole b last (l ++ (10 ∷ s))) p.0 ∙ within-whole l p.1
 
-  within-cut : (l : List ℕ) → Plain l → (a : List ℕ) (b : ℕ) (r : List ℕ) → l ++ (10 ∷ s) ≡ a ++ (b ∷ r)
+  within_cut : (l : List ℕ) → Plain l → (a : List ℕ) (b : ℕ) (r : List ℕ) → l ++ (10 ∷ s) ≡ a ++ (b ∷ r)
       → Text.ends_whole false last a ≡ false
   unfolding Text.ends_whole
-  within-cut l p [] b r e = refl
-  within-cut [] p (d ∷ a) b r e =
+  within_cut l p [] b r e = refl
+  within_cut [] p (d ∷ a) b r e =
       let head : d ≡ 10 = cc in
       ap (λ (k : ℕ). Text.ends_whole (eqb k 10) last a) head ∙ after.cut a b r cc
-  within-cut (c ∷ l) p (d ∷ a) b r e =
+  within_cut (c ∷ l) p (d ∷ a) b r e =
       let head : d ≡ c = cc in
       ap (λ (k : ℕ). Text.ends_whole (eqb k 10) last a) head
       ∙ ap (λ (k : Bool). Text.ends_whole k last a) p.0
-      ∙ within-cut l p.1 a b r cc
+      ∙ within_cut l p.1 a b r cc
 
 -- a line that begins with f, and then s
 sealed_line : (f : ℕ) (l s : List ℕ) → Plain (f ∷ l) → Sealed (Text.begins_last f) s → Sealed false ((f ∷ l) ++ (10 ∷ s))
@@ -95,7 +95,7 @@ sealed_line f l s p after = record { whole = all; cut = part }
         let head : d ≡ f = cc in
         ap (λ (k : ℕ). Text.ends_whole (eqb k 10) (Text.begins_last k) a) head
         ∙ ap (λ (k : Bool). Text.ends_whole k (Text.begins_last f) a) p.0
-        ∙ within-cut (Text.begins_last f) s after l p.1 a b r cc
+        ∙ within_cut (Text.begins_last f) s after l p.1 a b r cc
 
 -- ---- numbers
 

@@ -32,14 +32,14 @@ module _ (k p a : ℕ) (hp : p < 256) (ha : a < 256) where
   pub argument_word_of : argument_of (word_of k p a) ≡ a
   argument_word_of = omega arith
 
-  high-clear : word_of k p a / 2 ^ 24 % 2 ^ 4 ≡ 0
-  high-clear = omega arith
+  high_clear : word_of k p a / 2 ^ 24 % 2 ^ 4 ≡ 0
+  high_clear = omega arith
 
   low_clear : word_of k p a / 2 ^ 8 % 2 ^ 8 ≡ 0
   low_clear = omega arith
 
   pub spare_word_of : spare_clear (word_of k p a) ≡ true
-  spare_word_of = (and-eq-true_iff _ _).1 (eq-eqb _ _ high-clear, eq-eqb _ _ low_clear)
+  spare_word_of = (and-eq-true_iff _ _).1 (eq-eqb _ _ high_clear, eq-eqb _ _ low_clear)
 
   pub formed_word_of : is_kind k ≡ true → formed (word_of k p a) ≡ true
   formed_word_of h = (and-eq-true_iff _ _).1 (ap is_kind kind_word_of ∙ h, spare_word_of)

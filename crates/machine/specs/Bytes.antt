@@ -1,8 +1,8 @@
 -- Words as bytes, lowest byte first (MANUAL, "Bytes and inputs").
 --
---   words_in bs       ==  the words that bytes hold.
---   bytes_of ws       ==  the bytes of words.
---   bytes_fit bs     <=>  their count is a multiple of 4 and at most 34,112; else they meet 14.
+--   words_in bs   ==  the words that bytes hold.
+--   bytes_of ws   ==  the bytes of words.
+--   bytes_fit bs  <=> their count is a multiple of 4 and at most 34,112; else they meet 14.
 --
 -- Assumes nothing.
 use Rattle.std.specs.Prelude.{ℕ, ◌+◌, ◌*◌, ◌/◌, ◌%◌, ◌^◌, Bool, ◌&&◌, List, [], ◌∷◌, eqb, leb, length}

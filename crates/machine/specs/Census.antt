@@ -1,9 +1,9 @@
 -- The census, the counts of a table (MANUAL, "Census"; `held` is A(k) of section 3.5 of the paper).
 --
---   below k t   ==  how many processes compete with a level under k.
---   held k t    ==  those, and the competing processes not at 24 with fewer than k members in ahead.
---   critical t  ==  how many processes are at 30, in the critical section.
---   waiting t   ==  how many processes are at 21 to 24: they compete and are not yet in the critical section.
+--   below k t    ==  how many processes compete with a level under k.
+--   held k t     ==  those, and the competing processes not at 24 with fewer than k members in ahead.
+--   critical t   ==  how many processes are at 30, in the critical section.
+--   waiting t    ==  how many processes are at 21 to 24: they compete and are not yet in the critical section.
 --   census_of t  ==  all of these, for each k from 0 to the number of processes; or 6 or 7 and no figures.
 --
 -- Assumes nothing.

@@ -1,8 +1,8 @@
 -- What C gets of the functions beside step, run, census, writing and call, and what these leave in lent memory (MANUAL,
 -- "The functions of C"). Each says in numbers and lent rows what a definition of the files before says.
 --
---   parts_answer_of w      ==  the word w taken apart.
---   word_answer_of k p a   ==  the parts put together.
+--   parts_answer_of w     ==  the word w taken apart.
+--   word_answer_of k p a  ==  the parts put together.
 --   fresh_in l            ==  a fresh table made in the lent rows l: 6, or all of them.
 --   read_in ws l          ==  the table of an image read into the lent rows l: 1 to 5, then 13, or the first of them.
 --   printed_in bs l       ==  the text of a run printed into the lent bytes l: its length, and the text where it fits.

@@ -9,8 +9,9 @@
 --   written_of t l ==   lent words l after the image of t was written into them: 6, 7, then 13, or the first words set.
 --
 -- Of each kind of word: its fields, written (body_of, count_of) and read (code_in .. turn_in, count_in), the other bits
--- (spare_body), the ranges (inRange, off_diagonal). Assumes nothing.
-use Rattle.std.specs.Prelude.{ℕ, zero, suc, ◌+◌, ◌-◌, ◌*◌, ◌/◌, ◌%◌, ◌^◌, min, Bool, true, false, cond, ◌&&◌, ◌||◌, not, List, [], ◌∷◌, ◌++◌, map, eqb, leb, ltb, length, get_or, drop}
+-- (spare_body), the ranges (in_range, off_diagonal). Assumes nothing.
+use Rattle.std.specs.Prelude.{ℕ, zero, suc, ◌+◌, ◌-◌, ◌*◌, ◌/◌, ◌%◌, ◌^◌, min, Bool, true, false, cond, ◌&&◌, ◌||◌}
+use Rattle.std.specs.Prelude.{not, List, [], ◌∷◌, ◌++◌, map, eqb, leb, ltb, length, get_or, drop}
 use Rattle.counting.specs.Ranges.{up_to}
 use Rattle.counting.specs.Placing.{placed}
 use Rattle.machine.specs.Refusals.{accepted, no_header, wrong_length, malformed, out_of_range}

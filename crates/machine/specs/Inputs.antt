@@ -1,10 +1,10 @@
 -- What an input holds: an image, and after it the event words (MANUAL, "Bytes and inputs"). The order of these checks
 -- stands here and nowhere else: call and text are cases over `Input`.
 --
---   image_part ws, event_part ws  ==  the words of the image, and those after it.
---   Input          ==   what an input can hold.
---   words_hold ws   ==   what the words of an input hold.
---   input_of bs     ==   what the bytes of an input hold.
+--   image_part ws, event_part ws  ==   the words of the image, and those after it.
+--   Input                         ==   what an input can hold.
+--   words_hold ws                 ==   what the words of an input hold.
+--   input_of bs                   ==   what the bytes of an input hold.
 --
 -- Assumes nothing.
 use Rattle.std.specs.Prelude.{ℕ, true, false, List, eqb, leb, length, get_or, take, drop}

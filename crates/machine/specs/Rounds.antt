@@ -1,26 +1,27 @@
 -- Rounds: each process in number order is given one word, again and again (MANUAL, "Rounds").
 --
---   round_word t p    ==  the word that a round gives process p: STAY at 10; at 22 LOOK at the lowest member of lis,
+--   round_word t p   ==  the word that a round gives process p: STAY at 10; at 22 LOOK at the lowest member of lis,
 --                        where it has one; GO otherwise.
---   round_to t p      ==  the table after the words of the processes below p, each given to the table that the one
+--   round_to t p     ==  the table after the words of the processes below p, each given to the table that the one
 --                        before left.
 --   round t          ==  the table after a round, one word for each process in number order; rounds r t: after r.
---   round_on t p m    ==  the words of m processes from process p on, up to the first that is refused.
+--   round_on t p m   ==  the words of m processes from process p on, up to the first that is refused.
 --   Unbroken t       <=> no word of a round from t is refused.
 --   pending t        ==  how many processes are at 20 to 24: they have come and are not yet in the critical section.
 --   occupied t       ==  1 where some process is at 30, in the critical section; else 0.
 --   Silent t         <=> nobody is at 30 and somebody is pending.
---   round_limit n     ==  the most rounds that are done at a table of n processes.
---   silence_bound n   ==  the rounds within which some process is at 30, if a list of words made a silent table from a
+--   round_limit n    ==  the most rounds that are done at a table of n processes.
+--   silence_bound n  ==  the rounds within which some process is at 30, if a list of words made a silent table from a
 --                        fresh one and the first round is unbroken: a bound that is attained.
---   all_coming n        ==  COME of each of n processes in order; from a fresh table they lead to the longest silence.
---   rounds_of t       ==  6 or 7; no round, where nobody is pending; else rounds until some process is at 30, the limit
+--   all_coming n     ==  COME of each of n processes in order; from a fresh table they lead to the longest silence.
+--   rounds_of t      ==  6 or 7; no round, where nobody is pending; else rounds until some process is at 30, the limit
 --                        is used up, or a word is refused.
 --   Awaited b t o    <=> what the outcome o of at most b unbroken rounds says of the table t.
 --   Broken t o       <=> what the outcome o of rounds says of the table t where a word was refused.
 --
 -- Assumes nothing.
-use Rattle.std.specs.Prelude.{ℕ, zero, suc, ◌+◌, ◌-◌, ◌*◌, ◌≤◌, ◌<◌, ◌≡◌, Bool, true, false, cond, ◌&&◌, not, List, eqb, leb, ltb, length}
+use Rattle.std.specs.Prelude.{ℕ, zero, suc, ◌+◌, ◌-◌, ◌*◌, ◌≤◌, ◌<◌, ◌≡◌, Bool, true, false, cond, ◌&&◌, not, List}
+use Rattle.std.specs.Prelude.{eqb, leb, ltb, length}
 use Rattle.counting.specs.Sums.{bit}
 use Rattle.counting.specs.Sets.{lowest}
 use Rattle.counting.specs.Ranges.{up_to}

@@ -1,9 +1,9 @@
 -- A row, one for each process, and the row with one cell changed (MANUAL, "Tables").
 --
---   idle    ==  the row of a process that rests, with every variable 0.
---   blank   ==  what stands past a table's end: all zeros, which is at no location.
+--   idle       ==  the row of a process that rests, with every variable 0.
+--   blank      ==  what stands past a table's end: all zeros, which is at no location.
 --   no_passes  ==  sixteen counts of 0.
---   withX   ==  the row with cell X changed, the others kept.
+--   with_x     ==  the row with cell x changed, the others kept.
 --
 -- `location` is the paper's pc, `ahead` its history set lwb (section 3.4), and `passes` of row q, at place r, its
 -- history count a[q, r] (section 4.1): how often q entered while r competed. The other cells bear the paper's names.

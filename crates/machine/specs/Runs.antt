@@ -1,12 +1,12 @@
 -- A run, an execution of the system by a list of words up to the first that is refused, and its tally, the counters of
 -- words, COMEs and arrivals; the number at 30 that goes along (MANUAL, "Runs", "Shared cells" and "Census").
 --
---   counted e h      ==  the tally h after an accepted word with event e.
---   carried e n      ==  the number at 30 after such a word, from the number n before it.
+--   counted e h          ==  the tally h after an accepted word with event e.
+--   carried e n          ==  the number at 30 after such a word, from the number n before it.
 --   carried_over t n ws  ==  that number after words given one by one to table t, where it is n.
 --   run_from s t h c ws  ==  the words in order from table t with tally h, up to the first that is refused under the
---                        settings s; c is the shared cell of the word before them.
---   run_of s t ws     ==  a run under settings: 6, 7, 18, then 12 for more than 8,192 words, before any is taken.
+--                            settings s; c is the shared cell of the word before them.
+--   run_of s t ws        ==  a run under settings: 6, 7, 18, then 12 for more than 8,192 words, before any is taken.
 --
 -- How many words a run took is what its tally says, which is zero at the start. Assumes nothing.
 use Rattle.std.specs.Prelude.{ℕ, ◌+◌, ◌-◌, true, false, cond, not, List, [], ◌∷◌, eqb, leb, length}

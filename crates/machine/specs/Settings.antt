@@ -2,17 +2,17 @@
 -- shared variables do while they are written: in safe memory a read that meets a write may return anything, which is
 -- what FLICKER stands for.
 --
---   weakest            ==   act safe and turn write-safe, which forbid nothing: the memory of the paper.
---   settings_fit s      <=>  each of the two is one of the values listed.
+--   weakest                ==   act safe and turn write-safe, which forbid nothing: the memory of the paper.
+--   settings_fit s         <=>  each of the two is one of the values listed.
 --   flicker_forbidden s r  <=>  FLICKER at the row r would show a write of plain memory.
---   go_forbidden s t p  <=>  GO of process p would bring a second writer to a turn cell that is to have one.
---   forbidden_by s t k p  ==  16 or 17, where the settings s forbid kind k of process p, or 0.
---   refusal_under s t w ==   the step's refusal under settings, over `refusal_of`, the one under 0 and 0.
---   after_under s t w   ==   the table after the step under settings; the one given where it refuses.
---   list_under s t ws   ==   the table after a list of words, given one by one; a refused word is passed over.
---   accepted_of s t ws  ==   the words of a list that are accepted so.
---   answer_under s t w  ==   the step's answer under settings; step_answer_under s t w is that to C.
---   SameStep s t w     <=>  the step under settings does what it does without them.
+--   go_forbidden s t p     <=>  GO of process p would bring a second writer to a turn cell that is to have one.
+--   forbidden_by s t k p   ==   16 or 17, where the settings s forbid kind k of process p, or 0.
+--   refusal_under s t w    ==   the step's refusal under settings, over `refusal_of`, the one under 0 and 0.
+--   after_under s t w      ==   the table after the step under settings; the one given where it refuses.
+--   list_under s t ws      ==   the table after a list of words, given one by one; a refused word is passed over.
+--   accepted_of s t ws     ==   the words of a list that are accepted so.
+--   answer_under s t w     ==   the step's answer under settings; step_answer_under s t w is that to C.
+--   SameStep s t w         <=>  the step under settings does what it does without them.
 --
 -- Assumes nothing.
 use Rattle.std.specs.Prelude.{ℕ, ◌≡◌, Bool, cond, ◌&&◌, not, List, [], ◌∷◌, eqb, leb, length}

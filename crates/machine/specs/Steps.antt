@@ -2,24 +2,25 @@
 -- "Ahead sets", "Passes", "Lists of words", "Shared cells" and "The functions of the crates"). It is the step under 0
 -- and 0; Settings.antt has the step under any settings, made of it.
 --
---   go_row n p c v r  ==  row r of process p after GO, but for turn[level] and for what 30 forgets; c is the set of
---                        those that compete, v what turn[level] holds.
---   moved t k p a    ==  the table after kind k, process p and argument a, where they are allowed.
---   raised c l       ==  the counts l with one more over each process in the set c; raisable c l: none over 65,535.
---   overflows t k p  <=> kind k of process p would carry a count past 65,535.
+--   go_row n p c v r    ==  row r of process p after GO, but for turn[level] and for what 30 forgets; c is the set of
+--                           those that compete, v what turn[level] holds.
+--   moved t k p a       ==  the table after kind k, process p and argument a, where they are allowed.
+--   raised c l          ==  the counts l with one more over each process in the set c; raisable c l: none over 65,535.
+--   overflows t k p     <=> kind k of process p would carry a count past 65,535.
 --   refusal_at t k p a  ==  the first of 10, 11 and 15 that applies to kind k, process p and argument a, or 0.
---   word_refusal t w  ==  the first of 8 to 11 and 15 that applies to a word, or 0.
---   refusal_of t w    ==  the step's refusal: 6, 7, then the word's, or 0.
---   after_word t w    ==  the table after the step; the one given where the step refuses.
---   after_words t ws  ==  the table after a list of words, given one by one; a refused word is passed over.
---   event_of t w      ==  the event of an accepted word: a COME, an arrival at 30, a departure from 30, or none.
---   cell_of t w       ==  the shared cell that a word uses; none where it is refused.
---   told_of t w       ==  what the step tells of an accepted word; `quiet` is nothing, `withX` sets a field.
---   answer_of t w     ==  the step's answer: what it tells of an accepted word, or the number of the refusal.
---   step_answer_of t w ==  the step's answer to C.
+--   word_refusal t w    ==  the first of 8 to 11 and 15 that applies to a word, or 0.
+--   refusal_of t w      ==  the step's refusal: 6, 7, then the word's, or 0.
+--   after_word t w      ==  the table after the step; the one given where the step refuses.
+--   after_words t ws    ==  the table after a list of words, given one by one; a refused word is passed over.
+--   event_of t w        ==  the event of an accepted word: a COME, an arrival at 30, a departure from 30, or none.
+--   cell_of t w         ==  the shared cell that a word uses; none where it is refused.
+--   told_of t w         ==  what the step tells of an accepted word; `quiet` is nothing, `with_x` sets a field.
+--   answer_of t w       ==  the step's answer: what it tells of an accepted word, or the number of the refusal.
+--   step_answer_of t w  ==  the step's answer to C.
 --
 -- Assumes nothing.
-use Rattle.std.specs.Prelude.{ℕ, ◌+◌, ◌-◌, Bool, false, cond, ◌&&◌, ◌||◌, not, List, [], ◌∷◌, map, eqb, leb, ltb, length, get_or, set}
+use Rattle.std.specs.Prelude.{ℕ, ◌+◌, ◌-◌, Bool, false, cond, ◌&&◌, ◌||◌, not, List, [], ◌∷◌, map, eqb, leb, ltb}
+use Rattle.std.specs.Prelude.{length, get_or, set}
 use Rattle.counting.specs.Sums.{bit}
 use Rattle.counting.specs.Sets.{has, size, without, others}
 use Rattle.counting.specs.Ranges.{up_to, every}

@@ -63,7 +63,7 @@ pub data Step (t : Table) (p : ℕ) : Table → Type 0 where
       (with_est (others (length t) p)
       (with_level (length t - 1) (with_act 1 (with_ahead (Cp t) (with_passes (incremented (Cp t) r.passes) r)))))))
   -- 21: if level > 0 then lis := est; goto 22 else goto 30
-  starts-scan :
+  starts_scan :
       (row t p).location ≡ 21 → 0 < (row t p).level
       → Step t p (assigned t p (λ r. with_location 22 (with_lis r.est r)))
   wins : (row t p).location ≡ 21 → (row t p).level ≡ 0 → Step t p (assigned t p (with_location 30))
@@ -80,7 +80,7 @@ pub data Step (t : Table) (p : ℕ) : Table → Type 0 where
       (row t p).location ≡ 23 → size (row t p).est < (row t p).level
       → Step t p (assigned t p (λ r. with_location 21 (with_bb 0 (with_level (size r.est) r))))
   --     elsif not bb then goto 24
-  to-push :
+  to_push :
       (row t p).location ≡ 23 → (row t p).level ≤ size (row t p).est → (row t p).bb ≡ 0
       → Step t p (assigned t p (with_location 24))
   --     elsif turn[level] /= p then level--; bb := false
@@ -119,13 +119,13 @@ step_word p (rests e) = word_of STAY p 0
 step_word p (comes e) = word_of COME p 0
 step_word p (flickers_20 a e h) = word_of FLICKER p a
 step_word p (enters e) = word_of GO p 0
-step_word p (starts-scan e h) = word_of GO p 0
+step_word p (starts_scan e h) = word_of GO p 0
 step_word p (wins e h) = word_of GO p 0
 step_word p (discards q e h a) = word_of LOOK p q
 step_word p (keeps q e h a) = word_of LOOK p q
 step_word p (ends_scan e h) = word_of GO p 0
 step_word p (lowers e h) = word_of GO p 0
-step_word p (to-push e h b) = word_of GO p 0
+step_word p (to_push e h b) = word_of GO p 0
 step_word p (waits e h b v) = word_of GO p 0
 step_word p (skips e h b v) = word_of GO p 0
 step_word p (flickers_24 a e h) = word_of FLICKER p a
@@ -142,13 +142,13 @@ step_cell p (rests e) = no_cell
 step_cell p (comes e) = no_cell
 step_cell p (flickers_20 a e h) = act_written p
 step_cell p (enters e) = act_written p
-step_cell p (starts-scan e h) = no_cell
+step_cell p (starts_scan e h) = no_cell
 step_cell p (wins e h) = no_cell
 step_cell p (discards q e h a) = act_read q
 step_cell p (keeps q e h a) = act_read q
 step_cell p (ends_scan e h) = no_cell
 step_cell p (lowers e h) = no_cell
-step_cell p (to-push e h b) = no_cell
+step_cell p (to_push e h b) = no_cell
 step_cell {t} p (waits e h b v) = turn_read (row t p).level
 step_cell {t} p (skips e h b v) = turn_read (row t p).level
 step_cell {t} p (flickers_24 a e h) = turn_written (row t p).level
@@ -166,13 +166,13 @@ StepAllowed s p (rests e) = Unit {0}
 StepAllowed s p (comes e) = Unit {0}
 StepAllowed s p (flickers_20 a e h) = s.act ≡ 1 → ⊥
 StepAllowed s p (enters e) = Unit {0}
-StepAllowed s p (starts-scan e h) = Unit {0}
+StepAllowed s p (starts_scan e h) = Unit {0}
 StepAllowed s p (wins e h) = Unit {0}
 StepAllowed s p (discards q e h a) = Unit {0}
 StepAllowed s p (keeps q e h a) = Unit {0}
 StepAllowed s p (ends_scan e h) = Unit {0}
 StepAllowed s p (lowers e h) = Unit {0}
-StepAllowed s {t} p (to-push e h b) =
+StepAllowed s {t} p (to_push e h b) =
     s.turn ≡ 1 → (q : ℕ) → (q ≡ p → ⊥) → (row t q).location ≡ 24 → (row t q).level ≡ (row t p).level → ⊥
 StepAllowed s p (waits e h b v) = Unit {0}
 StepAllowed s p (skips e h b v) = Unit {0}

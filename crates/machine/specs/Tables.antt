@@ -9,7 +9,8 @@
 --   competes r     <=>  at locations 21 to 30; competitors t is the set of those that compete, the paper's Cp.
 --
 -- Assumes nothing.
-use Rattle.std.specs.Prelude.{ℕ, suc, ◌-◌, ◌^◌, Bool, true, false, cond, ◌&&◌, ◌||◌, not, List, [], ◌∷◌, ◌++◌, eqb, leb, ltb, length, get_or, replicate}
+use Rattle.std.specs.Prelude.{ℕ, suc, ◌-◌, ◌^◌, Bool, true, false, cond, ◌&&◌, ◌||◌, not, List, [], ◌∷◌, ◌++◌, eqb}
+use Rattle.std.specs.Prelude.{leb, ltb, length, get_or, replicate}
 use Rattle.counting.specs.Ranges.{every}
 use Rattle.counting.specs.Sets.{set_of}
 use Rattle.machine.specs.Refusals.{accepted, wrong_size, unsound_row}

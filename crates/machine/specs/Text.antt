@@ -1,15 +1,16 @@
 -- The printed run, byte for byte (MANUAL, "The printed text").
 --
---   decimal n       ==  the decimal digits of n, as ASCII codes.
---   line s ns       ==  a line: the text s and the numbers ns, with a space between two.
---   cell_text c      ==  a shared cell, as `-`, `ra3`, `wa0`, `rt1`, `wt15`.
---   run_lines t i ws ==  a line for each taken word, the first of which is word i, and the last line.
---   text_of i        ==  the text for what an input holds.
---   printed bs      ==  the same for the input bytes bs.
---   is_whole s      <=>  a text ends in a line feed, and its last line begins as only the last line of a text does.
+--   decimal n         ==  the decimal digits of n, as ASCII codes.
+--   line s ns         ==  a line: the text s and the numbers ns, with a space between two.
+--   cell_text c       ==  a shared cell, as `-`, `ra3`, `wa0`, `rt1`, `wt15`.
+--   run_lines t i ws  ==  a line for each taken word, the first of which is word i, and the last line.
+--   text_of i         ==  the text for what an input holds.
+--   printed bs        ==  the same for the input bytes bs.
+--   is_whole s        <=> a text ends in a line feed, and its last line begins as only the last line of a text does.
 --
 -- Assumes nothing.
-use Rattle.std.specs.Prelude.{ℕ, zero, suc, ◌+◌, ◌/◌, ◌%◌, Bool, true, false, cond, ◌&&◌, List, [], ◌∷◌, ◌++◌, eqb, ltb, length}
+use Rattle.std.specs.Prelude.{ℕ, zero, suc, ◌+◌, ◌/◌, ◌%◌, Bool, true, false, cond, ◌&&◌, List, [], ◌∷◌, ◌++◌, eqb}
+use Rattle.std.specs.Prelude.{ltb, length}
 use Rattle.machine.specs.Refusals.{accepted, too_many_words, bad_bytes}
 use Rattle.machine.specs.Tables.{Table, row, one_of}
 use Rattle.machine.specs.Words.{process_of}

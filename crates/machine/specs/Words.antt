@@ -1,10 +1,10 @@
 -- Event words: the steps that a process may be told to take, with its choice (MANUAL, "Event words").
 --
---   kind_of process_of argument_of  ==  the parts of a word.
---   word_of k p a   ==   the word of these parts.
---   formed w       <=>  its kind is one of the six and its spare bits are 0.
---   apart w        ==   the word taken apart, or 8, or 9 for a process over 15.
---   together k p a ==   the parts put together, or 8, 9 or 11.
+--   kind_of process_of argument_of  ==   the parts of a word.
+--   word_of k p a                   ==   the word of these parts.
+--   formed w                        <=>  its kind is one of the six and its spare bits are 0.
+--   apart w                         ==   the word taken apart, or 8, or 9 for a process over 15.
+--   together k p a                  ==   the parts put together, or 8, 9 or 11.
 --
 -- Assumes nothing.
 use Rattle.std.specs.Prelude.{ℕ, ◌+◌, ◌*◌, ◌/◌, ◌%◌, ◌^◌, Bool, cond, ◌&&◌, not, eqb, leb}

@@ -1,7 +1,7 @@
 -- A word of four bytes, and what unpacking bytes requires.
 --
 --   word_of a b c d  ==   the word of four bytes, lowest first.
---   Whole bs ws     <=>  the bytes bs make whole words, no more than there are in ws.
+--   Whole bs ws      <=>  the bytes bs make whole words, no more than there are in ws.
 --
 -- Assumes nothing.
 use Rattle.std.specs.Prelude.{ℕ, ◌+◌, ◌*◌, ◌%◌, ◌^◌, ◌≤◌, ◌≡◌, List, length}

@@ -1,7 +1,7 @@
 -- The word of a round given to a process of cells, by the tests of the code.
 --
 --   looks_so, listed_none, elsewhere    what the code has asked of location 22 and of lis, in one test
---   rest_moves, go-moves, go-refused, look-moves    what is promised of STAY, GO and LOOK
+--   rest_moves, go_moves, go_refused, look_moves    what is promised of STAY, GO and LOOK
 --
 -- Assumes nothing.
 use Prim.Native.Nat.{ℕ, ◌<◌}
@@ -39,7 +39,7 @@ use Rattle.steps.specs.Stepping.{Steps}
 use Rattle.steps.proofs.MoveLaws.{becomes_as}
 use Rattle.steps.proofs.StepLaws.{ready, as_parts, taken_steps}
 use Rattle.rounds.specs.Promises.{Moving, MovesOn}
-use Rattle.rounds.proofs.WordLaws.{go_word, parts, rest-given, look-given, go-may}
+use Rattle.rounds.proofs.WordLaws.{go_word, parts, rest_given, look_given, go_may}
 
 -- ---- at 22
 
@@ -69,11 +69,11 @@ module _ (x : List (List ℕ)) (p : ℕ) (m : Moving x p) (r : Row) (own : r ≡
   abbrev looks : Row → Type 0
   looks s = (eqb s.location 22 && not (eqb s.lis 0)) ≡ true
 
-  abbrev looks-not : Row → Type 0
-  looks-not s = (eqb s.location 22 && not (eqb s.lis 0)) ≡ false
+  abbrev looks_not : Row → Type 0
+  looks_not s = (eqb s.location 22 && not (eqb s.lis 0)) ≡ false
 
-  in-t : p < length t
-  in-t = subst (λ (n : ℕ). p < n) (sym (rows_length x)) m.process_in
+  in_t : p < length t
+  in_t = subst (λ (n : ℕ). p < n) (sym (rows_length x)) m.process_in
 
   can : Ready x p
   can = ready x m.table_sound p m.process_in
@@ -82,62 +82,62 @@ module _ (x : List (List ℕ)) (p : ℕ) (m : Moving x p) (r : Row) (own : r ≡
   away ne e = ne (ap (λ (s : Row). s.location) own ∙ e)
 
   -- whether p is at 30 after an accepted word is known before
-  told-by : (y : List (List ℕ)) → Becomes x u y → ok → is_critical (row (rows_of y) p) ≡ arriving r
-  told-by y b e =
+  told_by : (y : List (List ℕ)) → Becomes x u y → ok → is_critical (row (rows_of y) p) ≡ arriving r
+  told_by y b e =
       ap (λ (v : Table). is_critical (row v p)) b.rows_are
-      ∙ move_arrives t u p m.table_sound in-t (process_moves_on t p m.table_sound in-t e)
+      ∙ move_arrives t u p m.table_sound in_t (process_moves_on t p m.table_sound in_t e)
       ∙ ap arriving (sym own)
 
-  moves-on : (y : List (List ℕ)) (b : Bool)
+  moves_on : (y : List (List ℕ)) (b : Bool)
       → Becomes x u y
       → ok
       → b ≡ arriving r
       → MovesOn x p y (record { refusal = 0; occupied = b })
-  moves-on y b h e a = record { refusal_is = sym e; becomes = h; told = λ z. a ∙ sym (told-by y h e) }
+  moves_on y b h e a = record { refusal_is = sym e; becomes = h; told = λ z. a ∙ sym (told_by y h e) }
 
   -- elsewhere than at 21 it does not arrive
-  not-arriving : (r.location ≡ 21 → ⊥) → false ≡ arriving r
-  not-arriving n = sym (ap (λ (b : Bool). b && eqb r.level 0) (ne_eqb r.location 21 n))
+  not_arriving : (r.location ≡ 21 → ⊥) → false ≡ arriving r
+  not_arriving n = sym (ap (λ (b : Bool). b && eqb r.level 0) (ne_eqb r.location 21 n))
 
   -- ---- STAY
 
   pub rest_moves : r.location ≡ 10 → MovesOn x p x (record { refusal = 0; occupied = false })
   unfolding moved
   rest_moves e =
-      let g = rest-given t p m.table_sound in-t (sym (ap (λ (s : Row). s.location) own) ∙ e) in
-      moves-on x false (record { rows_are = sym g.table_is; size_is = refl }) g.accepted-so
-      (not-arriving (λ i. absurd (omega arith)))
+      let g = rest_given t p m.table_sound in_t (sym (ap (λ (s : Row). s.location) own) ∙ e) in
+      moves_on x false (record { rows_are = sym g.table_is; size_is = refl }) g.accepted_so
+      (not_arriving (λ i. absurd (omega arith)))
 
   -- ---- GO
 
-  module _ (ne : r.location ≡ 10 → ⊥) (no : looks-not r) where
+  module _ (ne : r.location ≡ 10 → ⊥) (no : looks_not r) where
     pub go_free : Free x GO p
-    go_free = record { ready = can; may = go-may t p m.table_sound in-t (away ne) (subst looks-not own no) }
+    go_free = record { ready = can; may = go_may t p m.table_sound in_t (away ne) (subst looks_not own no) }
 
     -- what it took is the word of the round
-    go-steps : (y : List (List ℕ)) (s : Stepped) → Takes x GO p 0 y s → Steps x (round_word t p) y s
-    go-steps y s h =
+    go_steps : (y : List (List ℕ)) (s : Stepped) → Takes x GO p 0 y s → Steps x (round_word t p) y s
+    go_steps y s h =
         let few : p < 256 = omega (arith, can.few, m.process_in) in
         let w = word_of GO p 0 in
-        let i = parts t p m.table_sound in-t GO 0 (omega arith) in
+        let i = parts t p m.table_sound in_t GO 0 (omega arith) in
         let f = formed_word_of GO p 0 few (omega arith) refl in
-        subst (λ (v : ℕ). Steps x v y s) (sym (go_word t p (away ne) (subst looks-not own no)))
+        subst (λ (v : ℕ). Steps x v y s) (sym (go_word t p (away ne) (subst looks_not own no)))
         (taken_steps x w m.table_sound f (omega (arith, i.process-is, m.process_in)) y s
         (as_parts (λ k q a. Takes x k q a y s) _ _ _ _ _ _ i.kind_is i.process-is i.argument_is h))
 
-    pub go-moves : (y : List (List ℕ)) (s : Told)
+    pub go_moves : (y : List (List ℕ)) (s : Told)
         → Takes x GO p 0 y (Stepped.Moved s)
         → MovesOn x p y (record { refusal = 0; occupied = arriving r })
-    go-moves y s h =
-        let a = go-steps y _ h in
+    go_moves y s h =
+        let a = go_steps y _ h in
         let e = (answer-moved t (round_word t p) s (sym a.answer_is)).0 in
-        moves-on y (arriving r) a.becomes e refl
+        moves_on y (arriving r) a.becomes e refl
 
-    pub go-refused : (y : List (List ℕ)) (v : ℕ)
+    pub go_refused : (y : List (List ℕ)) (v : ℕ)
         → Takes x GO p 0 y (Stepped.Refused v)
         → MovesOn x p y (record { refusal = v; occupied = false })
-    go-refused y v h =
-        let a = go-steps y _ h in
+    go_refused y v h =
+        let a = go_steps y _ h in
         let e = answer_refused t (round_word t p) v (sym a.answer_is) in
         record { refusal_is = e.1; becomes = a.becomes; told = λ z. absurd (e.0 (sym e.1 ∙ z)) }
 
@@ -149,30 +149,30 @@ module _ (x : List (List ℕ)) (p : ℕ) (m : Moving x p) (r : Row) (own : r ≡
       omega (arith, eqb-false r.lis 0 (not-true _ both.1))
 
   module _ (ask : looks r) (q : ℕ) (found : lowest_of r.lis ≡ Lowest.Member q) where
-    lowest-is-q : lowest (row t p).lis ≡ q
-    lowest-is-q = ap (λ (s : Row). lowest s.lis) (sym own) ∙ lowest_same r.lis q found
+    lowest-is_q : lowest (row t p).lis ≡ q
+    lowest-is_q = ap (λ (s : Row). lowest s.lis) (sym own) ∙ lowest_same r.lis q found
 
     member : has (row t p).lis q ≡ true
     member =
         let low = lt_of_lt_of_le can.listed (pow_mono can.few) in
         let some : ((row t p).lis ≡ 0 → ⊥) =
         λ e. absurd (omega (arith, some_member ask, ap (λ (s : Row). s.lis) own ∙ e)) in
-        subst (λ (a : ℕ). has (row t p).lis a ≡ true) lowest-is-q (lowest_member (row t p).lis low some)
+        subst (λ (a : ℕ). has (row t p).lis a ≡ true) lowest-is_q (lowest_member (row t p).lis low some)
 
     below : q < length x
     below = member_below (row t p).lis (length x) q can.listed member
 
-    pub look-sees : Sees x p q
-    look-sees = record { ready = can; seen = below }
+    pub look_sees : Sees x p q
+    look_sees = record { ready = can; seen = below }
 
-    pub look-moves : (y : List (List ℕ)) (s : Told)
+    pub look_moves : (y : List (List ℕ)) (s : Told)
         → Moves x LOOK p q y s
         → MovesOn x p y (record { refusal = 0; occupied = false })
-    look-moves y s h =
+    look_moves y s h =
         let at : r.location ≡ 22 =
         eqb-true _ _ ((and-eq-true_iff (eqb r.location 22) (not (eqb r.lis 0))).0 ask).0 in
-        let low : lowest (row t p).lis < 256 = omega (arith, lowest-is-q, below, can.few) in
+        let low : lowest (row t p).lis < 256 = omega (arith, lowest-is_q, below, can.few) in
         let there = sym (ap (λ (s : Row). s.location) own) ∙ at in
-        let g = look-given t p m.table_sound in-t low there (subst looks own ask) in
-        moves-on y false (becomes_as h.becomes (sym (g.table_is ∙ ap (moved t LOOK p) lowest-is-q)))
-        g.accepted-so (not-arriving (λ i. absurd (omega arith)))
+        let g = look_given t p m.table_sound in_t low there (subst looks own ask) in
+        moves_on y false (becomes_as h.becomes (sym (g.table_is ∙ ap (moved t LOOK p) lowest-is_q)))
+        g.accepted_so (not_arriving (λ i. absurd (omega arith)))

@@ -67,8 +67,8 @@ awaited_whole b t o whole (inr (_, w)) = absurd (omega (arith, w.refused_then, w
 module _ (t : Table) (ws : List ℕ) (h : fresh t ≡ true) (some : 1 ≤ pending (after_words t ws))
     (whole : Unbroken (after_words t ws))
   where
-    made-sound : sound (after_words t ws) ≡ true
-    made-sound = accepted-sound (after_words t ws) (words_keep_sound t ws (sound-accepted t (fresh-sound t h)))
+    made_sound : sound (after_words t ws) ≡ true
+    made_sound = accepted-sound (after_words t ws) (words_keep_sound t ws (sound-accepted t (fresh-sound t h)))
 
     awaited : Awaited (round_limit (length t)) (after_words t ws) (rounds_of (after_words t ws))
     awaited =
@@ -78,7 +78,7 @@ module _ (t : Table) (ws : List ℕ) (h : fresh t ≡ true) (some : 1 ≤ pendin
         (λ (b : Bool).
         Awaited (cond b 0 (round_limit (length (after_words t ws)))) (after_words t ws) (rounds_of (after_words t ws)))
         (ne_eqb (pending (after_words t ws)) 0 (λ e. absurd (omega (arith, e))))
-        (awaited_whole _ _ _ whole (rounds-answer (after_words t ws) made-sound)))
+        (awaited_whole _ _ _ whole (rounds-answer (after_words t ws) made_sound)))
 
     ends-within : critical (after_words t ws) ≡ 0 → Ended (silence_bound (length t)) (rounds_of (after_words t ws))
     ends-within none =
@@ -130,17 +130,17 @@ longest_answer t u a h made =
     let z = (silence_attained t h).0 a.rounds l in
     let left = w.table_is ∙ ap (λ (k : ℕ). rounds k (after_words t ws)) (sym same) in
     absurd (omega (arith, e.3, ap critical (made.1 ∙ left) ∙ z))) in
-    answer-of a n e.0 all e.1
+    answer_of a n e.0 all e.1
   where
     exactly : (n k : ℕ) → k ≤ n → (k < n → ⊥) → k ≡ n
     exactly n k l not-less = omega (arith, not-less)
 
-    answer-of : (a : RoundsAnswer) (n : ℕ)
+    answer_of : (a : RoundsAnswer) (n : ℕ)
         → a.refusal ≡ 0
         → a.rounds ≡ n
         → a.occupied ≡ 1
         → a ≡ record { refusal = 0; rounds = n; occupied = 1 }
-    answer-of a n i j k =
+    answer_of a n i j k =
         ap (λ (x : ℕ). record { refusal = x; rounds = a.rounds; occupied = a.occupied }) i
         ∙ ap (λ (x : ℕ). record { refusal = 0; rounds = x; occupied = a.occupied }) j
         ∙ ap (λ (x : ℕ). record { refusal = 0; rounds = n; occupied = x }) k

@@ -1,9 +1,9 @@
 -- What the word of a round does, kind by kind, and that it may be done.
 --
---   stay-word, look-word, go_word     the word, by the tests of the code
+--   stay_word, look_word, go_word     the word, by the tests of the code
 --   Given k a         <=>  the word is accepted, and does what kind k does with argument a.
---   rest-given, look-given            so it is for STAY and LOOK
---   go-may                            GO is allowed, also where a full count refuses it
+--   rest_given, look_given            so it is for STAY and LOOK
+--   go_may                            GO is allowed, also where a full count refuses it
 --
 -- Assumes nothing.
 use Prim.Native.Nat.{ℕ, ◌<◌}
@@ -33,13 +33,13 @@ module _ (t : Table) (p : ℕ) where
   abbrev s : ℕ
   s = (row t p).lis
 
-  stay-word : l ≡ 10 → round_word t p ≡ word_of STAY p 0
+  stay_word : l ≡ 10 → round_word t p ≡ word_of STAY p 0
   unfolding round_word
-  stay-word e = rw e refl
+  stay_word e = rw e refl
 
-  look-word : (l ≡ 10 → ⊥) → (eqb l 22 && not (eqb s 0)) ≡ true → round_word t p ≡ word_of LOOK p (lowest s)
+  look_word : (l ≡ 10 → ⊥) → (eqb l 22 && not (eqb s 0)) ≡ true → round_word t p ≡ word_of LOOK p (lowest s)
   unfolding round_word
-  look-word ne h = rw (ne_eqb l 10 ne, h) refl
+  look_word ne h = rw (ne_eqb l 10 ne, h) refl
 
   pub go_word : (l ≡ 10 → ⊥) → (eqb l 22 && not (eqb s 0)) ≡ false → round_word t p ≡ word_of GO p 0
   unfolding round_word
@@ -48,7 +48,7 @@ module _ (t : Table) (p : ℕ) where
   -- ---- what it does
 
   pub record Given (k a : ℕ) : Type 0 where
-    pub accepted-so : refusal_of t (round_word t p) ≡ 0
+    pub accepted_so : refusal_of t (round_word t p) ≡ 0
     pub table_is : after_word t (round_word t p) ≡ moved t k p a
 
   -- the parts of a word of the process
@@ -57,7 +57,7 @@ module _ (t : Table) (p : ℕ) where
     pub process-is : process_of (word_of k p a) ≡ p
     pub argument_is : argument_of (word_of k p a) ≡ a
 
-  module _ (z : table_refusal t ≡ 0) (in-t : p < length t) where
+  module _ (z : table_refusal t ≡ 0) (in_t : p < length t) where
     pub parts : (k a : ℕ) → a < 256 → Parts k a
     parts k a low =
         let few : p < 256 = omega (arith, sound_few t z) in
@@ -70,11 +70,11 @@ module _ (t : Table) (p : ℕ) where
     -- away from 20 the word of a round is accepted
     given : (k a : ℕ) → a < 256 → (l ≡ 20 → ⊥) → round_word t p ≡ word_of k p a → Given k a
     given k a low away e =
-        let ok = round_word_accepted t p z in-t away in
+        let ok = round_word_accepted t p z in_t away in
         let w = word_of k p a in
         let i = parts k a low in
         record {
-          accepted-so = ok;
+          accepted_so = ok;
           table_is = ap (after_word t) e
               ∙ accepted-moved t w (sym (ap (refusal_of t) e) ∙ ok)
               ∙ ap (moved t (kind_of w) (process_of w)) i.argument_is
@@ -82,16 +82,16 @@ module _ (t : Table) (p : ℕ) where
               ∙ ap (λ (x : ℕ). moved t x p a) i.kind_is;
         }
 
-    pub rest-given : l ≡ 10 → Given STAY 0
-    rest-given e = given STAY 0 (omega arith) (omega arith) (stay-word e)
+    pub rest_given : l ≡ 10 → Given STAY 0
+    rest_given e = given STAY 0 (omega arith) (omega arith) (stay_word e)
 
-    pub look-given : lowest s < 256 → l ≡ 22 → (eqb l 22 && not (eqb s 0)) ≡ true → Given LOOK (lowest s)
-    look-given low e h = given LOOK (lowest s) low (omega arith) (look-word (omega arith) h)
+    pub look_given : lowest s < 256 → l ≡ 22 → (eqb l 22 && not (eqb s 0)) ≡ true → Given LOOK (lowest s)
+    look_given low e h = given LOOK (lowest s) low (omega arith) (look_word (omega arith) h)
 
     -- GO is allowed, also where it meets 15
-    pub go-may : (l ≡ 10 → ⊥) → (eqb l 22 && not (eqb s 0)) ≡ false → allowed GO (row t p) ≡ true
+    pub go_may : (l ≡ 10 → ⊥) → (eqb l 22 && not (eqb s 0)) ≡ false → allowed GO (row t p) ≡ true
     unfolding allowed
-    go-may ne h =
+    go_may ne h =
         let w = word_of GO p 0 in
         let e = go_word ne h in
         let i = parts GO 0 (omega arith) in
@@ -100,4 +100,4 @@ module _ (t : Table) (p : ℕ) where
         let said = accepted_says t w (sym (ap (refusal_of t) e) ∙ ok) in
         sym (ap₂ (λ (k q : ℕ). allowed k (row t q)) i.kind_is i.process-is) ∙ said.allowed_there)
         (λ full. rw full.0 refl)
-        (round_word_answered t p z in-t)
+        (round_word_answered t p z in_t)

@@ -4,7 +4,7 @@
 --   allowed_with    the two are `allowed`
 --   allowed_plain   .. where lis does not matter
 --   only_stay       a kind that is none of the others
---   looks-not, looks_so   LOOK with an argument
+--   looks_not, looks_so   LOOK with an argument
 --
 -- Assumes nothing.
 use Prim.Native.Nat.{ℕ, ◌≤◌, ◌<◌}
@@ -82,18 +82,18 @@ computed_right k e l kind = go (dec_lt l 41)
     go (no h) = rw (over_none l (omega (arith, h)), allowed_over k (stands e l) (omega (arith, h)))
 
 module _ (k j m : ℕ) (r : Row) (e : k ≡ j) (kind : is_kind j ≡ true) (f : m ≡ mask_of (allowed_at j)) where
-  abbrev lisTest : Bool
-  lisTest = lis_fits j (eqb r.lis 0) r.location
+  abbrev lis_test : Bool
+  lis_test = lis_fits j (eqb r.lis 0) r.location
 
-  pub allowed_with : (marks m r.location && lisTest) ≡ allowed k r
+  pub allowed_with : (marks m r.location && lis_test) ≡ allowed k r
   allowed_with =
-      ap (λ (m : ℕ). marks m r.location && lisTest) f
-      ∙ ap (λ (b : Bool). b && lisTest) (mask_marks (allowed_at j) r.location)
+      ap (λ (m : ℕ). marks m r.location && lis_test) f
+      ∙ ap (λ (b : Bool). b && lis_test) (mask_marks (allowed_at j) r.location)
       ∙ computed_right j (eqb r.lis 0) r.location kind
       ∙ sym (allowed_stands j r)
       ∙ sym (ap (λ (x : ℕ). allowed x r) e)
 
-  pub allowed_plain : lisTest ≡ true → marks m r.location ≡ allowed k r
+  pub allowed_plain : lis_test ≡ true → marks m r.location ≡ allowed k r
   allowed_plain t =
       sym (and-true (marks m r.location))
       ∙ ap (λ (b : Bool). marks m r.location && b) (sym t)
@@ -133,8 +133,8 @@ module _ (m : ℕ) (r : Row) (a : ℕ) (f : m ≡ mask_of (allowed_at LOOK)) whe
   look_is : (b : Bool) → marks m r.location ≡ b → allowed LOOK r ≡ (b && not (eqb r.lis 0))
   look_is b e = sym (allowed_with LOOK LOOK m r refl refl f) ∙ ap (λ (b : Bool). b && not (eqb r.lis 0)) e
 
-  pub looks-not : marks m r.location ≡ false → (allowed LOOK r && has r.lis a) ≡ false
-  looks-not e = ap (λ (b : Bool). b && has r.lis a) (look_is false e)
+  pub looks_not : marks m r.location ≡ false → (allowed LOOK r && has r.lis a) ≡ false
+  looks_not e = ap (λ (b : Bool). b && has r.lis a) (look_is false e)
 
   pub looks_so : marks m r.location ≡ true → (allowed LOOK r && has r.lis a) ≡ has r.lis a
   looks_so e = ap (λ (b : Bool). b && has r.lis a) (look_is true e) ∙ member_some r.lis a

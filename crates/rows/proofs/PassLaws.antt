@@ -58,19 +58,19 @@ low_next a i f h j l = go (ℕ_discrete j i)
 
 module _ (f : ℕ → ℕ) where
   -- whether the first i are 0
-  abbrev pub noneOf : ℕ → Bool
-  noneOf i = every (λ j. ltb (f j) 1) i
+  abbrev pub none_of : ℕ → Bool
+  none_of i = every (λ j. ltb (f j) 1) i
 
-  pub none_yet : ltb 0 1 ≡ noneOf 0
+  pub none_yet : ltb 0 1 ≡ none_of 0
   unfolding every
   none_yet = refl
 
-  pub one_more : (any w i : ℕ) → w ≡ f i → ltb any 1 ≡ noneOf i → ltb (bit_or any w) 1 ≡ noneOf (i + 1)
+  pub one_more : (any w i : ℕ) → w ≡ f i → ltb any 1 ≡ none_of i → ltb (bit_or any w) 1 ≡ none_of (i + 1)
   unfolding every
   one_more any w i e h =
       or_ltb 0 any w
       ∙ ap₂ (λ (a b : Bool). a && b) h (ap (λ (x : ℕ). ltb x 1) e)
-      ∙ ap noneOf (sym (add-one i))
+      ∙ ap none_of (sym (add-one i))
 
 -- whether i is at least n, by arithmetic
 pub reaches : (i n : ℕ) → n ≤ 16 → i < 16 → (i + 16 - n) / 16 ≡ bit (leb n i)
@@ -106,7 +106,7 @@ room_at v true h = go (ℕ_discrete v 65535)
 
 pub raisable_by : (c : ℕ) (a : List ℕ) (b : Bool)
     → ((i : ℕ) → i < 16 → get_or a i 0 ≤ 65535)
-    → b ≡ noneOf (full_at c a) 16
+    → b ≡ none_of (full_at c a) 16
     → b ≡ raisable c a
 unfolding raisable
 raisable_by c a b low e =

@@ -2,8 +2,8 @@
 --
 --   mask_of P       ==   the mask of the locations that have P.
 --   allowed_at k l  <=>  kind k is allowed at location l, with lis empty or with another.
---   Mark i b m     <=>  m is the mark of the location of code i where b is true, else 0.
---   Coded i k      <=>  i is a code and k a number of four bits.
+--   Mark i b m      <=>  m is the mark of the location of code i where b is true, else 0.
+--   Coded i k       <=>  i is a code and k a number of four bits.
 --
 -- Assumes nothing.
 use Rattle.std.specs.Prelude.{ℕ, ◌+◌, ◌*◌, ◌^◌, ◌≤◌, ◌<◌, ◌≡◌, Bool, ◌||◌, get_or}

@@ -1,12 +1,12 @@
 -- What the functions on counts of passes ensure inside this crate.
 --
---   Product v d w    <=>  w is the product of v, a number of 16 bits, and d.
---   Limited v d w    <=>  w is d where v, a number of 16 bits, is 65,535, and else 0.
---   past_at n a i     ==   the count over process i in the counts a, or 0 where i is below n.
---   clear_past n a    <=>  the counts a over processes that are not below n are 0.
---   Clear n a b      <=>  b tells clear_past n a; there are sixteen counts, all of 16 bits.
---   Either v w x     <=>  x is v | w, and w is a number of 16 bits.
---   Joined a b c     <=>  each of sixteen counts of c is that of a | that of b; those of b are of 16 bits.
+--   Product v d w   <=>  w is the product of v, a number of 16 bits, and d.
+--   Limited v d w   <=>  w is d where v, a number of 16 bits, is 65,535, and else 0.
+--   past_at n a i   ==   the count over process i in the counts a, or 0 where i is below n.
+--   clear_past n a  <=>  the counts a over processes that are not below n are 0.
+--   Clear n a b     <=>  b tells clear_past n a; there are sixteen counts, all of 16 bits.
+--   Either v w x    <=>  x is v | w, and w is a number of 16 bits.
+--   Joined a b c    <=>  each of sixteen counts of c is that of a | that of b; those of b are of 16 bits.
 --
 -- Assumes nothing.
 use Rattle.std.specs.Prelude.{ℕ, ◌*◌, ◌/◌, ◌≤◌, ◌<◌, ◌≡◌, Bool, List, leb, ltb, length, get_or}

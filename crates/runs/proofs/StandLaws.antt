@@ -1,10 +1,10 @@
 -- Where a run stands, from word to word, and at its end.
 --
---   begun-open, begun-halted       the run began, and is going, or it is refused.
---   tried-moved, tried-halted      a word was tried, and taken, or the run ends.
---   stands-counted, stands-halted  the next word was tried, and is counted where it was taken.
+--   begun_open, begun_halted       the run began, and is going, or it is refused.
+--   tried_moved, tried_halted      a word was tried, and taken, or the run ends.
+--   stands_counted, stands_halted  the next word was tried, and is counted where it was taken.
 --   left_less                      then less is left (`left`).
---   stands-room                    the tally has room for a word.
+--   stands_room                    the tally has room for a word.
 --   stands_end                     the run has ended: its table, its answer and its tally.
 --
 -- Assumes nothing.
@@ -55,32 +55,32 @@ module _ (m : Settings) (ws : List ℕ) where
           runnable = runnable;
         })
 
-    pub begun-open : p ≡ onward_of 0 quiet → Runnable m x ws → Stands m ws (run_of m (rows_of x) ws) zero_tally x p
-    begun-open e r =
+    pub begun_open : p ≡ onward_of 0 quiet → Runnable m x ws → Stands m ws (run_of m (rows_of x) ws) zero_tally x p
+    begun_open e r =
         begun (onward_of 0 quiet) e refl (λ _. r)
         (run_of_taken m (rows_of x) ws r.table_sound r.settings_fit_lem r.words_few)
 
-    pub begun-halted : (v : ℕ) → p ≡ halted_of 0 v no_cell → run_of m (rows_of x) ws ≡ untaken (rows_of x) v
+    pub begun_halted : (v : ℕ) → p ≡ halted_of 0 v no_cell → run_of m (rows_of x) ws ≡ untaken (rows_of x) v
         → Stands m ws (run_of m (rows_of x) ws) zero_tally x p
-    begun-halted v e o = begun (halted_of 0 v no_cell) e refl (λ z. absurd z) o
+    begun_halted v e o = begun (halted_of 0 v no_cell) e refl (λ z. absurd z) o
 
   -- ---- a word was tried
 
   module _ (i : ℕ) (c : SharedCell) (x y : List (List ℕ)) (p : Progress) where
-    pub tried-moved : (d : Told) → p ≡ onward_of (i + 1) d → length y ≡ length x → i + 1 ≤ length ws
+    pub tried_moved : (d : Told) → p ≡ onward_of (i + 1) d → length y ≡ length x → i + 1 ≤ length ws
         → table_refusal (rows_of y) ≡ 0
         → ((h : Tally) → run_from m (rows_of x) h c (drop i ws)
         ≡ run_from m (rows_of y) (counted d.event h) d.cell (drop (i + 1) ws))
         → Tried m ws i c x y p
-    tried-moved d e l small sound goes =
+    tried_moved d e l small sound goes =
         subst (Tried m ws i c x y) (sym e)
         (record { size_is = l; outcome_is = goes; taken_is = refl; within = small; sound_after = sound })
 
-    pub tried-halted : (v : ℕ) → p ≡ halted_of i v c → length y ≡ length x → i ≤ length ws
+    pub tried_halted : (v : ℕ) → p ≡ halted_of i v c → length y ≡ length x → i ≤ length ws
         → table_refusal (rows_of y) ≡ 0
         → ((h : Tally) → run_from m (rows_of x) h c (drop i ws) ≡ ended (rows_of y) h c v)
         → Tried m ws i c x y p
-    tried-halted v e l small sound goes =
+    tried_halted v e l small sound goes =
         subst (Tried m ws i c x y) (sym e)
         (record { size_is = l; outcome_is = goes; taken_is = refl; within = small; sound_after = sound })
 
@@ -96,8 +96,8 @@ module _ (m : Settings) (ws : List ℕ) where
 
   module _ {o : Outcome} {h : Tally} {x : List (List ℕ)} {a : Progress} (s : Stands m ws o h x a)
       (z : T a.going) where
-    pub stands-room : Room h
-    stands-room =
+    pub stands_room : Room h
+    stands_room =
         let few = (s.runnable z).words_few in
         record {
           words_room = omega (arith, s.taken_is, few, s.within);
@@ -116,8 +116,8 @@ module _ (m : Settings) (ws : List ℕ) where
           let r = s.runnable z in
           record { table_sound = t.sound_after; settings_fit_lem = r.settings_fit_lem; words_few = r.words_few }
 
-      pub stands-counted : {k : Tally} → k ≡ counted p.event h → T p.going → Stands m ws o k y p
-      stands-counted e k =
+      pub stands_counted : {k : Tally} → k ≡ counted p.event h → T p.going → Stands m ws o k y p
+      stands_counted e k =
           let one = counted_words p.event h in
           subst (λ (j : Tally). Stands m ws o j y p) (sym e) (record {
             outcome_is = outcome (counted p.event h) (rw (is_true p.going k) refl);
@@ -134,8 +134,8 @@ module _ (m : Settings) (ws : List ℕ) where
             runnable = λ _. runs_on;
           })
 
-      pub stands-halted : T (not p.going) → Stands m ws o h y p
-      stands-halted k =
+      pub stands_halted : T (not p.going) → Stands m ws o h y p
+      stands_halted k =
           record {
             outcome_is = outcome h (rw (is_false p.going k) refl);
             taken_is =

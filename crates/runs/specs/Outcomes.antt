@@ -1,10 +1,10 @@
 -- What a run promises of cells, and what it answers.
 --
---   answered h c v    ==   the answer of a run that ended with tally h, last cell c and refusal v, or 0.
---   Runs x o y r      <=>  the cells x have become y, and r is the answer, by a run with outcome o.
---   RunsSound x o y r <=>  and the table is sound again.
+--   answered h c v       ==   the answer of a run that ended with tally h, last cell c and refusal v, or 0.
+--   Runs x o y r         <=>  the cells x have become y, and r is the answer, by a run with outcome o.
+--   RunsSound x o y r    <=>  and the table is sound again.
 --   RunsTo m ws r h t u  <=>  the words ws, under the settings m, make the table u of t, with the answer r and the
---                          tally h: what the function for C ensures.
+--                             tally h: what the function for C ensures.
 --
 -- Assumes nothing.
 use Rattle.std.specs.Prelude.{ℕ, ◌≡◌, List}

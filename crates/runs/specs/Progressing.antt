@@ -3,9 +3,9 @@
 --   onward_of i d          ==   the run has taken i words, and d is what the step told of the last.
 --   halted_of i v c        ==   it ends with v after i words, the last of which used the cell c.
 --   outcome_at m ws t h p  ==   the outcome of a run by the words ws that stands at p with the table t and the tally h.
---   Stands m ws o h y p   <=>  the run with outcome o stands at p, with the cells y and the tally h.
---   Tried m ws i c x y p  <=>  a run that had taken i words, the last of which used the cell c, took its next word at
---                              the cells x, or ended there. The cells became y, and the run stands at p.
+--   Stands m ws o h y p    <=>  the run with outcome o stands at p, with the cells y and the tally h.
+--   Tried m ws i c x y p   <=>  a run that had taken i words, the last of which used the cell c, took its next word at
+--                               the cells x, or ended there. The cells became y, and the run stands at p.
 --
 -- Assumes nothing.
 use Rattle.std.specs.Prelude.{ℕ, ◌+◌, ◌≤◌, ◌≡◌, true, false, cond, List, T, length, drop}

@@ -28,7 +28,7 @@ use Rattle.machine.proofs.Soundness.{words_keep_sound, words_keep_length}
 use Rattle.machine.proofs.OneWord.{one_room}
 use Rattle.machine.proofs.FreshRows.{fresh-sound, fresh_at_10, fresh_rests}
 use Rattle.machine.proofs.StepRows.{entered_row}
-use Rattle.machine.proofs.RoundLaws.{Move, one_move, by-moves, round-sound, round-length}
+use Rattle.machine.proofs.RoundLaws.{Move, one_move, by_moves, round-sound, round-length}
 use Rattle.machine.proofs.BrokenRounds.{roomy_unbroken}
 use Rattle.silence.proofs.Due.{phase}
 use Rattle.silence.proofs.DueLaws.{due_unset}
@@ -61,14 +61,14 @@ module _ (t : Table) (h : fresh t ≡ true) where
   sound_after : (ws : List ℕ) → table_refusal (after_words t ws) ≡ 0
   sound_after ws = words_keep_sound t ws (sound-accepted t (fresh-sound t h))
 
-  come-to : (p : ℕ) → p ≤ length t → Swept Rested Came (length t) p (after_words t (come p))
+  come_to : (p : ℕ) → p ≤ length t → Swept Rested Came (length t) p (after_words t (come p))
   unfolding up_to after_words
-  come-to zero l = swept_none Rested Came (length t) t
+  come_to zero l = swept_none Rested Came (length t) t
       (λ q i. let r = fresh_rests t h q in (fresh_at_10 t h q i, r.no_bb, r.none_passed))
-  come-to (suc p) l =
+  come_to (suc p) l =
       let u = after_words t (come p) in
       let in-u : p < length u = omega (arith, words_keep_length t (come p)) in
-      let before = come-to p (omega arith) in
+      let before = come_to p (omega arith) in
       let own = (before p (omega arith)).1 (omega arith) in
       let after = after_words_snoc t (come p) (word_of COME p 0) ∙ come_next u p (sound_after (come p)) in-u own.0 in
       subst (Swept Rested Came (length t) (suc p)) (sym after)
@@ -77,7 +77,7 @@ module _ (t : Table) (h : fresh t ≡ true) where
   pub all_come : (q : ℕ) → q < length t → Came q (row (after_words t (all_coming (length t))) q)
   unfolding up_to
   all_come =
-      swept_all Rested Came (length t) (after_words t (all_coming (length t))) (come-to (length t) (omega arith))
+      swept_all Rested Came (length t) (after_words t (all_coming (length t))) (come_to (length t) (omega arith))
 
 -- ---- the first round
 
@@ -114,7 +114,7 @@ module _ (k : ℕ) where
         high = λ i. absurd (omega arith);
       }
 
-  entered-move : (p : ℕ) (t u : Table)
+  entered_move : (p : ℕ) (t u : Table)
       → p < suc k
       → length t ≡ suc k
       → table_refusal t ≡ 0
@@ -122,11 +122,11 @@ module _ (k : ℕ) where
       → Move t p u
       → Swept Came Entered (suc k) p t
       → Swept Came Entered (suc k) (suc p) u
-  entered-move p t u l e z ok m h =
-      let in-t : p < length t = omega arith in
+  entered_move p t u l e z ok m h =
+      let in_t : p < length t = omega arith in
       let own = (h p l).1 (omega arith) in
-      subst (Swept Came Entered (suc k) (suc p)) (one_move z in-t ok (Move.enters own.0) m)
-      (swept_set Came Entered (suc k) t p (entered_row t p) in-t h
+      subst (Swept Came Entered (suc k) (suc p)) (one_move z in_t ok (Move.enters own.0) m)
+      (swept_set Came Entered (suc k) t p (entered_row t p) in_t h
       (entered-row t p e (sound_few t z) l own.1))
 
   pub front_begins : (t : Table)
@@ -136,9 +136,9 @@ module _ (k : ℕ) where
       → Front (suc k) k (phase (suc k)) (round t)
   front_begins t z e came =
       let end =
-      by-moves t (λ p v. Swept Came Entered (suc k) p v) z
+      by_moves t (λ p v. Swept Came Entered (suc k) p v) z
       (came_unbroken t z (λ q l. came q (subst (λ (n : ℕ). q < n) e l)))
-      (λ p v u l same sound after ok m h. entered-move p v u (omega arith) (same ∙ e) sound ok m h)
+      (λ p v u l same sound after ok m h. entered_move p v u (omega arith) (same ∙ e) sound ok m h)
       (swept_none Came Entered (suc k) t came) in
       record {
         sound = round-sound t z;

@@ -23,7 +23,7 @@ use Rattle.machine.specs.Tables.{Table, row}
 use Rattle.machine.specs.declared.Row.{Row}
 use Rattle.silence.proofs.Due.{left, phase}
 use Rattle.silence.proofs.DueLaws.{left_pos}
-use Rattle.silence.proofs.QuietLaws.{quiet_few, quiet-sound, quiet_within, left-most}
+use Rattle.silence.proofs.QuietLaws.{quiet_few, quiet-sound, quiet_within, left_most}
 use Rattle.silence.proofs.Moving.{Among}
 
 -- at 22 of those looked at, at 23 of all; at 21 and at 24 no scan is on
@@ -42,7 +42,7 @@ AllDown C n f t = (q : ℕ) → C q ≡ true → Down C n (f q) (row t q)
 
 module _ (C : ℕ → Bool) (n : ℕ) (t : Table) (a : Among C n t) where
   pub down_at_start : AllDown C n (λ q. phase n) t
-  down_at_start q c = inr (inr (omega (arith, left-most n t a.quiet q (a.competing q ∙ c))))
+  down_at_start q c = inr (inr (omega (arith, left_most n t a.quiet q (a.competing q ∙ c))))
 
   pub down_at_end : (q : ℕ) → Down C n 0 (row t q) → (row t q).level < count C n
   down_at_end q (inl h) = h

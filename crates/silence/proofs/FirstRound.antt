@@ -17,8 +17,8 @@ use Rattle.machine.specs.Census.{is_critical, critical}
 use Rattle.machine.specs.Rounds.{round, Unbroken, is_pending, pending}
 use Rattle.machine.specs.declared.Row.{Row}
 use Rattle.machine.proofs.SoundRows.{sound-row}
-use Rattle.machine.proofs.StepRows.{stepRow, step-becomes}
-use Rattle.machine.proofs.RoundLaws.{move_step, by-moves, round-length}
+use Rattle.machine.proofs.StepRows.{step_row, step_becomes}
+use Rattle.machine.proofs.RoundLaws.{move_step, by_moves, round-length}
 use Rattle.machine.proofs.OwnMoves.{own_move}
 use Rattle.silence.proofs.Steady.{Steady, quiet_places, Quiet}
 use Rattle.silence.proofs.Kept.{step_keeps_steady}
@@ -26,25 +26,25 @@ use Rattle.silence.proofs.Landing.{Lands, lands}
 use Rattle.silence.proofs.LastRound.{critical_at}
 
 module _ (t : Table) (s : Steady t) (whole : Unbroken t) (none : critical t ≡ 0) where
-  nobody-at-30 : (q : ℕ) → q < length t → (row t q).location ≡ 30 → ⊥
-  nobody-at-30 q l e = let some = critical_at t q l e in omega arith
+  nobody_at_30 : (q : ℕ) → q < length t → (row t q).location ≡ 30 → ⊥
+  nobody_at_30 q l e = let some = critical_at t q l e in omega arith
 
-  round-steady : Steady (round t)
-  round-steady =
-      by-moves t (λ p v. Steady v) s.sound whole
+  round_steady : Steady (round t)
+  round_steady =
+      by_moves t (λ p v. Steady v) s.sound whole
       (λ p v u l n z y ok m h. step_keeps_steady v u p z y (subst (λ (k : ℕ). p < k) (sym n) l) (move_step m) h) s
 
   -- after the round q is where its own move led it
-  round-lands : (q : ℕ) → q < length t → Lands (row t q) (row (round t) q)
-  round-lands q l =
+  round_lands : (q : ℕ) → q < length t → Lands (row t q) (row (round t) q)
+  round_lands q l =
       let o = own_move t q s.sound whole l in
       let v = o.before in
       let in-v : q < length v = subst (λ (k : ℕ). q < k) (sym o.same_size) l in
-      let b = step-becomes v q in-v (sound-row v o.sound_before q in-v).level_low (move_step o.moves) in
-      let to : (row (round t) q).location ≡ (stepRow v q (move_step o.moves)).location =
+      let b = step_becomes v q in-v (sound-row v o.sound_before q in-v).level_low (move_step o.moves) in
+      let to : (row (round t) q).location ≡ (step_row v q (move_step o.moves)).location =
       o.as_after.location_same ∙ ap (λ (r : Row). r.location) b.own in
       let from = o.as_before.location_same in
-      let h = lands v q o.moves (λ e. nobody-at-30 q l (sym from ∙ e)) in (
+      let h = lands v q o.moves (λ e. nobody_at_30 q l (sym from ∙ e)) in (
         ap (λ (x : ℕ). one_of x (30 ∷ quiet_places)) to ∙ h.0,
         ap (λ (x : ℕ). leb 21 x && leb x 30) to ∙ h.1 ∙ ap (λ (x : ℕ). leb 20 x && leb x 24) from,
       )
@@ -63,11 +63,11 @@ module _ (t : Table) (s : Steady t) (whole : Unbroken t) (none : critical t ≡ 
           let w = count_witness (λ q. is_pending (row t q)) (length t) some in
           inr
           (record {
-            steady = round-steady;
+            steady = round_steady;
             size_is = round-length t;
             places = λ q l.
                 sym (ap (λ (b : Bool). b || one_of (row (round t) q).location quiet_places)
                 (h q (subst (λ (k : ℕ). q < k) (sym (round-length t)) l)))
-                ∙ (round-lands q l).0;
-            somebody = (w.0, (round-lands w.0 w.1).1 ∙ w.2);
+                ∙ (round_lands q l).0;
+            somebody = (w.0, (round_lands w.0 w.1).1 ∙ w.2);
           })

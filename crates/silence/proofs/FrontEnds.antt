@@ -46,24 +46,24 @@ first_least m b t h (r, l, some) = go (dec_lt r m)
 -- the front has come down to level 0, where process 0 is alone
 front_wins : (n c : ℕ) (t : Table) → Front n 0 c t → First 1 t
 front_wins n c t f =
-    let wins = level_zero_wins t 0 f.sound (front_unbroken n 0 c t f) in-t
-    (at-21 (dec_le 22 (row t 0).location)) own.level_is in
+    let wins = level_zero_wins t 0 f.sound (front_unbroken n 0 c t f) in_t
+    (at_21 (dec_le 22 (row t 0).location)) own.level_is in
     first_later 0 t (front_silent n 0 c t f) (
       λ r l. absurd (omega arith),
       subst (λ (u : Table). 1 ≤ critical u) (sym (rounds_zero (round t)))
-          (critical_at (round t) 0 (omega (arith, round-length t, in-t)) wins),
+          (critical_at (round t) 0 (omega (arith, round-length t, in_t)) wins),
     )
   where
-    in-t : 0 < length t
-    in-t = omega (arith, f.level_low, f.size_is)
+    in_t : 0 < length t
+    in_t = omega (arith, f.level_low, f.size_is)
 
     own : Low n 0 c (row t 0)
     own = (f.rows 0 f.level_low).low (omega arith)
 
-    at-21 : Dec (22 ≤ (row t 0).location) → (row t 0).location ≡ 21
-    at-21 (yes i) =
-        absurd (omega (arith, (sound-row t f.sound 0 in-t).level_some i own.to_24, own.level_is))
-    at-21 (no ni) = omega (arith, ni, own.from_21)
+    at_21 : Dec (22 ≤ (row t 0).location) → (row t 0).location ≡ 21
+    at_21 (yes i) =
+        absurd (omega (arith, (sound-row t f.sound 0 in_t).level_some i own.to_24, own.level_is))
+    at_21 (no ni) = omega (arith, ni, own.from_21)
 
 -- ---- all rounds
 

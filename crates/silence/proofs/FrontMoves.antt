@@ -14,7 +14,7 @@ use native.Mathlib.Decide.{ℕ_discrete}
 use native.Mathlib.Omega.{arith}
 use lib.ListN.{length}
 use Rattle.counting.specs.Sets.{size, without}
-use Rattle.counting.proofs.SizeLaws.{size_zero, size-without_in, size-others}
+use Rattle.counting.proofs.SizeLaws.{size_zero, size_without_in, size-others}
 use Rattle.machine.specs.Rows.{with_location, with_lis}
 use Rattle.machine.specs.Tables.{Table}
 use Rattle.machine.specs.declared.Row.{Row}
@@ -29,8 +29,8 @@ use Rattle.silence.proofs.Strides.Stride.{begins, looks, ends, turns_up, falls, 
 
 module _ (n l c p : ℕ) (r : Row) (f : FrontRow n l c p r) (above : l < p) where
   -- another place in the loop, and another lis
-  high-at : (j d v x : ℕ) → j ≤ l → 21 ≤ v → v ≤ 23 → FrontRow n j d p (with_location v (with_lis x r))
-  high-at j d v x i a b =
+  high_at : (j d v x : ℕ) → j ≤ l → 21 ≤ v → v ≤ 23 → FrontRow n j d p (with_location v (with_lis x r))
+  high_at j d v x i a b =
       let h = f.high above in
       record {
         act_shown = f.act_shown;
@@ -40,19 +40,19 @@ module _ (n l c p : ℕ) (r : Row) (f : FrontRow n l c p r) (above : l < p) wher
       }
 
   pub high_stride : (j d v : ℕ) {s : Row} → j ≤ l → v ≡ p → Stride p v r s → FrontRow n j d p s
-  high_stride j d v i e (begins h) = high-at j d 22 r.est i (omega arith) (omega arith)
+  high_stride j d v i e (begins h) = high_at j d 22 r.est i (omega arith) (omega arith)
   high_stride j d v i e (looks x k h m) =
-      high-at j d r.location (without r.lis x) i (omega arith) (omega arith)
-  high_stride j d v i e (ends h m) = high-at j d 23 r.lis i (omega arith) (omega arith)
+      high_at j d r.location (without r.lis x) i (omega arith) (omega arith)
+  high_stride j d v i e (ends h m) = high_at j d 23 r.lis i (omega arith) (omega arith)
   high_stride j d v i e (turns_up h b) = absurd ((f.high above).bb_set b)
   high_stride j d v i e (falls h b ne) = absurd (ne e)
-  high_stride j d v i e (holds h b k) = high-at j d 21 r.lis i (omega arith) (omega arith)
+  high_stride j d v i e (holds h b k) = high_at j d 21 r.lis i (omega arith) (omega arith)
 
 -- ---- in the front
 
-module _ (n l c p : ℕ) (r : Row) (f : FrontRow n l c p r) (in-front : p ≤ l) where
+module _ (n l c p : ℕ) (r : Row) (f : FrontRow n l c p r) (in_front : p ≤ l) where
   own : Low n l c r
-  own = f.low in-front
+  own = f.low in_front
 
   -- another place in the loop, and another lis
   low-at : (d v x : ℕ) → 21 ≤ v → v ≤ 24 → due n (with_location v (with_lis x r)) ≡ d
@@ -70,7 +70,7 @@ module _ (n l c p : ℕ) (r : Row) (f : FrontRow n l c p r) (in-front : p ≤ l)
       low-at d 22 r.est (omega arith) (omega arith) (omega (arith, own.due_is, left_21 r h))
   low_stride d v i k (looks x m h g) =
       low-at d r.location (without r.lis x) (omega arith) (omega arith)
-      (let fewer = size-without_in r.lis x m g in
+      (let fewer = size_without_in r.lis x m g in
       omega (arith, own.due_is, left_22 r h, left_22 (with_lis (without r.lis x) r) h))
   low_stride d v i k (ends h z) =
       low-at d 23 r.lis (omega arith) (omega arith)
@@ -131,17 +131,17 @@ module _ (n l c p : ℕ) (r : Row) (f : FrontRow n l c p r) (in-front : p ≤ l)
         high = λ k. absurd (omega arith);
       }
 
-  stride-left : (v : ℕ) {s : Row} → size r.lis ≤ n → Stride p v r s → (1 ≤ left r) × (left r ≤ n + 2)
-  stride-left v i (begins h) = (omega (arith, left_21 r h), omega (arith, left_21 r h, f.est_full))
-  stride-left v i (looks x m h g) = (omega (arith, left_22 r h), omega (arith, left_22 r h))
-  stride-left v i (ends h z) = (omega (arith, left_22 r h), omega (arith, left_22 r h))
-  stride-left v i (turns_up h b) = (omega (arith, left_23 r h), omega (arith, left_23 r h))
-  stride-left v i (falls h b ne) = (omega (arith, left_23 r h), omega (arith, left_23 r h))
-  stride-left v i (holds h b e) = (omega (arith, left_23 r h), omega (arith, left_23 r h))
+  stride_left : (v : ℕ) {s : Row} → size r.lis ≤ n → Stride p v r s → (1 ≤ left r) × (left r ≤ n + 2)
+  stride_left v i (begins h) = (omega (arith, left_21 r h), omega (arith, left_21 r h, f.est_full))
+  stride_left v i (looks x m h g) = (omega (arith, left_22 r h), omega (arith, left_22 r h))
+  stride_left v i (ends h z) = (omega (arith, left_22 r h), omega (arith, left_22 r h))
+  stride_left v i (turns_up h b) = (omega (arith, left_23 r h), omega (arith, left_23 r h))
+  stride_left v i (falls h b ne) = (omega (arith, left_23 r h), omega (arith, left_23 r h))
+  stride_left v i (holds h b e) = (omega (arith, left_23 r h), omega (arith, left_23 r h))
 
   pub stride_due : (v : ℕ) {s : Row} → size r.lis ≤ n → Stride p v r s → c ≢ n + 3
   stride_due v i x e = go (ℕ_discrete r.bb 0)
     where
       go : Dec (r.bb ≡ 0) → ⊥
-      go (yes z) = omega (arith, own.due_is, due_unset r n z, (stride-left v i x).0, e)
-      go (no s) = omega (arith, own.due_is, due_set r n s, (stride-left v i x).1, e)
+      go (yes z) = omega (arith, own.due_is, due_unset r n z, (stride_left v i x).0, e)
+      go (no s) = omega (arith, own.due_is, due_set r n s, (stride_left v i x).1, e)

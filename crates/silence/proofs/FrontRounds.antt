@@ -20,13 +20,13 @@ use Rattle.machine.specs.System.{assigned, turn_assigned}
 use Rattle.machine.specs.declared.Row.{Row}
 use Rattle.machine.proofs.TableLaws.{turn_free}
 use Rattle.machine.proofs.SoundRows.{sound-row, sound_few}
-use Rattle.machine.proofs.Assignments.{set_keeps_turns, turn_set_is, turn_set-others}
+use Rattle.machine.proofs.Assignments.{set_keeps_turns, turn_set_is, turn_set_others}
 use Rattle.machine.proofs.StepRows.{pushed_row}
-use Rattle.machine.proofs.RoundLaws.{Move, round-sound, round-length, by-moves}
+use Rattle.machine.proofs.RoundLaws.{Move, round-sound, round-length, by_moves}
 use Rattle.silence.proofs.Due.{phase}
 use Rattle.silence.proofs.Sweeps.{Swept, swept_none, swept_all, swept_set}
 use Rattle.silence.proofs.Front.{FrontRow, Front, front_turn, front_inside, front_unbroken}
-use Rattle.silence.proofs.Strides.{Stride, Advances, stride_turn, move-advances}
+use Rattle.silence.proofs.Strides.{Stride, Advances, stride_turn, move_advances}
 use Rattle.silence.proofs.Strides.Advances.{strides, push}
 use Rattle.silence.proofs.FrontMoves.{high_stride, low_stride, last_stride, low_push, pushed_low, stride_due}
 
@@ -43,19 +43,19 @@ record During (n l c j d p : ℕ) (t : Table) : Type 0 where
 -- ---- one move
 
 module _ (n l c : ℕ) where
-  next-due : {j d : ℕ} → Next n l c j d → 1 ≤ c
-  next-due (counts d e i) = omega arith
-  next-due (descends j e i) = omega arith
+  next_due : {j d : ℕ} → Next n l c j d → 1 ≤ c
+  next_due (counts d e i) = omega arith
+  next_due (descends j e i) = omega arith
 
   -- the row after a stride; v is turn[level]
-  next-stride : {j d p v : ℕ} {r s : Row}
+  next_stride : {j d p v : ℕ} {r s : Row}
       → Next n l c j d
       → FrontRow n l c p r
       → (l < p → v ≡ p)
       → (p ≤ l → c ≡ 1 → v ≡ l)
       → Stride p v r s
       → FrontRow n j d p s
-  next-stride {p = p} {v = v} {r = r} {s = s} next f above inside x = go next (dec_le p l)
+  next_stride {p = p} {v = v} {r = r} {s = s} next f above inside x = go next (dec_le p l)
     where
       go : {j d : ℕ} → Next n l c j d → Dec (p ≤ l) → FrontRow n j d p s
       go (counts d e i) (yes k) = low_stride n l c p r f k d v e i x
@@ -66,7 +66,7 @@ module _ (n l c : ℕ) where
           let k : l < p = omega (arith, nk) in high_stride n l c p r f k j (phase n) v (omega arith) (above k) x
 
   -- the row after a push
-  next-push : {j d p : ℕ} {r : Row} (t : Table)
+  next_push : {j d p : ℕ} {r : Row} (t : Table)
       → Next n l c j d
       → FrontRow n l c p r
       → p ≤ l
@@ -75,10 +75,10 @@ module _ (n l c : ℕ) where
       → n ≤ 16
       → p < n
       → FrontRow n j d p (pushed_row t p r)
-  next-push {p = p} {r = r} t (counts d e i) f k z size few m =
+  next_push {p = p} {r = r} t (counts d e i) f k z size few m =
       let two : n + 2 ≡ d = omega arith in
       subst (λ (x : ℕ). FrontRow n l x p (pushed_row t p r)) two (pushed_low n l c p r f k t size few m)
-  next-push t (descends j e i) f k z size few m = absurd (omega arith)
+  next_push t (descends j e i) f k z size few m = absurd (omega arith)
 
 module _ (n l c j d : ℕ) (some : 1 ≤ l) (next : Next n l c j d) (p : ℕ) (t : Table) (in-n : p < n)
     (size : length t ≡ n) (z : table_refusal t ≡ 0) (h : During n l c j d p t)
@@ -86,8 +86,8 @@ module _ (n l c j d : ℕ) (some : 1 ≤ l) (next : Next n l c j d) (p : ℕ) (t
     own : FrontRow n l c p (row t p)
     own = (h.rows p in-n).1 (omega arith)
 
-    in-t : p < length t
-    in-t = omega arith
+    in_t : p < length t
+    in_t = omega arith
 
     shown : (q : ℕ) → q < length t → (row t q).act ≡ 0 → ⊥
     shown q i = go (dec_lt q p)
@@ -102,11 +102,11 @@ module _ (n l c j d : ℕ) (some : 1 ≤ l) (next : Next n l c j d) (p : ℕ) (t
 
     strode : (s : Row) → Stride p (row t (row t p).level).turn (row t p) s → During n l c j d (suc p) (set t p s)
     strode s x =
-        let kept = set_keeps_turns t p in-t s (stride_turn x) in
+        let kept = set_keeps_turns t p in_t s (stride_turn x) in
         record {
           rows =
-              swept_set (FrontRow n l c) (FrontRow n j d) n t p s in-t h.rows
-              (next-stride n l c next own
+              swept_set (FrontRow n l c) (FrontRow n j d) n t p s in_t h.rows
+              (next_stride n l c next own
               (λ k. ap (λ (y : ℕ). (row t y).turn) (own.high k).level_is ∙ h.turns p k in-n)
               (λ k e.
               ap (λ (y : ℕ). (row t y).turn) (own.low k).level_is
@@ -120,7 +120,7 @@ module _ (n l c j d : ℕ) (some : 1 ≤ l) (next : Next n l c j d) (p : ℕ) (t
         before : c ≡ n + 3 → l < suc p → Dec (p ≤ l) → l < p
         before e k (yes i) =
             let few : n ≤ 16 = omega (arith, sound_few t z) in
-            let fits = subst (λ (m : ℕ). (row t p).lis < 2 ^ m) size (sound-row t z p in-t).lis_low in
+            let fits = subst (λ (m : ℕ). (row t p).lis < 2 ^ m) size (sound-row t z p in_t).lis_low in
             absurd (stride_due n l c p (row t p) own i _ (size_le (row t p).lis n fits few) x e)
         before e k (no ni) = omega (arith, ni)
 
@@ -128,26 +128,26 @@ module _ (n l c j d : ℕ) (some : 1 ≤ l) (next : Next n l c j d) (p : ℕ) (t
         → During n l c j d (suc p) (assigned (turn_assigned t (row t p).level p) p (pushed_row t p))
     pushed e =
         let few : n ≤ 16 = omega (arith, sound_few t z) in
-        let at-l = (own.low in-front).level_is in
+        let at-l = (own.low in_front).level_is in
         let k : ℕ = (row t p).level in
-        let low : k < length t = (sound-row t z p in-t).level_low in
+        let low : k < length t = (sound-row t z p in_t).level_low in
         let w = turn_assigned t k p in
         let u = assigned w p (pushed_row t p) in
         let in-w : p < length w = omega (arith, length-set t k (with_turn p (row t k))) in
-        let all-due : c ≡ n + 3 = low_push n l c p (row t p) own in-front (next-due n l c next) e in
-        let written = turn_set_is t k p low p in-t (pushed_row t p) (λ r. refl) (λ r. refl) in
-        let kept = turn_set-others t k p low p in-t (pushed_row t p) (λ r. refl) (λ r. refl) in
+        let all-due : c ≡ n + 3 = low_push n l c p (row t p) own in_front (next_due n l c next) e in
+        let written = turn_set_is t k p low p in_t (pushed_row t p) (λ r. refl) (λ r. refl) in
+        let kept = turn_set_others t k p low p in_t (pushed_row t p) (λ r. refl) (λ r. refl) in
         record {
           rows =
               swept_set (FrontRow n l c) (FrontRow n j d) n w p (pushed_row t p (row w p)) in-w
               (λ q i. (λ x. free q ((h.rows q i).0 x), λ x. free q ((h.rows q i).1 x)))
-              (next-push n l c t next (free p own) in-front all-due size few in-n);
+              (next_push n l c t next (free p own) in_front all-due size few in-n);
           turns = λ q i x. kept q (omega arith) ∙ h.turns q i x;
-          last_turn = λ i x. ap (λ (y : ℕ). (row u y).turn) (sym at-l) ∙ written ∙ omega (arith, in-front, x all-due);
+          last_turn = λ i x. ap (λ (y : ℕ). (row u y).turn) (sym at-l) ∙ written ∙ omega (arith, in_front, x all-due);
         }
       where
-        in-front : p ≤ l
-        in-front = go (dec_le p l)
+        in_front : p ≤ l
+        in_front = go (dec_le p l)
           where
             go : Dec (p ≤ l) → p ≤ l
             go (yes i) = i
@@ -158,14 +158,14 @@ module _ (n l c j d : ℕ) (some : 1 ≤ l) (next : Next n l c j d) (p : ℕ) (t
             → FrontRow n i b q (row (turn_assigned t (row t p).level p) q)
         free {i} {b} q = turn_free (FrontRow n i b q) t (row t p).level p q (λ r g. front_turn g p)
 
-    during-advance : {u : Table} → Advances t p u → During n l c j d (suc p) u
-    during-advance (strides s x) = strode s x
-    during-advance (push e) = pushed e
+    during_advance : {u : Table} → Advances t p u → During n l c j d (suc p) u
+    during_advance (strides s x) = strode s x
+    during_advance (push e) = pushed e
 
-    during-move : (u : Table) → Move t p u → During n l c j d (suc p) u
-    during-move u m =
+    during_move : (u : Table) → Move t p u → During n l c j d (suc p) u
+    during_move u m =
         let at = front_inside own in
-        during-advance (move-advances t p z in-t shown at.0 at.1 (high (dec_le p l)) (own.est_full ∙ sym size) m)
+        during_advance (move_advances t p z in_t shown at.0 at.1 (high (dec_le p l)) (own.est_full ∙ sym size) m)
 
 -- ---- one round
 
@@ -187,9 +187,9 @@ front_round n l c j d t some next f = go next after
     after : During n l c j d n (round t)
     after =
         subst (λ (m : ℕ). During n l c j d m (round t)) f.size_is
-        (by-moves t (λ p v. During n l c j d p v) f.sound (front_unbroken n l c t f)
+        (by_moves t (λ p v. During n l c j d p v) f.sound (front_unbroken n l c t f)
         (λ p v u i size z y ok m h.
-        during-move n l c j d some next p v (omega (arith, f.size_is)) (size ∙ f.size_is) z h u m)
+        during_move n l c j d some next p v (omega (arith, f.size_is)) (size ∙ f.size_is) z h u m)
         begun)
 
     sound_after : table_refusal (round t) ≡ 0

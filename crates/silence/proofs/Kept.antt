@@ -18,14 +18,14 @@ use Rattle.counting.proofs.SetLaws.{has-without, others_same}
 use Rattle.machine.specs.Tables.{Table, row, table_refusal, fresh, competes}
 use Rattle.machine.specs.Steps.{after_words}
 use Rattle.machine.specs.System.{Step}
-use Rattle.machine.specs.System.Step.{rests, comes, flickers_20, enters, starts-scan, wins, discards, keeps, ends_scan}
-use Rattle.machine.specs.System.Step.{lowers, to-push, waits, skips, flickers_24, pushes, exits, flickers_40, leaves}
+use Rattle.machine.specs.System.Step.{rests, comes, flickers_20, enters, starts_scan, wins, discards, keeps, ends_scan}
+use Rattle.machine.specs.System.Step.{lowers, to_push, waits, skips, flickers_24, pushes, exits, flickers_40, leaves}
 use Rattle.machine.specs.System.Step.{cancels}
 use Rattle.machine.specs.declared.Row.{Row}
 use Rattle.machine.proofs.SoundRows.{sound-row, sound_few, sound-accepted}
 use Rattle.machine.proofs.Soundness.{always}
 use Rattle.machine.proofs.Assignments.{competes_at}
-use Rattle.machine.proofs.StepRows.{stepRow, step-keeps-rows}
+use Rattle.machine.proofs.StepRows.{step_row, step_keeps-rows}
 use Rattle.machine.proofs.BbInside.{step_keeps_bb_inside}
 use Rattle.machine.proofs.FreshRows.{fresh-sound, fresh_rests}
 use Rattle.silence.proofs.Steady.{SteadyRow, Steady}
@@ -41,18 +41,18 @@ Others q r = competes r ≡ true → has r.est q ≡ false
 module _ (t : Table) (p : ℕ) (z : table_refusal t ≡ 0) (l : p < length t) (s : Steady t) where
   -- ---- who rests: only `leaves` arrives at 10
 
-  unseen : {u : Table} (x : Step t p u) → Unseen (stepRow t p x)
+  unseen : {u : Table} (x : Step t p u) → Unseen (step_row t p x)
   unseen (rests e) i = (s.rows p).rest_unseen i
   unseen (comes e) i = omega arith
   unseen (flickers_20 a e h) i = omega arith
   unseen (enters e) i = omega arith
-  unseen (starts-scan e h) i = omega arith
+  unseen (starts_scan e h) i = omega arith
   unseen (wins e h) i = omega arith
   unseen (discards q e h a) i = omega arith
   unseen (keeps q e h a) i = omega arith
   unseen (ends_scan e h) i = omega arith
   unseen (lowers e h) i = omega arith
-  unseen (to-push e h b) i = omega arith
+  unseen (to_push e h b) i = omega arith
   unseen (waits e h b v) i = omega arith
   unseen (skips e h b v) i = omega arith
   unseen (flickers_24 a e h) i = omega arith
@@ -73,36 +73,36 @@ module _ (t : Table) (p : ℕ) (z : table_refusal t ≡ 0) (l : p < length t) (s
       has-without (row t p).est x p (lt_of_lt_of_le l (sound_few t z))
       ∙ ap (λ (b : Bool). b && not (eqb p x)) h
 
-  others-only : {u : Table} (x : Step t p u) → Others p (stepRow t p x)
-  others-only (rests e) c = own-est c
-  others-only (comes e) c = absurd (false≢true c)
-  others-only (flickers_20 a e h) c = own-est c
-  others-only (enters e) c = others_same (length t) p
-  others-only (starts-scan e h) c = own-est (competes_at (row t p) 21 e)
-  others-only (wins e h) c = own-est (competes_at (row t p) 21 e)
-  others-only (discards q e h a) c = fewer q (own-est c)
-  others-only (keeps q e h a) c = own-est c
-  others-only (ends_scan e h) c = own-est (competes_at (row t p) 22 e)
-  others-only (lowers e h) c = own-est (competes_at (row t p) 23 e)
-  others-only (to-push e h b) c = own-est (competes_at (row t p) 23 e)
-  others-only (waits e h b v) c = own-est (competes_at (row t p) 23 e)
-  others-only (skips e h b v) c = own-est (competes_at (row t p) 23 e)
-  others-only (flickers_24 a e h) c = own-est c
-  others-only (pushes e) c = others_same (length t) p
-  others-only (exits e) c = absurd (false≢true c)
-  others-only (flickers_40 a e h) c = own-est c
-  others-only (leaves e) c = absurd (false≢true c)
-  others-only (cancels e) c = absurd (false≢true c)
+  others_only : {u : Table} (x : Step t p u) → Others p (step_row t p x)
+  others_only (rests e) c = own-est c
+  others_only (comes e) c = absurd (false≢true c)
+  others_only (flickers_20 a e h) c = own-est c
+  others_only (enters e) c = others_same (length t) p
+  others_only (starts_scan e h) c = own-est (competes_at (row t p) 21 e)
+  others_only (wins e h) c = own-est (competes_at (row t p) 21 e)
+  others_only (discards q e h a) c = fewer q (own-est c)
+  others_only (keeps q e h a) c = own-est c
+  others_only (ends_scan e h) c = own-est (competes_at (row t p) 22 e)
+  others_only (lowers e h) c = own-est (competes_at (row t p) 23 e)
+  others_only (to_push e h b) c = own-est (competes_at (row t p) 23 e)
+  others_only (waits e h b v) c = own-est (competes_at (row t p) 23 e)
+  others_only (skips e h b v) c = own-est (competes_at (row t p) 23 e)
+  others_only (flickers_24 a e h) c = own-est c
+  others_only (pushes e) c = others_same (length t) p
+  others_only (exits e) c = absurd (false≢true c)
+  others_only (flickers_40 a e h) c = own-est c
+  others_only (leaves e) c = absurd (false≢true c)
+  others_only (cancels e) c = absurd (false≢true c)
 
   -- ---- all rows
 
-  rows-after : {u : Table} → Step t p u → (q : ℕ) → SteadyRow q (row u q)
-  rows-after x q =
+  rows_after : {u : Table} → Step t p u → (q : ℕ) → SteadyRow q (row u q)
+  rows_after x q =
       let i = (sound-row t z p l).level_low in
       record {
         bb_inside = step_keeps_bb_inside t p z l (λ q. (s.rows q).bb_inside) x q;
-        rest_unseen = step-keeps-rows t p l i (λ q r. Unseen r) x (unseen x) (λ q ne. (s.rows q).rest_unseen) q;
-        est_others = step-keeps-rows t p l i Others x (others-only x) (λ q ne. (s.rows q).est_others) q;
+        rest_unseen = step_keeps-rows t p l i (λ q r. Unseen r) x (unseen x) (λ q ne. (s.rows q).rest_unseen) q;
+        est_others = step_keeps-rows t p l i Others x (others_only x) (λ q ne. (s.rows q).est_others) q;
       }
 
 pub step_keeps_steady : (t u : Table) (p : ℕ)
@@ -112,7 +112,7 @@ pub step_keeps_steady : (t u : Table) (p : ℕ)
     → Step t p u
     → Steady t
     → Steady u
-step_keeps_steady t u p z y l x s = record { sound = y; rows = rows-after t p z l s x }
+step_keeps_steady t u p z y l x s = record { sound = y; rows = rows_after t p z l s x }
 
 pub fresh_steady : (t : Table) → fresh t ≡ true → Steady t
 fresh_steady t h =

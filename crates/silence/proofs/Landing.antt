@@ -14,9 +14,9 @@ use Rattle.machine.specs.Rounds.{is_pending}
 use Rattle.machine.specs.declared.Row.{Row}
 use Rattle.machine.proofs.OneOfLaws.{one_of_at}
 use Rattle.machine.proofs.Assignments.{competes_at}
-use Rattle.machine.proofs.StepRows.{stepRow}
+use Rattle.machine.proofs.StepRows.{step_row}
 use Rattle.machine.proofs.RoundLaws.{Move, move_step}
-use Rattle.machine.proofs.RoundLaws.Move.{rests, enters, starts-scan, wins, discards, keeps, ends_scan, lowers, to-push}
+use Rattle.machine.proofs.RoundLaws.Move.{rests, enters, starts_scan, wins, discards, keeps, ends_scan, lowers, to_push}
 use Rattle.machine.proofs.RoundLaws.Move.{waits, skips, pushes, exits, leaves}
 use Rattle.silence.proofs.Steady.{quiet_places}
 
@@ -37,20 +37,20 @@ module _ (t : Table) (p : ℕ) where
 
   pub lands : {u : Table} (m : Move t p u)
       → ((row t p).location ≡ 30 → ⊥)
-      → Lands (row t p) (stepRow t p (move_step m))
+      → Lands (row t p) (step_row t p (move_step m))
   unfolding move_step
   lands (rests e) n = (
     one_of_at (row t p).location 10 (30 ∷ quiet_places) e refl,
     competes_at (row t p) 10 e ∙ pending-at 10 e,
   )
   lands (enters e) n = (refl, pending-at 20 e)
-  lands (starts-scan e h) n = (refl, pending-at 21 e)
+  lands (starts_scan e h) n = (refl, pending-at 21 e)
   lands (wins e h) n = (refl, pending-at 21 e)
   lands (discards e h a) n = looks e
   lands (keeps e h a) n = looks e
   lands (ends_scan e h) n = (refl, pending-at 22 e)
   lands (lowers e h) n = (refl, pending-at 23 e)
-  lands (to-push e h b) n = (refl, pending-at 23 e)
+  lands (to_push e h b) n = (refl, pending-at 23 e)
   lands (waits e h b v) n = (refl, pending-at 23 e)
   lands (skips e h b v) n = (refl, pending-at 23 e)
   lands (pushes e) n = (refl, pending-at 24 e)

@@ -31,30 +31,30 @@ module _ (t : Table) (h : fresh t ≡ true) where
   same_size : length come ≡ length t
   same_size = words_keep_length t (all_coming (length t))
 
-  come-sound : table_refusal come ≡ 0
-  come-sound = words_keep_sound t (all_coming (length t)) (sound-accepted t (fresh-sound t h))
+  come_sound : table_refusal come ≡ 0
+  come_sound = words_keep_sound t (all_coming (length t)) (sound-accepted t (fresh-sound t h))
 
-  at-20 : (q : ℕ) → q < length come → (row come q).location ≡ 20
-  at-20 q l = (all_come t h q (omega (arith, same_size))).0
+  at_20 : (q : ℕ) → q < length come → (row come q).location ≡ 20
+  at_20 q l = (all_come t h q (omega (arith, same_size))).0
 
   pub come_silent : critical come ≡ 0
   come_silent =
       count_none (λ q. is_critical (row come q)) (length come)
-      (λ q l. ne_eqb (row come q).location 30 (λ i. omega (arith, at-20 q l, i)))
+      (λ q l. ne_eqb (row come q).location 30 (λ i. omega (arith, at_20 q l, i)))
 
   pub come_pending : 1 ≤ pending come
   come_pending =
-      let first : 0 < length come = omega (arith, (sound_rows come come-sound).0) in
+      let first : 0 < length come = omega (arith, (sound_rows come come_sound).0) in
       count_pos (λ q. is_pending (row come q)) (length come) 0 first
-      (ap (λ (v : ℕ). leb 20 v && leb v 24) (at-20 0 first))
+      (ap (λ (v : ℕ). leb 20 v && leb v 24) (at_20 0 first))
 
   pub come_unbroken : Unbroken come
-  come_unbroken = came_unbroken come come-sound (λ q l. all_come t h q (omega (arith, same_size)))
+  come_unbroken = came_unbroken come come_sound (λ q l. all_come t h q (omega (arith, same_size)))
 
   pub come_first : First (silence_bound (length t)) come
   come_first =
       let k : ℕ = length t - 1 in
-      let e : length t ≡ suc k = omega (arith, same_size, (sound_rows come come-sound).0) in
-      let begins = front_begins k come come-sound (same_size ∙ e) (λ q l. all_come t h q (omega arith)) in
+      let e : length t ≡ suc k = omega (arith, same_size, (sound_rows come come_sound).0) in
+      let begins = front_begins k come come_sound (same_size ∙ e) (λ q l. all_come t h q (omega arith)) in
       subst (λ (x : ℕ). First x come) (bound_is k ∙ ap silence_bound (sym e))
       (first_later _ come come_silent (front_arrives (suc k) k (round come) begins))

@@ -16,7 +16,7 @@ use Rattle.machine.specs.Tables.{Table, row, one_of, table_refusal, competes}
 use Rattle.machine.specs.Rounds.{is_pending}
 use Rattle.machine.specs.declared.Row.{Row}
 use Rattle.machine.proofs.OneOfLaws.{by_test}
-use Rattle.machine.proofs.StepRows.{stepRow, step-becomes, step-keeps-rows}
+use Rattle.machine.proofs.StepRows.{step_row, step_becomes, step_keeps-rows}
 use Rattle.machine.proofs.RoundLaws.{Move, move_step}
 use Rattle.silence.proofs.Steady.{quiet_places, Quiet}
 use Rattle.silence.proofs.Kept.{step_keeps_steady}
@@ -39,9 +39,9 @@ module _ (n : ℕ) (t : Table) (p : ℕ) (l : p < n) (h : Quiet n t) where
       (by_test (λ v. beq (leb 20 v && leb v 24) (leb 21 v && leb v 30)) (row t p).location quiet_places refl
       (h.places p l))
 
-  onward : {u : Table} (m : Move t p u) → Onward (row t p) (stepRow t p (move_step m))
+  onward : {u : Table} (m : Move t p u) → Onward (row t p) (step_row t p (move_step m))
   onward m =
-      let v = (stepRow t p (move_step m)).location in
+      let v = (step_row t p (move_step m)).location in
       let a = lands t p m (λ e. quiet_never n t h p 30 l e refl) in
       ⊎_elim (λ e. inl (eqb-true _ _ e)) (λ e. inr (e, a.1 ∙ pending-competes))
       (or_cases (eqb v 30) (one_of v quiet_places) a.0)
@@ -53,24 +53,24 @@ module _ (C : ℕ → Bool) (n : ℕ) (t u : Table) (p : ℕ) (l : p < n) (a : A
       h : Quiet n t
       h = a.quiet
 
-      in-t : p < length t
-      in-t = quiet_in n t h p l
+      in_t : p < length t
+      in_t = quiet_in n t h p l
 
       i : (row t p).level < length t
       i = quiet_level n t h p l
 
-      go : Onward (row t p) (stepRow t p (move_step m)) → ((row u p).location ≡ 30) ⊎ Among C n u
-      go (inl e) = inl (ap (λ (r : Row). r.location) (step-becomes t p in-t i (move_step m)).own ∙ e)
+      go : Onward (row t p) (step_row t p (move_step m)) → ((row u p).location ≡ 30) ⊎ Among C n u
+      go (inl e) = inl (ap (λ (r : Row). r.location) (step_becomes t p in_t i (move_step m)).own ∙ e)
       go (inr (o, d)) =
-          let same = step-keeps-rows t p in-t i (λ q r. competes r ≡ C q) (move_step m) (d ∙ a.competing p)
+          let same = step_keeps-rows t p in_t i (λ q r. competes r ≡ C q) (move_step m) (d ∙ a.competing p)
           (λ q ne. a.competing q) in
-          let places = step-keeps-rows t p in-t i (λ q r. q < n → one_of r.location quiet_places ≡ true)
+          let places = step_keeps-rows t p in_t i (λ q r. q < n → one_of r.location quiet_places ≡ true)
           (move_step m) (λ k. o) (λ q ne. h.places q) in
           let one = h.somebody in
           let quiet : Quiet n u =
           record {
-            steady = step_keeps_steady t u p h.steady.sound y in-t (move_step m) h.steady;
-            size_is = (step-becomes t p in-t i (move_step m)).same_size ∙ h.size_is;
+            steady = step_keeps_steady t u p h.steady.sound y in_t (move_step m) h.steady;
+            size_is = (step_becomes t p in_t i (move_step m)).same_size ∙ h.size_is;
             places = places;
             somebody = (one.0, same one.0 ∙ sym (a.competing one.0) ∙ one.1);
           } in

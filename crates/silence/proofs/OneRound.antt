@@ -17,12 +17,12 @@ use Rattle.machine.specs.Census.{critical}
 use Rattle.machine.specs.Steps.{refusal_of}
 use Rattle.machine.specs.Rounds.{round_word, round}
 use Rattle.machine.proofs.Frames.{step_others}
-use Rattle.machine.proofs.RoundLaws.{Move, move_step, by-moves, round-length}
+use Rattle.machine.proofs.RoundLaws.{Move, move_step, by_moves, round-length}
 use Rattle.silence.proofs.QuietLaws.{quiet_within, quiet_never, quiet_unbroken}
 use Rattle.silence.proofs.Pace.{pace, pace_first, pace_last, pace_spends}
 use Rattle.silence.proofs.Moving.{Among, quiet_moves}
 use Rattle.silence.proofs.OnTime.{OnTime, on_time, on_time_mono}
-use Rattle.silence.proofs.Schedule.{moved-on-time}
+use Rattle.silence.proofs.Schedule.{moved_on_time}
 use Rattle.silence.proofs.Down.{Down, AllDown}
 use Rattle.silence.proofs.Stale.{moved_down}
 use Rattle.silence.proofs.LastRound.{critical_at}
@@ -34,11 +34,11 @@ pub record Goes (C : ℕ → Bool) (n : ℕ) (t : Table) (f : ℕ → ℕ → �
 
 module _ (C : ℕ → Bool) (n : ℕ) (t : Table) where
   -- as many rounds, in another form
-  goes-cong : (f g : ℕ → ℕ → ℕ) (v : Table)
+  goes_cong : (f g : ℕ → ℕ → ℕ) (v : Table)
       → ((j q : ℕ) → q < n → f j q ≡ g j q)
       → Goes C n t f v
       → Goes C n t g v
-  goes-cong f g v e h =
+  goes_cong f g v e h =
       record {
         among = h.among;
         on_time_lem = λ k j.
@@ -54,10 +54,10 @@ module _ (C : ℕ → Bool) (n : ℕ) (t : Table) where
   abbrev After : ℕ → Table → Type 0
   After p v = ((i : ℕ) × (i < p) × ((row v i).location ≡ 30)) ⊎ Goes C n t (λ j. pace j p) v
 
-  move-goes-on : (p : ℕ) (v u : Table) → p < n → table_refusal u ≡ 0 → Move v p u → After p v → After (suc p) u
-  move-goes-on p v u l y m (inl (i, k, e)) =
+  move_goes_on : (p : ℕ) (v u : Table) → p < n → table_refusal u ≡ 0 → Move v p u → After p v → After (suc p) u
+  move_goes_on p v u l y m (inl (i, k, e)) =
       inl (i, omega arith, (step_others v u p i (move_step m) (λ z. omega arith)).location_same ∙ e)
-  move-goes-on p v u l y m (inr h) = go (quiet_moves C n v u p l h.among m y)
+  move_goes_on p v u l y m (inr h) = go (quiet_moves C n v u p l h.among m y)
     where
       go : ((row u p).location ≡ 30) ⊎ Among C n u → After (suc p) u
       go (inl e) = inl (p, omega arith, e)
@@ -68,20 +68,20 @@ module _ (C : ℕ → Bool) (n : ℕ) (t : Table) where
             among = b;
             on_time_lem = λ k j.
                 le_trans (h.on_time_lem k j)
-                (moved-on-time n v p l h.among.quiet k j (pace j p) (pace j (suc p)) (pace_spends j p) on m);
+                (moved_on_time n v p l h.among.quiet k j (pace j p) (pace j (suc p)) (pace_spends j p) on m);
             down = λ j d.
                 moved_down C n v u p j (pace j p) (pace j (suc p)) (pace_spends j p) l h.among on m (h.down j d);
           })
 
   pub round_goes_on : Among C n t → (1 ≤ critical (round t)) ⊎ Goes C n t (λ j q. j) (round t)
-  round_goes_on a = go (by-moves t After a.quiet.steady.sound (quiet_unbroken n t a.quiet) each (inr start))
+  round_goes_on a = go (by_moves t After a.quiet.steady.sound (quiet_unbroken n t a.quiet) each (inr start))
     where
       size_is : length t ≡ n
       size_is = a.quiet.size_is
 
       start : Goes C n t (λ j. pace j 0) t
       start =
-          goes-cong (λ j q. suc j) (λ j. pace j 0) t (λ j q l. sym (pace_first j q))
+          goes_cong (λ j q. suc j) (λ j. pace j 0) t (λ j q l. sym (pace_first j q))
           (record { among = a; on_time_lem = λ k j. le_refl _; down = λ j d. d })
 
       each : (p : ℕ) (v u : Table)
@@ -93,9 +93,9 @@ module _ (C : ℕ → Bool) (n : ℕ) (t : Table) where
           → Move v p u
           → After p v
           → After (suc p) u
-      each p v u l e z y ok m h = move-goes-on p v u (omega arith) y m h
+      each p v u l e z y ok m h = move_goes_on p v u (omega arith) y m h
 
       go : After (length t) (round t) → (1 ≤ critical (round t)) ⊎ Goes C n t (λ j q. j) (round t)
       go (inl (i, l, e)) = inl (critical_at (round t) i (omega (arith, round-length t)) e)
       go (inr h) =
-          inr (goes-cong (λ j. pace j (length t)) (λ j q. j) (round t) (λ j q l. pace_last j _ q (omega arith)) h)
+          inr (goes_cong (λ j. pace j (length t)) (λ j q. j) (round t) (λ j q l. pace_last j _ q (omega arith)) h)

@@ -23,32 +23,32 @@ abbrev pub pace : ℕ → ℕ → ℕ → ℕ
 pace j p q = cond (ltb q p) j (suc j)
 
 module _ (j : ℕ) where
-  pace-moved : (p q : ℕ) → q < p → pace j p q ≡ j
-  pace-moved p q h = ap (λ (b : Bool). cond b j (suc j)) (lt-ltb q p h)
+  pace_moved : (p q : ℕ) → q < p → pace j p q ≡ j
+  pace_moved p q h = ap (λ (b : Bool). cond b j (suc j)) (lt-ltb q p h)
 
-  pace-waits : (p q : ℕ) → p ≤ q → pace j p q ≡ suc j
-  pace-waits p q h = ap (λ (b : Bool). cond b j (suc j)) (le-ltb q p h)
+  pace_waits : (p q : ℕ) → p ≤ q → pace j p q ≡ suc j
+  pace_waits p q h = ap (λ (b : Bool). cond b j (suc j)) (le-ltb q p h)
 
   pub pace_first : (q : ℕ) → pace j 0 q ≡ suc j
-  pace_first q = pace-waits 0 q (omega arith)
+  pace_first q = pace_waits 0 q (omega arith)
 
   pub pace_last : (n q : ℕ) → q < n → pace j n q ≡ j
-  pace_last = pace-moved
+  pace_last = pace_moved
 
   pub pace_spends : (p : ℕ) → Spends p j (pace j p) (pace j (suc p))
   pace_spends p =
       record {
-        before = pace-waits p p (omega arith);
-        after = pace-moved (suc p) p (omega arith);
+        before = pace_waits p p (omega arith);
+        after = pace_moved (suc p) p (omega arith);
         same = λ q ne. same q ne (dec_lt q p);
         least = λ q. least q (dec_lt q p);
       }
     where
       same : (q : ℕ) → (q ≡ p → ⊥) → Dec (q < p) → pace j (suc p) q ≡ pace j p q
-      same q ne (yes h) = omega (arith, pace-moved (suc p) q (omega arith), pace-moved p q h)
+      same q ne (yes h) = omega (arith, pace_moved (suc p) q (omega arith), pace_moved p q h)
       same q ne (no nh) =
-          omega (arith, pace-waits (suc p) q (omega (arith, ne, nh)), pace-waits p q (omega (arith, nh)))
+          omega (arith, pace_waits (suc p) q (omega (arith, ne, nh)), pace_waits p q (omega (arith, nh)))
 
       least : (q : ℕ) → Dec (q < p) → j ≤ pace j p q
-      least q (yes h) = omega (arith, pace-moved p q h)
-      least q (no nh) = omega (arith, pace-waits p q (omega (arith, nh)))
+      least q (yes h) = omega (arith, pace_moved p q h)
+      least q (no nh) = omega (arith, pace_waits p q (omega (arith, nh)))

@@ -7,9 +7,9 @@
 --   quiet_unbroken             so nobody is at 20, and a round is unbroken
 --   quiet_waits, quiet_last    who competes is at 21 to 24, and with level 0 at 21
 --   quiet_seen                 who shows act competes
---   est-fits                   est of one who competes has at most n - 1 members
---   left-most                  n + 2 moves at most are left until the decision at 23
---   due-most, due-some         at most a phase is due, and at least one move
+--   est_fits                   est of one who competes has at most n - 1 members
+--   left_most                  n + 2 moves at most are left until the decision at 23
+--   due_most, due_some         at most a phase is due, and at least one move
 --   look_left, push_left       a look is one move of those left, and after a push at most n + 2 are left again
 --
 -- Assumes nothing.
@@ -25,7 +25,7 @@ use borrow.Author.Tests.{eqb-true}
 use Rattle.counting.specs.Sets.{has, size, without, lowest}
 use Rattle.counting.proofs.TestLaws.{or_cases}
 use Rattle.counting.proofs.CountLaws.{count_all}
-use Rattle.counting.proofs.SizeLaws.{size_le, size_under, size-without_in, size-others}
+use Rattle.counting.proofs.SizeLaws.{size_le, size_under, size_without_in, size-others}
 use Rattle.counting.proofs.SetLaws.{member_below}
 use Rattle.machine.specs.Rows.{with_est, with_lis}
 use Rattle.machine.specs.Tables.{Table, row, one_of, competes}
@@ -106,38 +106,38 @@ module _ (n : ℕ) (t : Table) (h : Quiet n t) where
 
   module _ (q : ℕ) (c : competes (row t q) ≡ true) where
     -- q is not in its own est
-    pub est-fits : size (row t q).est + 1 ≤ n
-    est-fits =
+    pub est_fits : size (row t q).est + 1 ≤ n
+    est_fits =
         let l = quiet_within q c in
         let fewer = size_under (row t q).est n q (λ x. true) (quiet-sound q l).est_low quiet_few l
         ((h.steady.rows q).est_others c) (λ x i m. refl) refl in
         let all = count_all (λ x. true) n (λ x i. refl) in
         omega arith
 
-    pub left-most : left (row t q) ≤ n + 2
-    left-most =
+    pub left_most : left (row t q) ≤ n + 2
+    left_most =
         by_one (row t q).location waiting_places (
-          (λ e. omega (arith, left_21 (row t q) e, est-fits)),
+          (λ e. omega (arith, left_21 (row t q) e, est_fits)),
           (
-            (λ e. omega (arith, left_22 (row t q) e, lis-fits)),
+            (λ e. omega (arith, left_22 (row t q) e, lis_fits)),
             ((λ e. omega (arith, left_23 (row t q) e)), ((λ e. omega (arith, left_24 (row t q) e)), tt)),
           ),
         )
         (quiet_waits q c)
       where
-        lis-fits : size (row t q).lis ≤ n
-        lis-fits = size_le (row t q).lis n (quiet-sound q (quiet_within q c)).lis_low quiet_few
+        lis_fits : size (row t q).lis ≤ n
+        lis_fits = size_le (row t q).lis n (quiet-sound q (quiet_within q c)).lis_low quiet_few
 
-    pub due-most : due n (row t q) ≤ phase n
-    due-most = go (ℕ_discrete (row t q).bb 0)
+    pub due_most : due n (row t q) ≤ phase n
+    due_most = go (ℕ_discrete (row t q).bb 0)
       where
         go : Dec ((row t q).bb ≡ 0) → due n (row t q) ≤ phase n
-        go (yes z) = omega (arith, due_unset (row t q) n z, left-most)
-        go (no nz) = omega (arith, due_set (row t q) n nz, left-most)
+        go (yes z) = omega (arith, due_unset (row t q) n z, left_most)
+        go (no nz) = omega (arith, due_set (row t q) n nz, left_most)
 
     -- at 24 bb is 0
-    pub due-some : 1 ≤ due n (row t q)
-    due-some = go (ℕ_discrete (row t q).bb 0)
+    pub due_some : 1 ≤ due n (row t q)
+    due_some = go (ℕ_discrete (row t q).bb 0)
       where
         go : Dec ((row t q).bb ≡ 0) → 1 ≤ due n (row t q)
         go (yes z) = omega (arith, due_unset (row t q) n z)
@@ -155,7 +155,7 @@ module _ (n : ℕ) (t : Table) (h : Quiet n t) where
   look_left p l e m a =
       let x = lowest (row t p).lis in
       let low = member_below (row t p).lis n x (quiet-sound p l).lis_low m in
-      let fewer = size-without_in (row t p).lis x (omega (arith, quiet_few)) m in
+      let fewer = size_without_in (row t p).lis x (omega (arith, quiet_few)) m in
       let s = with_est a (with_lis (without (row t p).lis x) (row t p)) in
       omega (arith, left_22 (row t p) e, left_22 s e)
 

@@ -1,9 +1,9 @@
 -- A move in a quiet table keeps as many processes on time: the one that moves has one round less afterwards.
 --
 --   paced, dropped       a row one move nearer to its decision, and one with a lower level
---   alone-on-time        a move that does not write turn[k]
---   pushed-on-time       GO at 24, which may write it: then another process is no longer held back there, but p is
---   moved-on-time        every move
+--   alone_on_time        a move that does not write turn[k]
+--   pushed_on_time       GO at 24, which may write it: then another process is no longer held back there, but p is
+--   moved_on_time        every move
 --
 -- Assumes nothing.
 use Prim.Native.Nat.{ℕ, suc, ◌+◌, ◌≤◌, ◌<◌}
@@ -20,18 +20,18 @@ use Rattle.machine.specs.Tables.{Table, row, competes}
 use Rattle.machine.specs.declared.Row.{Row}
 use Rattle.machine.proofs.TableLaws.{row_same}
 use Rattle.machine.proofs.Assignments.{Becomes, TurnsKeptBut, other_rows_keep, set_becomes, set_keeps_turns}
-use Rattle.machine.proofs.Assignments.{turn_set_becomes, turn_set_is, turn_set-others, competes_at}
+use Rattle.machine.proofs.Assignments.{turn_set_becomes, turn_set_is, turn_set_others, competes_at}
 use Rattle.machine.proofs.StepRows.{pushed_row}
 use Rattle.machine.proofs.RoundLaws.{Move}
-use Rattle.machine.proofs.RoundLaws.Move.{rests, enters, starts-scan, wins, discards, keeps, ends_scan, lowers, to-push}
+use Rattle.machine.proofs.RoundLaws.Move.{rests, enters, starts_scan, wins, discards, keeps, ends_scan, lowers, to_push}
 use Rattle.machine.proofs.RoundLaws.Move.{waits, skips, pushes, exits, leaves}
 use Rattle.silence.proofs.Steady.{Quiet}
 use Rattle.silence.proofs.Due.{left, due}
 use Rattle.silence.proofs.DueLaws.{left_21, left_22, left_23, due_set, due_unset, due_falls}
-use Rattle.silence.proofs.QuietLaws.{quiet_in, quiet_level, quiet-sound, quiet_never, left-most, look_left}
+use Rattle.silence.proofs.QuietLaws.{quiet_in, quiet_level, quiet-sound, quiet_never, left_most, look_left}
 use Rattle.silence.proofs.QuietLaws.{push_left}
 use Rattle.silence.proofs.Pace.{Spends}
-use Rattle.silence.proofs.OnTime.{Leaving, OnTime, isOnTime, on_time, on_time_of_test, test_of_on_time}
+use Rattle.silence.proofs.OnTime.{Leaving, OnTime, is_on_time, on_time, on_time_of_test, test_of_on_time}
 use Rattle.silence.proofs.OnTime.{on_time_mono}
 
 -- ---- two rows
@@ -61,21 +61,21 @@ module _ (n : ℕ) (t : Table) (p : ℕ) (l : p < n) (h : Quiet n t) (k j : ℕ)
     abbrev v : ℕ
     v = (row t k).turn
 
-    in-t : p < length t
-    in-t = quiet_in n t h p l
+    in_t : p < length t
+    in_t = quiet_in n t h p l
 
     -- another process is on time, where turn[k] holds x, unless it was held back and is no longer
-    other-on-time : (x q : ℕ)
+    other_on_time : (x q : ℕ)
         → (q ≡ p → ⊥)
         → (competes (row t q) ≡ true → ((row t q).bb ≡ 0 → ⊥) → v ≡ q → Leaving n x (g q) q (row t q))
         → OnTime n v k (f q) q (row t q)
         → OnTime n x k (g q) q (row t q)
-    other-on-time x q ne held (c, inl i) = (c, inl i)
-    other-on-time x q ne held (c, inr (i, inl d)) = (c, inr (i, inl (omega (arith, spends.same q ne))))
-    other-on-time x q ne held (c, inr (i, inr (b, z))) = (c, inr (i, held c b z))
+    other_on_time x q ne held (c, inl i) = (c, inl i)
+    other_on_time x q ne held (c, inr (i, inl d)) = (c, inr (i, inl (omega (arith, spends.same q ne))))
+    other_on_time x q ne held (c, inr (i, inr (b, z))) = (c, inr (i, held c b z))
 
     -- the row of p becomes s, and everybody is on time still
-    rows-on-time : (u : Table) (s : Row)
+    rows_on_time : (u : Table) (s : Row)
         → Becomes t p (λ r. r) s u
         → (OnTime n v k (suc j) p (row t p) → OnTime n (row u k).turn k j p s)
         → ((q : ℕ)
@@ -85,46 +85,46 @@ module _ (n : ℕ) (t : Table) (p : ℕ) (l : p < n) (h : Quiet n t) (k j : ℕ)
         → v ≡ q
         → Leaving n (row u k).turn (g q) q (row t q))
         → on_time n t k f ≤ on_time n u k g
-    rows-on-time u s b own held =
+    rows_on_time u s b own held =
         on_time_mono n t u k f g
         (λ q i.
         other_rows_keep (λ q r. OnTime n v k (f q) q (row t q) → OnTime n (row u k).turn k (g q) q r) b
         (λ o.
         subst (λ (x : ℕ). OnTime n (row u k).turn k x p s) (sym spends.after)
         (own (subst (λ (x : ℕ). OnTime n v k x p (row t p)) spends.before o)))
-        (λ q ne. other-on-time (row u k).turn q ne (held q ne))
+        (λ q ne. other_on_time (row u k).turn q ne (held q ne))
         q)
 
     -- turn[k] is kept
-    alone-on-time : (u : Table) (s : Row)
+    alone_on_time : (u : Table) (s : Row)
         → Becomes t p (λ r. r) s u
         → (row u k).turn ≡ v
         → (OnTime n v k (suc j) p (row t p) → OnTime n v k j p s)
         → on_time n t k f ≤ on_time n u k g
-    alone-on-time u s b e own =
-        rows-on-time u s b (λ o. subst (λ (x : ℕ). OnTime n x k j p s) (sym e) (own o)) (λ q ne c m z. inr (m, e ∙ z))
+    alone_on_time u s b e own =
+        rows_on_time u s b (λ o. subst (λ (x : ℕ). OnTime n x k j p s) (sym e) (own o)) (λ q ne c m z. inr (m, e ∙ z))
 
-    set-on-time : (s : Row)
+    set_on_time : (s : Row)
         → s.turn ≡ (row t p).turn
         → (OnTime n v k (suc j) p (row t p) → OnTime n v k j p s)
         → on_time n t k f ≤ on_time n (set t p s) k g
-    set-on-time s e = alone-on-time (set t p s) s (set_becomes t p in-t s) (set_keeps_turns t p in-t s e k)
+    set_on_time s e = alone_on_time (set t p s) s (set_becomes t p in_t s) (set_keeps_turns t p in_t s e k)
 
-    set-paced : (s : Row)
+    set_paced : (s : Row)
         → s.turn ≡ (row t p).turn
         → competes s ≡ true
         → s.level ≡ (row t p).level
         → s.bb ≡ (row t p).bb
         → left s + 1 ≤ left (row t p)
         → on_time n t k f ≤ on_time n (set t p s) k g
-    set-paced s e c i b m = set-on-time s e (paced n v k j p (row t p) s c i b m)
+    set_paced s e c i b m = set_on_time s e (paced n v k j p (row t p) s c i b m)
 
-    set-dropped : (s : Row)
+    set_dropped : (s : Row)
         → s.turn ≡ (row t p).turn
         → competes s ≡ true
         → s.level < (row t p).level
         → on_time n t k f ≤ on_time n (set t p s) k g
-    set-dropped s e c i = set-on-time s e (dropped n v k j p (row t p) s c i)
+    set_dropped s e c i = set_on_time s e (dropped n v k j p (row t p) s c i)
 
     -- ---- GO at 24
 
@@ -133,33 +133,33 @@ module _ (n : ℕ) (t : Table) (p : ℕ) (l : p < n) (h : Quiet n t) (k j : ℕ)
         (kept : TurnsKeptBut (row t p).level t u) (own : (row u (row t p).level).turn ≡ p)
       where
         -- another scan, with bb set
-        scan-due : due n (pushed_row t p (row t p)) ≤ n + 2
-        scan-due = omega (arith, push_left n t h p l)
+        scan_due : due n (pushed_row t p (row t p)) ≤ n + 2
+        scan_due = omega (arith, push_left n t h p l)
 
         -- at another level turn[k] is kept
-        pushed-elsewhere : (k ≡ (row t p).level → ⊥) → on_time n t k f ≤ on_time n u k g
-        pushed-elsewhere ne = alone-on-time u _ b (kept k ne) go
+        pushed_elsewhere : (k ≡ (row t p).level → ⊥) → on_time n t k f ≤ on_time n u k g
+        pushed_elsewhere ne = alone_on_time u _ b (kept k ne) go
           where
             go : OnTime n v k (suc j) p (row t p) → OnTime n v k j p (pushed_row t p (row t p))
             go (c, inl i) = (refl, inl i)
             go (c, inr (i, _)) = absurd (ne (sym i))
 
         -- with so many rounds left nobody needs turn[k] to be counted
-        pushed-early : n + 3 ≤ suc j → k ≡ (row t p).level → on_time n t k f ≤ on_time n u k g
-        pushed-early many i =
-            rows-on-time u _ b (λ o. (refl, inr (sym i, inl (omega (arith, scan-due)))))
+        pushed_early : n + 3 ≤ suc j → k ≡ (row t p).level → on_time n t k f ≤ on_time n u k g
+        pushed_early many i =
+            rows_on_time u _ b (λ o. (refl, inr (sym i, inl (omega (arith, scan_due)))))
             (λ q ne c m z.
-            let last = left-most n t h q c in
+            let last = left_most n t h q c in
             inl (omega (arith, due_set (row t q) n m, spends.same q ne, spends.least q)))
 
         -- p is counted for turn[k] from now on, and in its place one other no longer is
-        pushed-late : suc j < n + 3 → k ≡ (row t p).level → on_time n t k f ≤ on_time n u k g
-        pushed-late few i =
-            count_swap (λ q. isOnTime n v k (f q) q (row t q)) (λ q. isOnTime n x k (g q) q (row u q)) n p v
+        pushed_late : suc j < n + 3 → k ≡ (row t p).level → on_time n t k f ≤ on_time n u k g
+        pushed_late few i =
+            count_swap (λ q. is_on_time n v k (f q) q (row t q)) (λ q. is_on_time n x k (g q) q (row u q)) n p v
             (λ q in-n nv o.
             test_of_on_time n x k (g q) q (row u q)
             (other_rows_keep (λ q r. (q ≡ v → ⊥) → OnTime n v k (f q) q (row t q) → OnTime n x k (g q) q r) b
-            (λ nv o. held) (λ q ne nv. other-on-time x q ne (λ c m z. absurd (nv (sym z))))
+            (λ nv o. held) (λ q ne nv. other_on_time x q ne (λ c m z. absurd (nv (sym z))))
             q nv (on_time_of_test n v k (f q) q (row t q) o)))
             l
             (test_of_on_time n x k (g p) p (row u p) (subst (OnTime n x k (g p) p) (sym b.own) held))
@@ -172,56 +172,56 @@ module _ (n : ℕ) (t : Table) (p : ℕ) (l : p < n) (h : Quiet n t) (k j : ℕ)
             held = (refl, inr (sym i, inr ((λ z. omega arith), ap (λ (y : ℕ). (row u y).turn) i ∙ own)))
 
             -- bb is 0 at 24, and a whole scan is to come
-            bb-none : ((row t p).bb ≡ 0 → ⊥) → ⊥
-            bb-none m = omega (arith, ((h.steady.rows p).bb_inside m).1)
+            bb_none : ((row t p).bb ≡ 0 → ⊥) → ⊥
+            bb_none m = omega (arith, ((h.steady.rows p).bb_inside m).1)
 
             out : OnTime n v k (f p) p (row t p) → ⊥
             out (c, inl m) = omega arith
-            out (c, inr (_, inr (m, z))) = bb-none m
-            out (c, inr (_, inl d)) = bb-none (λ z. omega (arith, due_unset (row t p) n z, spends.before))
+            out (c, inr (_, inr (m, z))) = bb_none m
+            out (c, inr (_, inl d)) = bb_none (λ z. omega (arith, due_unset (row t p) n z, spends.before))
 
-        pushed-on-time : on_time n t k f ≤ on_time n u k g
-        pushed-on-time = go (ℕ_discrete k (row t p).level) (dec_lt (suc j) (n + 3))
+        pushed_on_time : on_time n t k f ≤ on_time n u k g
+        pushed_on_time = go (ℕ_discrete k (row t p).level) (dec_lt (suc j) (n + 3))
           where
             go : Dec (k ≡ (row t p).level) → Dec (suc j < n + 3) → on_time n t k f ≤ on_time n u k g
-            go (no ne) d = pushed-elsewhere ne
-            go (yes i) (yes few) = pushed-late few i
-            go (yes i) (no many) = pushed-early (omega (arith, many)) i
+            go (no ne) d = pushed_elsewhere ne
+            go (yes i) (yes few) = pushed_late few i
+            go (yes i) (no many) = pushed_early (omega (arith, many)) i
 
     -- ---- every move
 
-    pub moved-on-time : {u : Table}
+    pub moved_on_time : {u : Table}
         → ((row u p).location ≡ 30 → ⊥)
         → Move t p u
         → on_time n t k f ≤ on_time n u k g
-    moved-on-time on (rests e) =
-        alone-on-time t (row t p) (record { same_size = refl; own = refl; other = λ q ne. refl }) refl
+    moved_on_time on (rests e) =
+        alone_on_time t (row t p) (record { same_size = refl; own = refl; other = λ q ne. refl }) refl
         (λ o. absurd (false≢true (sym (competes_at (row t p) 10 e) ∙ o.0)))
-    moved-on-time on (enters e) = absurd (quiet_never n t h p 20 l e refl)
-    moved-on-time on (starts-scan e i) =
-        set-paced _ refl refl refl refl (omega (arith, left_21 (row t p) e))
-    moved-on-time on (wins e i) = absurd (on (ap (λ (r : Row). r.location) (row_same t p _ in-t)))
-    moved-on-time on (discards e m a) =
-        set-paced _ refl (competes_at (row t p) 22 e) refl refl (look_left n t h p l e m _)
-    moved-on-time on (keeps e m a) =
-        set-paced _ refl (competes_at (row t p) 22 e) refl refl (look_left n t h p l e m (row t p).est)
-    moved-on-time on (ends_scan e i) =
-        set-paced _ refl refl refl refl (omega (arith, left_22 (row t p) e))
-    moved-on-time on (lowers e i) = set-dropped _ refl refl i
-    moved-on-time on (to-push e i b) =
-        set-paced _ refl refl refl refl (omega (arith, left_23 (row t p) e))
-    moved-on-time on (waits e i b o) =
-        set-dropped _ refl refl (omega (arith, (quiet-sound n t h p l).level_some (omega arith) (omega arith)))
-    moved-on-time on (skips e i b o) = set-on-time _ refl go
+    moved_on_time on (enters e) = absurd (quiet_never n t h p 20 l e refl)
+    moved_on_time on (starts_scan e i) =
+        set_paced _ refl refl refl refl (omega (arith, left_21 (row t p) e))
+    moved_on_time on (wins e i) = absurd (on (ap (λ (r : Row). r.location) (row_same t p _ in_t)))
+    moved_on_time on (discards e m a) =
+        set_paced _ refl (competes_at (row t p) 22 e) refl refl (look_left n t h p l e m _)
+    moved_on_time on (keeps e m a) =
+        set_paced _ refl (competes_at (row t p) 22 e) refl refl (look_left n t h p l e m (row t p).est)
+    moved_on_time on (ends_scan e i) =
+        set_paced _ refl refl refl refl (omega (arith, left_22 (row t p) e))
+    moved_on_time on (lowers e i) = set_dropped _ refl refl i
+    moved_on_time on (to_push e i b) =
+        set_paced _ refl refl refl refl (omega (arith, left_23 (row t p) e))
+    moved_on_time on (waits e i b o) =
+        set_dropped _ refl refl (omega (arith, (quiet-sound n t h p l).level_some (omega arith) (omega arith)))
+    moved_on_time on (skips e i b o) = set_on_time _ refl go
       where
         go : OnTime n v k (suc j) p (row t p) → OnTime n v k j p (with_location 21 (row t p))
         go (c, inl m) = (refl, inl m)
         go (c, inr (m, _)) = (refl, inr (m, inr (b, ap (λ (x : ℕ). (row t x).turn) (sym m) ∙ o)))
-    moved-on-time on (pushes e) =
+    moved_on_time on (pushes e) =
         let i = quiet_level n t h p l in
-        pushed-on-time e
-        (turn_set_becomes t (row t p).level p i p in-t (pushed_row t p) (λ r. refl) (λ r. refl))
-        (turn_set-others t (row t p).level p i p in-t (pushed_row t p) (λ r. refl) (λ r. refl))
-        (turn_set_is t (row t p).level p i p in-t (pushed_row t p) (λ r. refl) (λ r. refl))
-    moved-on-time on (exits e) = absurd (quiet_never n t h p 30 l e refl)
-    moved-on-time on (leaves e) = absurd (quiet_never n t h p 40 l e refl)
+        pushed_on_time e
+        (turn_set_becomes t (row t p).level p i p in_t (pushed_row t p) (λ r. refl) (λ r. refl))
+        (turn_set_others t (row t p).level p i p in_t (pushed_row t p) (λ r. refl) (λ r. refl))
+        (turn_set_is t (row t p).level p i p in_t (pushed_row t p) (λ r. refl) (λ r. refl))
+    moved_on_time on (exits e) = absurd (quiet_never n t h p 30 l e refl)
+    moved_on_time on (leaves e) = absurd (quiet_never n t h p 40 l e refl)

@@ -1,9 +1,9 @@
 -- What holds of every table that a list of words made from a fresh one, as far as the bound needs it.
 --
---   SteadyRow q r   <=>  bb is set only where it may be; who rests shows no act; who competes is not in its own est.
---   Steady t        <=>  t is sound, and each row has these.
---   Quiet n t       <=>  t is steady, has n processes, each at 10 or at 21 to 24, and somebody competes.
---   Arrives t b      <=>  some process is at 30 after at most b rounds.
+--   SteadyRow q r  <=>  bb is set only where it may be; who rests shows no act; who competes is not in its own est.
+--   Steady t       <=>  t is sound, and each row has these.
+--   Quiet n t      <=>  t is steady, has n processes, each at 10 or at 21 to 24, and somebody competes.
+--   Arrives t b    <=>  some process is at 30 after at most b rounds.
 --
 -- Each clause speaks of every number q: past the end of the table the rows are blank, and all clauses hold there.
 -- Assumes nothing.

@@ -3,7 +3,7 @@
 --   Stride p v r s    <=>  a move of p, for which turn[level] is v, makes row s of row r, and p was not at 24.
 --   Advances t p u    <=>  a stride of p, or its push at 24, makes u of t.
 --   stride_turn       a stride keeps the turn cell of its row
---   move-advances     every move of such a process is one of these: it discards nobody, and its level is not
+--   move_advances     every move of such a process is one of these: it discards nobody, and its level is not
 --                     lowered for want of members of est
 --
 -- Assumes nothing.
@@ -21,8 +21,8 @@ use Rattle.machine.specs.declared.Row.{Row}
 use Rattle.machine.proofs.SoundRows.{sound-row, sound_few}
 use Rattle.machine.proofs.StepRows.{pushed_row}
 use Rattle.machine.proofs.RoundLaws.{Move}
-use Rattle.machine.proofs.RoundLaws.Move.{rests, enters, starts-scan, wins, discards, keeps, ends_scan, lowers}
-use Rattle.machine.proofs.RoundLaws.Move.{to-push, waits, skips, pushes, exits, leaves}
+use Rattle.machine.proofs.RoundLaws.Move.{rests, enters, starts_scan, wins, discards, keeps, ends_scan, lowers}
+use Rattle.machine.proofs.RoundLaws.Move.{to_push, waits, skips, pushes, exits, leaves}
 
 pub data Stride (p v : ℕ) (r : Row) : Row → Type 0 where
   begins : r.location ≡ 21 → Stride p v r (with_location 22 (with_lis r.est r))
@@ -51,22 +51,22 @@ module _ (t : Table) (p : ℕ) (z : table_refusal t ≡ 0) (l : p < length t)
     (from : 21 ≤ (row t p).location) (to : (row t p).location ≤ 24)
     (high : 0 < (row t p).level) (full : size (row t p).est + 1 ≡ length t)
   where
-    member-in : (q : ℕ) → has (row t p).lis q ≡ true → q < length t
-    member-in q h = member_below (row t p).lis (length t) q (sound-row t z p l).lis_low h
+    member_in : (q : ℕ) → has (row t p).lis q ≡ true → q < length t
+    member_in q h = member_below (row t p).lis (length t) q (sound-row t z p l).lis_low h
 
-    pub move-advances : {u : Table} → Move t p u → Advances t p u
-    move-advances (rests e) = absurd (omega arith)
-    move-advances (enters e) = absurd (omega arith)
-    move-advances (starts-scan e h) = strides _ (begins e)
-    move-advances (wins e h) = absurd (omega arith)
-    move-advances (discards e h a) = absurd (shown _ (member-in _ h) a)
-    move-advances (keeps e h a) =
-        strides _ (looks (lowest (row t p).lis) (omega (arith, member-in _ h, sound_few t z)) e h)
-    move-advances (ends_scan e h) = strides _ (ends e h)
-    move-advances (lowers e h) = absurd (omega (arith, (sound-row t z p l).level_low))
-    move-advances (to-push e h b) = strides _ (turns_up e b)
-    move-advances (waits e h b v) = strides _ (falls e b v)
-    move-advances (skips e h b v) = strides _ (holds e b v)
-    move-advances (pushes e) = push e
-    move-advances (exits e) = absurd (omega arith)
-    move-advances (leaves e) = absurd (omega arith)
+    pub move_advances : {u : Table} → Move t p u → Advances t p u
+    move_advances (rests e) = absurd (omega arith)
+    move_advances (enters e) = absurd (omega arith)
+    move_advances (starts_scan e h) = strides _ (begins e)
+    move_advances (wins e h) = absurd (omega arith)
+    move_advances (discards e h a) = absurd (shown _ (member_in _ h) a)
+    move_advances (keeps e h a) =
+        strides _ (looks (lowest (row t p).lis) (omega (arith, member_in _ h, sound_few t z)) e h)
+    move_advances (ends_scan e h) = strides _ (ends e h)
+    move_advances (lowers e h) = absurd (omega (arith, (sound-row t z p l).level_low))
+    move_advances (to_push e h b) = strides _ (turns_up e b)
+    move_advances (waits e h b v) = strides _ (falls e b v)
+    move_advances (skips e h b v) = strides _ (holds e b v)
+    move_advances (pushes e) = push e
+    move_advances (exits e) = absurd (omega arith)
+    move_advances (leaves e) = absurd (omega arith)

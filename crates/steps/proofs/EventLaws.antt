@@ -68,8 +68,8 @@ module _ (t : Table) (p : ℕ) (l : p < length t) where
       (λ h. sym (ne_eqb r.level 0 (λ z. omega arith)))
       (λ z. sym (eq-eqb r.level 0 z))
 
-  go-told : along r.location (row (gone t p) p).location ≡ go_event r
-  go-told =
+  go_told : along r.location (row (gone t p) p).location ≡ go_event r
+  go_told =
       let d = eqb r.location 30 in
       split (λ b. event (b && eqb (row (gone t p) p).location 30) d ≡ event (b && eqb r.level 0) d)
       (eqb r.location 21)
@@ -87,14 +87,14 @@ module _ (t : Table) (p : ℕ) (l : p < length t) where
     at : (k x : ℕ) → r.location ≡ x → by k ≡ along x (row (moved t k p a) p).location
     at k x e = ap (λ (v : ℕ). along v (row (moved t k p a) p).location) e
 
-    kinds-told : (k : ℕ) → is_kind k ≡ true → allowed k r ≡ true → cond (eqb k COME) Event.Come (by k) ≡ kind_event k r
+    kinds_told : (k : ℕ) → is_kind k ≡ true → allowed k r ≡ true → cond (eqb k COME) Event.Come (by k) ≡ kind_event k r
     unfolding allowed
-    kinds-told =
+    kinds_told =
         by_kind (λ k. allowed k r ≡ true → cond (eqb k COME) Event.Come (by k) ≡ kind_event k r)
         (λ h. at STAY 10 (eqb-true _ _ h))
         (λ h. refl)
         (by_one r.location (20 ∷ 40 ∷ 24 ∷ []) (at FLICKER 20, (at FLICKER 40, (at FLICKER 24, tt))))
-        (λ h. ap (λ (u : Table). along r.location (row u p).location) (moved_go t p a) ∙ go-told)
+        (λ h. ap (λ (u : Table). along r.location (row u p).location) (moved_go t p a) ∙ go_told)
         (λ h. at LOOK 22 (eqb-true _ _ ((and-eq-true_iff (eqb r.location 22) _).0 h).0))
         (λ h. at CANCEL 20 (eqb-true _ _ h))
 
@@ -111,4 +111,4 @@ event_told t w z y =
     event_along t w a
     ∙ ap (λ (u : Table). cond (eqb (kind_of w) COME) Event.Come (along (row t p).location (row u p).location))
     (accepted-moved t w a)
-    ∙ kinds-told t p s.process_in (argument_of w) (kind_of w) s.kind_known s.allowed_there
+    ∙ kinds_told t p s.process_in (argument_of w) (kind_of w) s.kind_known s.allowed_there

@@ -1,6 +1,6 @@
 -- What settings forbid, in the words of the code; and a kind taken under settings, from what it is without them.
 --
---   forbids-not, forbids-away, forbids-by    GO of p is forbidden, by its row and by who is at 24
+--   forbids_not, forbids_away, forbids_by    GO of p is forbidden, by its row and by who is at 24
 --   takes_early, takes_forbidden, takes_free    a kind with an argument under settings: 10 or 11; 16 or 17; as without
 --   goes_free, weakest-takes                    GO away from 23, and every kind under 0 and 0, as without
 --
@@ -35,9 +35,9 @@ use Rattle.steps.proofs.TakeLaws.{refused_early, refused_late, row_refusals, ref
 
 module _ (t : Table) (p : ℕ) where
   -- a process at 23 is not at 24 itself
-  writer-so : (row t p).location ≡ 23 → other_writer t p ≡ has_writer (row t p).level t
+  writer_so : (row t p).location ≡ 23 → other_writer t p ≡ has_writer (row t p).level t
   unfolding other_writer
-  writer-so e = some_cong _ _ (length t) (λ q l. go q (ℕ_discrete q p))
+  writer_so e = some_cong _ _ (length t) (λ q l. go q (ℕ_discrete q p))
     where
       go : (q : ℕ) → Dec (q ≡ p)
           → (not (eqb q p) && writes_turn (row t p).level (row t q)) ≡ writes_turn (row t p).level (row t q)
@@ -45,17 +45,17 @@ module _ (t : Table) (p : ℕ) where
       go q (no ne) = rw (ne_eqb q p ne) refl
 
   module _ (m : Settings) where
-    pub forbids-not : m.turn ≢ 1 → go_forbidden m t p ≡ false
-    forbids-not ne = rw (ne_eqb m.turn 1 ne) refl
+    pub forbids_not : m.turn ≢ 1 → go_forbidden m t p ≡ false
+    forbids_not ne = rw (ne_eqb m.turn 1 ne) refl
 
-    pub forbids-away : m.turn ≡ 1 → p < length t → to_push (row t p) ≡ false → go_forbidden m t p ≡ false
-    forbids-away one l h = rw (eq-eqb m.turn 1 one, goes_by t p l, h) refl
+    pub forbids_away : m.turn ≡ 1 → p < length t → to_push (row t p) ≡ false → go_forbidden m t p ≡ false
+    forbids_away one l h = rw (eq-eqb m.turn 1 one, goes_by t p l, h) refl
 
-    pub forbids-by : m.turn ≡ 1 → p < length t → to_push (row t p) ≡ true
+    pub forbids_by : m.turn ≡ 1 → p < length t → to_push (row t p) ≡ true
         → go_forbidden m t p ≡ has_writer (row t p).level t
-    forbids-by one l h =
-        let at-23 = eqb-true _ _ ((and-eq-true_iff (eqb (row t p).location 23) _).0 h).0 in
-        rw (eq-eqb m.turn 1 one, goes_by t p l, h) (writer-so at-23)
+    forbids_by one l h =
+        let at_23 = eqb-true _ _ ((and-eq-true_iff (eqb (row t p).location 23) _).0 h).0 in
+        rw (eq-eqb m.turn 1 one, goes_by t p l, h) (writer_so at_23)
 
 -- ---- a kind taken under settings
 

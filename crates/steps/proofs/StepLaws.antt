@@ -38,9 +38,9 @@ module _ (t : Table) (w : ℕ) where
   refusal_table ne = rw (ne_eqb (table_refusal t) 0 ne) refl
 
   -- a sound table leaves it to the word
-  refusal-word : table_refusal t ≡ 0 → refusal_of t w ≡ word_refusal t w
+  refusal_word : table_refusal t ≡ 0 → refusal_of t w ≡ word_refusal t w
   unfolding refusal_of
-  refusal-word z = rw (eq-eqb (table_refusal t) 0 z) refl
+  refusal_word z = rw (eq-eqb (table_refusal t) 0 z) refl
 
   refused-kind : formed w ≡ false → word_refusal t w ≡ 8
   unfolding word_refusal
@@ -57,7 +57,7 @@ module _ (t : Table) (w : ℕ) where
 
   refusal-of : table_refusal t ≡ 0 → formed w ≡ true → process_of w < length t
       → refusal_of t w ≡ refusal_at t (kind_of w) (process_of w) (argument_of w)
-  refusal-of z f k = refusal-word z ∙ refused-at f k
+  refusal-of z f k = refusal_word z ∙ refused-at f k
 
 -- ---- under settings
 
@@ -67,9 +67,9 @@ module _ (m : Settings) (t : Table) (w : ℕ) where
   answer_refused ne = rw (ne_eqb (refusal_under m t w) 0 ne) refl
 
   -- 8 and 9 come before 16 and 17
-  under-early : (v : ℕ) → v ≡ refusal_of t w → (v ≡ 0 → ⊥) → (v ≡ 15 → ⊥) → table_refusal t ≡ 0 → settings_fit m ≡ true
+  under_early : (v : ℕ) → v ≡ refusal_of t w → (v ≡ 0 → ⊥) → (v ≡ 15 → ⊥) → table_refusal t ≡ 0 → settings_fit m ≡ true
       → v ≡ refusal_under m t w
-  under-early v e n f z fit =
+  under_early v e n f z fit =
       let other = before15_other (forbidden m t w) (refusal_of t w) (λ y. n (e ∙ y)) (λ y. f (e ∙ y)) in
       e ∙ sym (under_fit m t w z fit ∙ other)
 
@@ -105,15 +105,15 @@ module _ (m : Settings) (x : List (List ℕ)) (w : ℕ) where
     -- a word of no kind
     pub kind-steps : formed w ≡ false → StepsUnder m x w x (Stepped.Refused 8)
     kind-steps f =
-        let why = refusal-word (rows_of x) w z ∙ refused-kind (rows_of x) w f in
-        refused_steps 8 (under-early m (rows_of x) w 8 (sym why) (omega arith) (omega arith) z fit) (omega arith)
+        let why = refusal_word (rows_of x) w z ∙ refused-kind (rows_of x) w f in
+        refused_steps 8 (under_early m (rows_of x) w 8 (sym why) (omega arith) (omega arith) z fit) (omega arith)
 
     -- a process that is not there
     pub process-steps : formed w ≡ true → length x ≤ process_of w → StepsUnder m x w x (Stepped.Refused 9)
     process-steps f k =
         let l = subst (λ (i : ℕ). i ≤ process_of w) (sym (rows_length x)) k in
-        let why = refusal-word (rows_of x) w z ∙ refused-process (rows_of x) w f l in
-        refused_steps 9 (under-early m (rows_of x) w 9 (sym why) (omega arith) (omega arith) z fit) (omega arith)
+        let why = refusal_word (rows_of x) w z ∙ refused-process (rows_of x) w f l in
+        refused_steps 9 (under_early m (rows_of x) w 9 (sym why) (omega arith) (omega arith) z fit) (omega arith)
 
     module _ (f : formed w ≡ true) (k : process_of w < length x) where
       abbrev refusal : ℕ
@@ -130,16 +130,16 @@ module _ (m : Settings) (x : List (List ℕ)) (w : ℕ) where
       abbrev tells : Told
       tells = kind_told (kind_of w) (process_of w) (argument_of w) (row (rows_of x) (process_of w))
 
-      accepted-so : refusal ≡ 0 → refusal_of (rows_of x) w ≡ 0
-      accepted-so e = (accepted_under m (rows_of x) w (refusal_is ∙ e)).0.not_refused
+      accepted_so : refusal ≡ 0 → refusal_of (rows_of x) w ≡ 0
+      accepted_so e = (accepted_under m (rows_of x) w (refusal_is ∙ e)).0.not_refused
 
       told : refusal ≡ 0 → told_of (rows_of x) w ≡ tells
-      told e = word_told (rows_of x) w z (accepted_word (rows_of x) w (accepted-so e))
+      told e = word_told (rows_of x) w z (accepted_word (rows_of x) w (accepted_so e))
 
-      answer-taken : answer_under m (rows_of x) w
+      answer_taken : answer_under m (rows_of x) w
           ≡ cond (eqb refusal 0) (Stepped.Moved tells) (Stepped.Refused refusal)
       unfolding answer_under
-      answer-taken =
+      answer_taken =
           ap (λ (i : ℕ). cond (eqb i 0) (Stepped.Moved (told_of (rows_of x) w)) (Stepped.Refused i)) refusal_is
           ∙ split (λ b. (eqb refusal 0 ≡ b)
           → cond b (Stepped.Moved (told_of (rows_of x) w)) (Stepped.Refused refusal)
@@ -158,17 +158,17 @@ module _ (m : Settings) (x : List (List ℕ)) (w : ℕ) where
           → cond b (after_word (rows_of x) w) (rows_of x)
           ≡ cond b (moved (rows_of x) (kind_of w) (process_of w) (argument_of w)) (rows_of x))
           (eqb refusal 0)
-          (λ _ h. accepted-moved (rows_of x) w (accepted-so (eqb-true refusal 0 h)))
+          (λ _ h. accepted-moved (rows_of x) w (accepted_so (eqb-true refusal 0 h)))
           (λ _ h. refl)
           refl
 
       -- a word that names a process is its kind, taken
-      pub taken-under : (y : List (List ℕ)) (s : Stepped)
+      pub taken_under : (y : List (List ℕ)) (s : Stepped)
           → TakesUnder m x (kind_of w) (process_of w) (argument_of w) y s
           → StepsUnder m x w y s
-      taken-under y s h =
+      taken_under y s h =
           record {
-            answer_is = h.answer_is ∙ sym answer-taken;
+            answer_is = h.answer_is ∙ sym answer_taken;
             becomes = becomes_as h.becomes (sym table_taken);
           }
 
@@ -190,4 +190,4 @@ pub taken_steps : (x : List (List ℕ)) (w : ℕ)
     → Steps x w y s
 taken_steps x w z f k y s h =
     weakest_steps x w y s
-    (taken-under weakest x w z refl f k y s (takes_free weakest (weakest_free (rows_of x) (kind_of w) (process_of w)) h))
+    (taken_under weakest x w z refl f k y s (takes_free weakest (weakest_free (rows_of x) (kind_of w) (process_of w)) h))

@@ -182,21 +182,21 @@ module _ (x : List (List ℕ)) (p : ℕ) (there : (row (rows_of x) p).location �
   unfolding allowed argument_fits
   enters-may = rw there refl
 
-  enters-counts : (b : Bool)
+  enters_counts : (b : Bool)
       → raisable (competitors (rows_of x)) (row (rows_of x) p).passes ≡ b
       → overflows (rows_of x) GO p ≡ not b
   unfolding overflows
-  enters-counts b e = rw (there, e) refl
+  enters_counts b e = rw (there, e) refl
 
   pub enters_full : raisable (competitors (rows_of x)) (row (rows_of x) p).passes ≡ false
       → Takes x GO p 0 x (Stepped.Refused 15)
-  enters_full e = takes_full (sym enters-may) refl (enters-counts false e)
+  enters_full e = takes_full (sym enters-may) refl (enters_counts false e)
 
   pub enters_moved : {y : List (List ℕ)} {s : Told}
       → raisable (competitors (rows_of x)) (row (rows_of x) p).passes ≡ true
       → Goes x p y s
       → Takes x GO p 0 y (Stepped.Moved s)
-  enters_moved e m = takes_moved (sym enters-may) refl (enters-counts true e) m
+  enters_moved e m = takes_moved (sym enters-may) refl (enters_counts true e) m
 
 -- GO is taken with no other argument than 0
 pub go_argument : (t : Table) (p a : ℕ) → row_refusal t GO p a ≡ 0 → a ≡ 0

@@ -92,23 +92,23 @@ module _ (x : List (List ℕ)) (p a : ℕ) where
 -- ---- the kinds that have no argument, with any
 
 module _ {x y : List (List ℕ)} {p : ℕ} {s : Told} (a : ℕ) where
-  any-argument : (j k : ℕ)
+  any_argument : (j k : ℕ)
       → kind_told j p 0 (at x p) ≡ kind_told j p a (at x p)
       → moved (rows_of x) j p 0 ≡ moved (rows_of x) j p a
       → k ≡ j
       → Moves x j p 0 y s
       → Moves x k p a y s
-  any-argument j k told none e m =
+  any_argument j k told none e m =
       subst (λ (i : ℕ). Moves x i p a y s) (sym e)
       (record { told_is = m.told_is ∙ told; becomes = becomes_as m.becomes none })
 
   pub come_moves : (k : ℕ) → k ≡ COME → Moves x COME p 0 y s → Moves x k p a y s
   unfolding moved cell_at
-  come_moves k = any-argument COME k refl refl
+  come_moves k = any_argument COME k refl refl
 
   pub cancel_moves : (k : ℕ) → k ≡ CANCEL → Moves x CANCEL p 0 y s → Moves x k p a y s
   unfolding moved cell_at
-  cancel_moves k = any-argument CANCEL k refl refl
+  cancel_moves k = any_argument CANCEL k refl refl
 
 pub stay_moves : {x : List (List ℕ)} {p a : ℕ} (k : ℕ) → k ≡ STAY → Moves x k p a x quiet
 unfolding cell_at

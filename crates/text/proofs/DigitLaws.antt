@@ -87,5 +87,5 @@ decimal_long n small h =
     ∙ ap₂ (λ (a b : ℕ). decimal (n / 100) ++ ((48 + a) ∷ (48 + b) ∷ [])) second first
 
 -- its length
-pub length-decimal_long : (n : ℕ) → n < 2 ^ 32 → 100 ≤ n → length (decimal n) ≡ length (decimal (n / 100)) + 2
-length-decimal_long n small h = ap length (decimal_long n small h) ∙ length-append (decimal (n / 100)) (pair (n % 100))
+pub length_decimal_long : (n : ℕ) → n < 2 ^ 32 → 100 ≤ n → length (decimal n) ≡ length (decimal (n / 100)) + 2
+length_decimal_long n small h = ap length (decimal_long n small h) ∙ length-append (decimal (n / 100)) (pair (n % 100))

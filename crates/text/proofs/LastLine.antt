@@ -27,7 +27,7 @@ use Rattle.machine.proofs.SettingTheorems.{weakest_step}
 use Rattle.machine.proofs.RunLaws.{run_of_words, run_of_taken, counted_words}
 use Rattle.image_theorems.proofs.InputTheorems.{table_fits, holds_ready, holds_too_many}
 use Rattle.text.specs.Running.{takes, line_of}
-use Rattle.text.proofs.RunLaws.{line_of_taken, line_of_stopped, runLines-taken, runLines-stopped}
+use Rattle.text.proofs.RunLaws.{line_of_taken, line_of_stopped, run_lines_taken, run_lines_stopped}
 
 -- the last line for what a run answers: how many words were taken, and the refusal if there is one
 abbrev pub final_line : Outcome → List ℕ
@@ -80,7 +80,7 @@ run_ends y t h c (w ∷ ws) =
     go rest true e = (
       rest.0,
       ap (λ (l : List ℕ). y ++ (10 ∷ l))
-          (runLines-taken t i w ws e
+          (run_lines_taken t i w ws e
           ∙ ap (λ (l : List ℕ). l ++ run_lines (after_word t w) (suc i) ws) (line_is (line_of_taken t i w e)))
           ∙ between y fields (run_lines (after_word t w) (suc i) ws)
           ∙ ap (λ (k : ℕ). (y ++ (10 ∷ fields)) ++ (10 ∷ run_lines (after_word t w) k ws))
@@ -91,7 +91,7 @@ run_ends y t h c (w ∷ ws) =
     go rest false e = (
       y,
       ap (λ (l : List ℕ). y ++ (10 ∷ l))
-          (runLines-stopped t i w ws e
+          (run_lines_stopped t i w ws e
           ∙ line_of_stopped t i w e
           ∙ ap (λ (b : Bool). elim b [ true ↦ done_line i | false ↦ stop_line i (refusal_of t w) ]) (sym e)
           ∙ ap final_line (sym (outcome false e))),

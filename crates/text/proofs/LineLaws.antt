@@ -130,10 +130,10 @@ module _ (a b c d e : ℕ) (cell : SharedCell) where
   rest = cell_text cell ++ (10 ∷ [])
 
   -- the numbers, with what stands after them drawn in
-  spaced-then : spaced fields ++ (32 ∷ rest)
+  spaced_then : spaced fields ++ (32 ∷ rest)
       ≡ decimal a ++ (32 ∷ decimal b ++ (32 ∷ decimal c ++ (32 ∷ decimal d ++ (32 ∷ decimal e ++ (32 ∷ rest)))))
   unfolding spaced
-  spaced-then =
+  spaced_then =
       append_assoc (decimal a) (32 ∷ spaced (b ∷ c ∷ d ∷ e ∷ [])) (32 ∷ rest)
       ∙ ap (λ (l : List ℕ). decimal a ++ (32 ∷ l))
       (append_assoc (decimal b) (32 ∷ spaced (c ∷ d ∷ e ∷ [])) (32 ∷ rest)
@@ -150,7 +150,7 @@ module _ (a b c d e : ℕ) (cell : SharedCell) where
       (field_then c (field d ++ (field e ++ rest))
       ∙ ap (λ (l : List ℕ). decimal c ++ (32 ∷ l))
       (field_then d (field e ++ rest) ∙ ap (λ (l : List ℕ). decimal d ++ (32 ∷ l)) (field_then e rest))))
-      ∙ sym spaced-then
+      ∙ sym spaced_then
 
   pub length_taken : length (taken_line fields cell)
       ≡ (length (decimal a) + 1)
@@ -160,7 +160,7 @@ module _ (a b c d e : ℕ) (cell : SharedCell) where
   length_taken =
       omega (
         arith,
-        ap length spaced-then,
+        ap length spaced_then,
         length-append (decimal a)
             (32 ∷ decimal b ++ (32 ∷ decimal c ++ (32 ∷ decimal d ++ (32 ∷ decimal e ++ (32 ∷ rest))))),
         length-append (decimal b) (32 ∷ decimal c ++ (32 ∷ decimal d ++ (32 ∷ decimal e ++ (32 ∷ rest)))),

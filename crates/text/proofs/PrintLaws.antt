@@ -47,11 +47,11 @@ module _ (ws : List ℕ) (y : List (List ℕ)) where
       ap text_of s.holds
       ∙ ap (λ (l : List ℕ). l ++ run_lines (table_of y n) 0 (part ws a b)) (posts_line_lem y n s.table.within)
 
-  few-of : (i : Input) (r : Opened) → Shows i ws y r → size_of r ≤ 16
-  few-of i BadBytes s = omega arith
-  few-of i (BadImage place number) s = omega arith
-  few-of i (TooMany n) s = s.table.few
-  few-of i (Ready n a b) s = s.table.few
+  few_of : (i : Input) (r : Opened) → Shows i ws y r → size_of r ≤ 16
+  few_of i BadBytes s = omega arith
+  few_of i (BadImage place number) s = omega arith
+  few_of i (TooMany n) s = s.table.few
+  few_of i (Ready n a b) s = s.table.few
 
   head_of_lem : (i : Input) (r : Opened) → Bounded i → Shows i ws y r → length (head_of r) ≤ head_room
   head_of_lem i BadBytes b s = length_input
@@ -65,15 +65,15 @@ module _ (ws : List ℕ) (y : List (List ℕ)) where
   length_opened r = length-append (head_of r) (lines_of r ws y)
 
   module _ (r : Opened) (a : Answers r ws y) where
-    pub text-is : printed a.input ≡ opened_text r ws y
+    pub text_is : printed a.input ≡ opened_text r ws y
     unfolding printed
-    text-is = text-of (input_of a.input) r a.opens
+    text_is = text-of (input_of a.input) r a.opens
 
-    pub few-processes : size_of r ≤ 16
-    few-processes = few-of (input_of a.input) r a.opens
+    pub few_processes : size_of r ≤ 16
+    few_processes = few_of (input_of a.input) r a.opens
 
-    pub head-fits : length (head_of r) ≤ head_room
-    head-fits = head_of_lem (input_of a.input) r (input_bounded a.input) a.opens
+    pub head_fits : length (head_of r) ≤ head_room
+    head_fits = head_of_lem (input_of a.input) r (input_bounded a.input) a.opens
 
 -- ---- an answer with a run, for the bytes bs
 
@@ -89,16 +89,16 @@ module _ (bs : List ℕ) (y : List (List ℕ)) (r : Opened) (a : Answers r (word
   abbrev events : List ℕ
   events = take (4 * l - 4 * f) (drop (4 * f) bs)
 
-  events-are : words_in events ≡ part (words_in bs) f l
-  events-are = words_part f l bs shows_run.ordered
+  events_are : words_in events ≡ part (words_in bs) f l
+  events_are = words_part f l bs shows_run.ordered
 
   pub events_few : length (words_in events) ≤ limit
   events_few =
-      omega (arith, shows_run.few, ap length events-are, length-take (l - f) (drop f (words_in bs)))
+      omega (arith, shows_run.few, ap length events_are, length-take (l - f) (drop f (words_in bs)))
 
   pub lines_are : run_lines (table_of y n) 0 (words_in events) ≡ lines_of r (words_in bs) y
   lines_are =
-      ap (run_lines (table_of y n) 0) events-are ∙ sym (ap (λ (v : Opened). lines_of v (words_in bs) y) is)
+      ap (run_lines (table_of y n) 0) events_are ∙ sym (ap (λ (v : Opened). lines_of v (words_in bs) y) is)
 
 -- ---- the buffer
 

@@ -19,7 +19,7 @@ use Rattle.machine.proofs.RunLaws.{carried_over_snoc}
 use Rattle.machine.proofs.CarriedTheorems.{critical-carried}
 use Rattle.text.specs.Appending.{Appended}
 use Rattle.text.specs.Running.{takes, line_of}
-use Rattle.text.proofs.RunLaws.{runLines-taken, runLines-stopped, run_lines_done}
+use Rattle.text.proofs.RunLaws.{run_lines_taken, run_lines_stopped, run_lines_done}
 use Rattle.text.proofs.RoomLaws.{line_within}
 
 -- i words of ws have been taken from table t, which is u now, n is the number at 30 carried over them, and s is what
@@ -61,16 +61,16 @@ module _ {t : Table} {ws : List ℕ} {u : Table} {n i : ℕ} {s : List ℕ} (p :
   one_more : i < length ws → take (i + 1) ws ≡ take i ws ++ (word ∷ [])
   one_more more = ap (λ (k : ℕ). take k ws) (add-one i) ∙ take-suc ws i 0 more
 
-  next-table : {v : Table} → i < length ws → v ≡ after_word u word → v ≡ after_words t (take (i + 1) ws)
-  next-table more next =
+  next_table : {v : Table} → i < length ws → v ≡ after_word u word → v ≡ after_words t (take (i + 1) ws)
+  next_table more next =
       next
       ∙ ap (λ (a : Table). after_word a word) p.table_is
       ∙ sym (after_words_snoc t (take i ws) word)
       ∙ ap (after_words t) (sym (one_more more))
 
-  next-carried : {m : ℕ} → i < length ws → takes u word ≡ true → m ≡ carried (event_of u word) n
+  next_carried : {m : ℕ} → i < length ws → takes u word ≡ true → m ≡ carried (event_of u word) n
       → m ≡ carried_over t (critical t) (take (i + 1) ws)
-  next-carried more taken next =
+  next_carried more taken next =
       let z = ap (λ (a : Table). refusal_of a word) (sym p.table_is) ∙ eqb-true (refusal_of u word) 0 taken in
       next
       ∙ ap₂ (λ (a : Table) (k : ℕ). carried (event_of a word) k) p.table_is p.carried_is
@@ -87,19 +87,19 @@ module _ {t : Table} {ws : List ℕ} {u : Table} {n i : ℕ} {s : List ℕ} (p :
             append_assoc s (line_of u i word) (run_lines v (i + 1) (drop (i + 1) ws))
             ∙ ap (λ (k : ℕ). s ++ (line_of u i word ++ run_lines v k (drop k ws))) (add-one i)
             ∙ ap (λ (a : Table). s ++ (line_of u i word ++ run_lines a (suc i) (drop (suc i) ws))) next
-            ∙ ap (λ (l : List ℕ). s ++ l) (sym (runLines-taken u i word (drop (suc i) ws) taken))
+            ∙ ap (λ (l : List ℕ). s ++ l) (sym (run_lines_taken u i word (drop (suc i) ws) taken))
             ∙ ap (λ (l : List ℕ). s ++ run_lines u i l) (sym (drop-cons ws i 0 more))
             ∙ p.goes_on;
         sound = ap table_refusal next ∙ word_keeps_sound u word p.sound;
         within = omega arith;
-        table_is = next-table more next;
-        carried_is = next-carried more taken inside;
+        table_is = next_table more next;
+        carried_is = next_carried more taken inside;
       }
 
   -- a word that is refused
   pub progress_stopped : i < length ws → takes u word ≡ false → s ++ line_of u i word ≡ run_lines t 0 ws
   progress_stopped more stopped =
-      ap (λ (l : List ℕ). s ++ l) (sym (runLines-stopped u i word (drop (suc i) ws) stopped))
+      ap (λ (l : List ℕ). s ++ l) (sym (run_lines_stopped u i word (drop (suc i) ws) stopped))
       ∙ ap (λ (l : List ℕ). s ++ run_lines u i l) (sym (drop-cons ws i 0 more))
       ∙ p.goes_on
 

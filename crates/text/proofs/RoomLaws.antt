@@ -23,7 +23,7 @@ use Rattle.machine.proofs.Soundness.{word_keeps_sound, word_keeps_length}
 use Rattle.text.specs.Running.{takes, line_of, line_room, last_room, head_room}
 use Rattle.text.proofs.LineLaws.{length-spaced, length-cell_text, length-taken_line, length-line}
 use Rattle.text.proofs.LineLaws.Within.{last, then}
-use Rattle.text.proofs.RunLaws.{line_of_taken, line_of_stopped, runLines-taken, runLines-stopped, run_lines_done}
+use Rattle.text.proofs.RunLaws.{line_of_taken, line_of_stopped, run_lines_taken, run_lines_stopped, run_lines_done}
 use Rattle.text.proofs.RunLaws.{few_critical}
 
 -- ---- the last line
@@ -100,8 +100,8 @@ module _ (t : Table) (i w : ℕ) (sound : table_refusal t ≡ 0) (few : i < limi
       (last 1 (omega arith)))))) in
       omega (arith, ap length (line_of_taken t i w e), length-taken_line (word_fields t i w) (cell_of t w))
 
-  length-stopped : takes t w ≡ false → length (line_of t i w) ≤ last_room
-  length-stopped e =
+  length_stopped : takes t w ≡ false → length (line_of t i w) ≤ last_room
+  length_stopped e =
       let why = refusal_of t w in
       let long = length-stop_line i why few (omega (arith, refusal_low t sound w)) in
       omega (arith, ap length (line_of_stopped t i w e))
@@ -111,7 +111,7 @@ module _ (t : Table) (i w : ℕ) (sound : table_refusal t ≡ 0) (few : i < limi
   length_line_of = go (takes t w) refl where
     go : (b : Bool) → takes t w ≡ b → length (line_of t i w) ≤ line_room
     go true e = length_taken e
-    go false e = omega (arith, length-stopped e)
+    go false e = omega (arith, length_stopped e)
 
 -- ---- the lines of a run
 
@@ -122,10 +122,10 @@ line_within t i w ws = go (takes t w) refl where
   go true e =
       omega (
         arith,
-        ap length (runLines-taken t i w ws e),
+        ap length (run_lines_taken t i w ws e),
         length-append (line_of t i w) (run_lines (after_word t w) (suc i) ws),
       )
-  go false e = omega (arith, ap length (runLines-stopped t i w ws e))
+  go false e = omega (arith, ap length (run_lines_stopped t i w ws e))
 
 -- a line for each word, and the last one
 pub length-run_lines : (t : Table) (i : ℕ) (ws : List ℕ) → table_refusal t ≡ 0 → i + length ws ≤ limit
@@ -146,8 +146,8 @@ length-run_lines t i (w ∷ ws) sound few =
     go rest true e =
         omega (
           arith,
-          ap length (runLines-taken t i w ws e),
+          ap length (run_lines_taken t i w ws e),
           length-append (line_of t i w) (run_lines u (suc i) ws),
           length_line_of t i w sound first,
         )
-    go rest false e = omega (arith, ap length (runLines-stopped t i w ws e), length-stopped t i w sound first e)
+    go rest false e = omega (arith, ap length (run_lines_stopped t i w ws e), length_stopped t i w sound first e)

@@ -45,13 +45,13 @@ module _ (t : Table) (i w : ℕ) where
     abbrev rest : List ℕ
     rest = run_lines (after_word t w) (suc i) ws
 
-    pub runLines-taken : takes t w ≡ true → run_lines t i (w ∷ ws) ≡ line_of t i w ++ rest
+    pub run_lines_taken : takes t w ≡ true → run_lines t i (w ∷ ws) ≡ line_of t i w ++ rest
     unfolding run_lines
-    runLines-taken e = ap (pick (word_line t i w ++ rest)) e ∙ ap (λ (l : List ℕ). l ++ rest) (sym (line_of_taken e))
+    run_lines_taken e = ap (pick (word_line t i w ++ rest)) e ∙ ap (λ (l : List ℕ). l ++ rest) (sym (line_of_taken e))
 
-    pub runLines-stopped : takes t w ≡ false → run_lines t i (w ∷ ws) ≡ line_of t i w
+    pub run_lines_stopped : takes t w ≡ false → run_lines t i (w ∷ ws) ≡ line_of t i w
     unfolding run_lines
-    runLines-stopped e = ap (pick (word_line t i w ++ rest)) e ∙ sym (line_of_stopped e)
+    run_lines_stopped e = ap (pick (word_line t i w ++ rest)) e ∙ sym (line_of_stopped e)
 
 pub run_lines_done : (t : Table) (i : ℕ) → run_lines t i [] ≡ done_line i
 unfolding run_lines

@@ -6,8 +6,8 @@
 --   ShortReady d at n    <=>  n is below 100, and d has room from `at` on for its digits.
 --   LongReady d at n     <=>  d has room from `at` on for the digits of n, which are three or more.
 --   gap i                ==   what stands before number i of a line.
---   line_with s ns e      ==   the text s, the numbers ns with a space between two, and the text e.
---   taken_line ns c       ==   the line of a taken word: the numbers ns and the shared cell c.
+--   line_with s ns e     ==   the text s, the numbers ns with a space between two, and the text e.
+--   taken_line ns c      ==   the line of a taken word: the numbers ns and the shared cell c.
 --
 -- Assumes nothing.
 use Rattle.std.specs.Prelude.{ℕ, zero, suc, ◌+◌, ◌/◌, ◌%◌, ◌≤◌, ◌<◌, ◌≡◌, List, [], ◌∷◌, ◌++◌, length}

@@ -1,10 +1,10 @@
 -- What printing the text for what an input holds requires (machine/specs/Text says what is printed). An input is opened
 -- once, and its text is that of the answer (inputs/specs/Opening).
 --
---   text_room            ==   room for every text.
---   head_of r            ==   what is printed for the answer r before the lines of its run: all, where it has no run.
---   opened_text r ws y   ==   the whole text for the answer r, with the words ws and the cells y.
---   size_of r            ==   how many processes the table of r has.
+--   text_room           ==   room for every text.
+--   head_of r           ==   what is printed for the answer r before the lines of its run: all, where it has no run.
+--   opened_text r ws y  ==   the whole text for the answer r, with the words ws and the cells y.
+--   size_of r           ==   how many processes the table of r has.
 --   HeadReady r d       <=>  r has at most 16 processes, and the buffer d has room for its head.
 --   Answers r ws y      <=>  opening some input has answered r, with the words ws and the cells y.
 --   TextReady r ws y d  <=>  so it has, and the buffer d has room for the text.

@@ -1,11 +1,11 @@
 -- What the functions that print a run require and promise.
 --
---   line_of t i w          ==   what is printed for word w, which is word i, at table t: its line, or the last line.
---   Carries e n           <=>  the number n at 30 can be carried over a word with event e.
---   WordReady ..          <=>  the cells hold a sound table, n of it at 30, and the buffer has room for the line.
---   WordPrinted ..        <=>  the line is in the buffer, the cells are as the step leaves them, and n is carried.
---   RunReady x d at ws    <=>  the cells x hold a sound table, and the buffer d has room from `at` on for its lines.
---   LinesReady x at ws    <=>  the cells x hold a sound table, and its lines are to start at place `at`.
+--   line_of t i w       ==   what is printed for word w, which is word i, at table t: its line, or the last line.
+--   Carries e n         <=>  the number n at 30 can be carried over a word with event e.
+--   WordReady ..        <=>  the cells hold a sound table, n of it at 30, and the buffer has room for the line.
+--   WordPrinted ..      <=>  the line is in the buffer, the cells are as the step leaves them, and n is carried.
+--   RunReady x d at ws  <=>  the cells x hold a sound table, and the buffer d has room from `at` on for its lines.
+--   LinesReady x at ws  <=>  the cells x hold a sound table, and its lines are to start at place `at`.
 --
 -- Assumes nothing.
 use Rattle.std.specs.Prelude.{ℕ, ◌+◌, ◌≤◌, ◌≡◌, Bool, true, false, List, eqb, length}

@@ -5,8 +5,8 @@
 --   rep_is                 the value `[v; n]` is n times what v is.
 --   Stored xs              the n elements xs, in memory at (b, o).
 --   stored_in, stored_out  they are the elements of a local array that was written whole, or is given up.
---   lends-mut, mut_back    they are lent as `&mut [T]`, and are the slice's last list afterwards.
---   lends_shr, shr-back    they are lent as `&[T]`, and are as they were afterwards.
+--   lends_mut, mut_back    they are lent as `&mut [T]`, and are the slice's last list afterwards.
+--   lends_shr, shr_back    they are lent as `&[T]`, and are as they were afterwards.
 --   Opened                 what the holder of a `&mut [T]` has beside its elements while its borrow is open.
 --   opens, closes          the borrow is opened, and closed with other elements, as many.
 --
@@ -55,12 +55,12 @@ pub record Elements {M : Type 1} {𝓤 : Ura M} (𝓛 : Logic 𝓤) (R : RattleT
   pub typed : (x : R.Denot) (v : Val) → Is R x (v ∷ []) → T (has_ty (lone R.mir) v) × WT v
 
 module _ (R : RattleType) (x : R.Denot) (u : Val) (is : Is R x (u ∷ [])) where
-  each-rep : (n : ℕ) → shadow (each R.Denot R.own_val (replicate n x) (replicate n u))
-  each-rep zero = tt
-  each-rep (suc n) = (is, each-rep n)
+  each_rep : (n : ℕ) → shadow (each R.Denot R.own_val (replicate n x) (replicate n u))
+  each_rep zero = tt
+  each_rep (suc n) = (is, each_rep n)
 
   pub rep_is : (n : ℕ) → Is (Array R n) (replicate n x) (array_val (replicate n u) ∷ [])
-  rep_is n = (replicate n u, ((refl, length-replicate n x), each-rep n))
+  rep_is n = (replicate n u, ((refl, length-replicate n x), each_rep n))
 
 -- ---- the elements, and their slices
 
@@ -68,17 +68,17 @@ module _ (R : RattleType) (n b o : ℕ) where
   abbrev pub Stored : List R.Denot → Fml
   Stored xs = (arr_parts (shares R) n).part full_share xs b o
 
-  abbrev pub sliceRef : GName → List R.Denot → MutBor (List R.Denot)
-  sliceRef γ xs = record { ref_ptr = (b, o); ghost_name = γ; now = xs }
+  abbrev pub slice_ref : GName → List R.Denot → MutBor (List R.Denot)
+  slice_ref γ xs = record { ref_ptr = (b, o); ghost_name = γ; now = xs }
 
   abbrev pub Mut : Lifetime → Lft → GName → List R.Denot → Fml
-  Mut ℓ κ γ xs = (MutSlice ℓ κ R).own_val (sliceRef γ xs) (slice_val (b, o) n ∷ [])
+  Mut ℓ κ γ xs = (MutSlice ℓ κ R).own_val (slice_ref γ xs) (slice_val (b, o) n ∷ [])
 
-  abbrev pub sharedRef : List R.Denot → Bor (List R.Denot)
-  sharedRef xs = record { ref_ptr = (b, o); now = xs }
+  abbrev pub shared_ref : List R.Denot → Bor (List R.Denot)
+  shared_ref xs = record { ref_ptr = (b, o); now = xs }
 
   abbrev pub Shr : Lifetime → Lft → List R.Denot → Fml
-  Shr ℓ κ xs = (ShrSlice ℓ κ R).own_val (sharedRef xs) (slice_val (b, o) n ∷ [])
+  Shr ℓ κ xs = (ShrSlice ℓ κ R).own_val (shared_ref xs) (slice_val (b, o) n ∷ [])
 
 -- ---- loans
 
@@ -130,8 +130,8 @@ module _ {M : Type 1} {𝓤 : Ura M} (𝓛 : Logic 𝓤) (R : RattleType) (n b o
     abbrev ShrLent : Lft → List R.Denot → ℕ → SProp 𝓤
     ShrLent κ xs k = sep 𝓤 ⟦ Shr R k b o ℓ κ xs ⟧ (A.lent κ (Stored R k b o xs))
 
-    mut-lent : (κ : Lft) (xs : List R.Denot) → ent 𝓤 ⟦ Stored R n b o xs ⟧ (H.⇛ (ex 𝓤 (MutLent κ xs n)))
-    mut-lent κ xs =
+    mut_lent : (κ : Lft) (xs : List R.Denot) → ent 𝓤 ⟦ Stored R n b o xs ⟧ (H.⇛ (ex 𝓤 (MutLent κ xs n)))
+    mut_lent κ xs =
         qed 𝓛 (‵ (Stored R n b o xs) ∷ []) ∵ use1 𝓛 (‵ ((Arr (mem R) n).own_at xs b o)) (parts.whole_in xs b o) $
         fsplit ! $ feq_l ! (λ e.
         by ! (subst (λ (k : ℕ). ent 𝓤 ⟦ cells (mem R) xs b o ⟧ (H.⇛ (ex 𝓤 (MutLent κ xs k)))) e
@@ -147,19 +147,19 @@ module _ {M : Type 1} {𝓤 : Ura M} (𝓛 : Logic 𝓤) (R : RattleType) (n b o
         (qed 𝓛 (‵ (Stored R n b o xs) ∷ []) {P = ⟦ row ⟧} (fsplit ! $ drop ! $ done !))
         (qed 𝓛 (‵ row ∷ []) {P = ⟦ Stored R n b o xs ⟧} (feq_i ! ℕ _ n e $ done !))
         (each_lends 𝓛 R laws.copied full_share xs b o) κ) $ await ! tt $ split ! $ at_once ! $
-        pure_i ! (shr_slice_at R (sharedRef R n b o xs) (slice_val (b, o) n ∷ [])) (tt, (tt, tt))
+        pure_i ! (shr_slice_at R (shared_ref R n b o xs) (slice_val (b, o) n ∷ [])) (tt, (tt, tt))
         (ap (λ (k : ℕ). slice_val (b, o) k ∷ []) (sym e), subst (Room R) (sym e) room) $ fjoin ! $ done !)
 
     module _ {Γ : List (Item 𝓤)} {G : Goal 𝓤 H} (soaks : Soaks G) where
-      pub lends-mut : (xs : List R.Denot)
+      pub lends_mut : (xs : List R.Denot)
           → ((μ : ℕ) (γ : GName)
           → Seq Go 𝓛 (‵ (Mut R n b o ℓ (μ ∷ []) γ xs) ∷ ‵ (flft (μ ∷ []) full_share)
           ∷ ‵ (flent (μ ∷ []) (Held R n b o γ)) ∷ Γ) G)
           → Seq Go 𝓛 (‵ (Stored R n b o xs) ∷ Γ) G
-      lends-mut xs next =
+      lends_mut xs next =
           lft_new ! soaks (λ μ. move ! (1 ∷ []) $
           use1 𝓛 (later (some (λ (γ : GName).
-          ‵ (Mut R n b o ℓ (μ ∷ []) γ xs) ⊛ ‵ (flent (μ ∷ []) (Held R n b o γ))))) (mut-lent (μ ∷ []) xs) $
+          ‵ (Mut R n b o ℓ (μ ∷ []) γ xs) ⊛ ‵ (flent (μ ∷ []) (Held R n b o γ))))) (mut_lent (μ ∷ []) xs) $
           await ! soaks $ pick ! (λ γ. split ! $ move ! (0 ∷ 2 ∷ []) $ next μ γ))
 
       pub mut_back : (μ : ℕ) (γ : GName) (ys : List R.Denot) → Seq Go 𝓛 (‵ (Stored R n b o ys) ∷ Γ) G
@@ -179,9 +179,9 @@ module _ {M : Type 1} {𝓤 : Ura M} (𝓛 : Logic 𝓤) (R : RattleType) (n b o
           use1 𝓛 (later (‵ (Shr R n b o ℓ (μ ∷ []) xs) ⊛ ‵ (flent (μ ∷ []) (Stored R n b o xs))))
           (shr-lent (μ ∷ []) xs) $ await ! soaks $ split ! $ move ! (0 ∷ 2 ∷ []) $ next μ)
 
-      pub shr-back : (μ : ℕ) (xs : List R.Denot) → Seq Go 𝓛 (‵ (Stored R n b o xs) ∷ Γ) G
+      pub shr_back : (μ : ℕ) (xs : List R.Denot) → Seq Go 𝓛 (‵ (Stored R n b o xs) ∷ Γ) G
           → Seq Go 𝓛 (‵ (flft (μ ∷ []) full_share) ∷ ‵ (flent (μ ∷ []) (Stored R n b o xs)) ∷ Γ) G
-      shr-back μ xs next = lft_end ! soaks $ lent_back ! soaks $ next
+      shr_back μ xs next = lft_end ! soaks $ lent_back ! soaks $ next
 
 -- ---- the borrow of a slice
 
@@ -207,5 +207,5 @@ module _ (R : RattleType) (κ : Lft) (q : Share) (γ : GName) (b o : ℕ) (ys : 
     closes zs same room next =
         fsplit ! $ feq_l ! (λ _. move ! (1 ∷ []) $ fsplit ! $ move ! (1 ∷ []) $ fsplit ! $ move ! (3 ∷ 2 ∷ []) $
         closes_slice ! soaks R ys zs same b o $ fjoin ! $
-        pure_i ! (mut_slice_at R (sliceRef R (length ys) b o γ zs) (slice_val (b, o) (length ys) ∷ [])) (tt, (tt, tt))
+        pure_i ! (mut_slice_at R (slice_ref R (length ys) b o γ zs) (slice_val (b, o) (length ys) ∷ [])) (tt, (tt, tt))
         (ap (λ (k : ℕ). slice_val (b, o) k ∷ []) (sym same), subst (Room R) (sym same) room) $ fjoin ! $ next)

@@ -102,53 +102,53 @@ module _ {M : Type 1} {𝓤 : Ura M} (𝓛 : Logic 𝓤) where
       via 𝓤 (sep 𝓤 (mean 𝓛 i) (⋆ 𝓛 Γ)) (pop 𝓛 i Γ)
       (via 𝓤 (sep 𝓤 (mean 𝓛 i) (⋆ 𝓛 Δ)) (mono_r 𝓤 (mean 𝓛 i) h) (push 𝓛 i Δ))
 
-  under-two : (i j : Item 𝓤) (Γ Δ : List (Item 𝓤)) → Γ ⊢ Δ → (i ∷ j ∷ Γ) ⊢ (i ∷ j ∷ Δ)
-  under-two i j Γ Δ h = under i (j ∷ Γ) (j ∷ Δ) (under j Γ Δ h)
+  under_two : (i j : Item 𝓤) (Γ Δ : List (Item 𝓤)) → Γ ⊢ Δ → (i ∷ j ∷ Γ) ⊢ (i ∷ j ∷ Δ)
+  under_two i j Γ Δ h = under i (j ∷ Γ) (j ∷ Δ) (under j Γ Δ h)
 
   past_two : (i j k : Item 𝓤) (Γ : List (Item 𝓤)) → (i ∷ j ∷ k ∷ Γ) ⊢ (k ∷ i ∷ j ∷ Γ)
   past_two i j k Γ = qed 𝓛 (i ∷ j ∷ k ∷ Γ) ∵ move ! (2 ∷ []) $ by ! (id⊢ 𝓤 _)
 
   -- past the items of one local
-  items-mono : (τ : Ty) (l : ℕ) (s : Slot) (Γ Δ : List (Item 𝓤)) → Γ ⊢ Δ → items τ l s Γ ⊢ items τ l s Δ
-  items-mono τ l spare Γ Δ h = under-two (‵ (froom τ l 0)) (‵ (fdies τ l)) Γ Δ h
-  items-mono τ l (full v) Γ Δ h = under-two (‵ (fat full_share τ l 0 v)) (‵ (fdies τ l)) Γ Δ h
-  items-mono τ l apart Γ Δ h = h
+  items_mono : (τ : Ty) (l : ℕ) (s : Slot) (Γ Δ : List (Item 𝓤)) → Γ ⊢ Δ → items τ l s Γ ⊢ items τ l s Δ
+  items_mono τ l spare Γ Δ h = under_two (‵ (froom τ l 0)) (‵ (fdies τ l)) Γ Δ h
+  items_mono τ l (full v) Γ Δ h = under_two (‵ (fat full_share τ l 0 v)) (‵ (fdies τ l)) Γ Δ h
+  items_mono τ l apart Γ Δ h = h
 
-  past-items : (τ : Ty) (l : ℕ) (s : Slot) (i : Item 𝓤) (Γ : List (Item 𝓤))
+  past_items : (τ : Ty) (l : ℕ) (s : Slot) (i : Item 𝓤) (Γ : List (Item 𝓤))
       → items τ l s (i ∷ Γ) ⊢ (i ∷ items τ l s Γ)
-  past-items τ l spare i Γ = past_two (‵ (froom τ l 0)) (‵ (fdies τ l)) i Γ
-  past-items τ l (full v) i Γ = past_two (‵ (fat full_share τ l 0 v)) (‵ (fdies τ l)) i Γ
-  past-items τ l apart i Γ = id⊢ 𝓤 _
+  past_items τ l spare i Γ = past_two (‵ (froom τ l 0)) (‵ (fdies τ l)) i Γ
+  past_items τ l (full v) i Γ = past_two (‵ (fat full_share τ l 0 v)) (‵ (fdies τ l)) i Γ
+  past_items τ l apart i Γ = id⊢ 𝓤 _
 
   past_room : (τ : Ty) (l : ℕ) (s : Slot) (i : Item 𝓤) (Γ Δ : List (Item 𝓤)) → Γ ⊢ (i ∷ Δ)
       → room τ l s Γ ⊢ (i ∷ room τ l s Δ)
   past_room τ l spare i Γ Δ h = h
   past_room τ l (full v) i Γ Δ h = h
   past_room τ l apart i Γ Δ h =
-      via 𝓤 _ (under-two (‵ (froom τ l 0)) (‵ (fdies τ l)) Γ (i ∷ Δ) h) (past_two (‵ (froom τ l 0)) (‵ (fdies τ l)) i Δ)
+      via 𝓤 _ (under_two (‵ (froom τ l 0)) (‵ (fdies τ l)) Γ (i ∷ Δ) h) (past_two (‵ (froom τ l 0)) (‵ (fdies τ l)) i Δ)
 
   -- past those of all
-  held-mono : (ts : List Ty) (ls : ℕ → ℕ) (ss : List Slot) (Γ Δ : List (Item 𝓤)) → Γ ⊢ Δ
+  held_mono : (ts : List Ty) (ls : ℕ → ℕ) (ss : List Slot) (Γ Δ : List (Item 𝓤)) → Γ ⊢ Δ
       → held ts ls ss Γ ⊢ held ts ls ss Δ
-  held-mono [] ls ss Γ Δ h = h
-  held-mono (τ ∷ ts) ls ss Γ Δ h =
-      held-mono ts (rest ls) (tail ss) (items τ (ls 0) (head ss) Γ) (items τ (ls 0) (head ss) Δ)
-      (items-mono τ (ls 0) (head ss) Γ Δ h)
+  held_mono [] ls ss Γ Δ h = h
+  held_mono (τ ∷ ts) ls ss Γ Δ h =
+      held_mono ts (rest ls) (tail ss) (items τ (ls 0) (head ss) Γ) (items τ (ls 0) (head ss) Δ)
+      (items_mono τ (ls 0) (head ss) Γ Δ h)
 
   past-held : (ts : List Ty) (ls : ℕ → ℕ) (ss : List Slot) (i : Item 𝓤) (Γ : List (Item 𝓤))
       → held ts ls ss (i ∷ Γ) ⊢ (i ∷ held ts ls ss Γ)
   past-held [] ls ss i Γ = id⊢ 𝓤 _
   past-held (τ ∷ ts) ls ss i Γ =
-      via 𝓤 _ (held-mono ts (rest ls) (tail ss) (items τ (ls 0) (head ss) (i ∷ Γ)) (i ∷ items τ (ls 0) (head ss) Γ)
-      (past-items τ (ls 0) (head ss) i Γ))
+      via 𝓤 _ (held_mono ts (rest ls) (tail ss) (items τ (ls 0) (head ss) (i ∷ Γ)) (i ∷ items τ (ls 0) (head ss) Γ)
+      (past_items τ (ls 0) (head ss) i Γ))
       (past-held ts (rest ls) (tail ss) i (items τ (ls 0) (head ss) Γ))
 
-  past-rooms : (ts : List Ty) (ls : ℕ → ℕ) (ss : List Slot) (i : Item 𝓤) (Γ Δ : List (Item 𝓤)) → Γ ⊢ (i ∷ Δ)
+  past_rooms : (ts : List Ty) (ls : ℕ → ℕ) (ss : List Slot) (i : Item 𝓤) (Γ Δ : List (Item 𝓤)) → Γ ⊢ (i ∷ Δ)
       → rooms ts ls ss Γ ⊢ (i ∷ rooms ts ls ss Δ)
-  past-rooms [] ls ss i Γ Δ h = h
-  past-rooms (τ ∷ ts) ls ss i Γ Δ h =
+  past_rooms [] ls ss i Γ Δ h = h
+  past_rooms (τ ∷ ts) ls ss i Γ Δ h =
       past_room τ (ls 0) (head ss) i (rooms ts (rest ls) (tail ss) Γ) (rooms ts (rest ls) (tail ss) Δ)
-      (past-rooms ts (rest ls) (tail ss) i Γ Δ h)
+      (past_rooms ts (rest ls) (tail ss) i Γ Δ h)
 
 -- ---- the start and the end of a function
 
@@ -172,10 +172,10 @@ module _ {M : Type 1} {𝓤 : Ura M} {𝓛 : Logic 𝓤} {K : Type 0} where
       record {
         prf =
             via 𝓤 _ (under 𝓛 k two (i ∷ one)
-            (past-rooms 𝓛 ts ls ss i (held ts ls ss (i ∷ j ∷ Γ)) (held ts ls ss (j ∷ Γ))
+            (past_rooms 𝓛 ts ls ss i (held ts ls ss (i ∷ j ∷ Γ)) (held ts ls ss (j ∷ Γ))
             (past-held 𝓛 ts ls ss i (j ∷ Γ))))
-            (via 𝓤 _ (under-two 𝓛 k i one (j ∷ none)
-            (past-rooms 𝓛 ts ls ss j (held ts ls ss (j ∷ Γ)) (held ts ls ss Γ) (past-held 𝓛 ts ls ss j Γ)))
+            (via 𝓤 _ (under_two 𝓛 k i one (j ∷ none)
+            (past_rooms 𝓛 ts ls ss j (held ts ls ss (j ∷ Γ)) (held ts ls ss Γ) (past-held 𝓛 ts ls ss j Γ)))
             (qed 𝓛 (k ∷ i ∷ j ∷ none) ∵ move ! (1 ∷ 2 ∷ []) $ by ! s.prf));
       }
 

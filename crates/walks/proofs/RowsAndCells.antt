@@ -4,7 +4,7 @@
 --   row_val, row_laws       a row as a machine value, and its laws.
 --   counts_16             a row has 16 counts.
 --   cells_val, cells_laws   24 numbers as a machine value, and their laws.
---   zeros, zerosVal       a local array of zeros; zeros_are, zeros_typed: it is one.
+--   zeros, zeros_val       a local array of zeros; zeros_are, zeros_typed: it is one.
 --
 -- Assumes `Logic`.
 use mathlib.Core.Path.{◌≡◌, refl}
@@ -88,19 +88,19 @@ module _ {M : Type 1} {𝓤 : Ura M} (𝓛 : Logic 𝓤) where
 -- ---- a local array of k times 24 zeros
 
 module _ (k : ℕ) where
-  abbrev pub workTy : Ty
-  workTy = ty_array cells_ty k
+  abbrev pub work_ty : Ty
+  work_ty = ty_array cells_ty k
 
   abbrev pub zeros : List (List ℕ)
   zeros = replicate k zero_row
 
-  abbrev pub zerosVal : Val
-  zerosVal = array_val (replicate k zero_row_val)
+  abbrev pub zeros_val : Val
+  zeros_val = array_val (replicate k zero_row_val)
 
-  pub zeros_are : Is (Array Cells k) zeros (zerosVal ∷ [])
+  pub zeros_are : Is (Array Cells k) zeros (zeros_val ∷ [])
   zeros_are = rep_is Cells zero_row zero_row_val zero_row_is k
 
   pub zeros_typed : {M : Type 1} {𝓤 : Ura M} (𝓛 : Logic 𝓤) →
-      T (has_ty workTy zerosVal) × WT zerosVal
+      T (has_ty work_ty zeros_val) × WT zeros_val
   zeros_typed 𝓛 =
       ((Array-Lawful 𝓛 Cells (Array-Lawful 𝓛 u16 (uint_Lawful 𝓛 w16) 24) k).typed zeros _ zeros_are).0

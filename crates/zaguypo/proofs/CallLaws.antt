@@ -63,11 +63,11 @@ module _ (s : Settings) (t : Table) (ws l : List ℕ) where
   calls_unfit f = calls_as (sym (call_unfit s t ws l f)) (refused l bad_settings bad_settings refl)
 
   module _ (fit : settings_fit s ≡ true) where
-    pub calls-short : length l < room_for t → CallsTo (call_for s (Input.Ready t ws) l) l too_few_lent
-    calls-short h = calls_as (sym (call_short s t ws l fit h)) (refused l too_few_lent too_few_lent refl)
+    pub calls_short : length l < room_for t → CallsTo (call_for s (Input.Ready t ws) l) l too_few_lent
+    calls_short h = calls_as (sym (call_short s t ws l fit h)) (refused l too_few_lent too_few_lent refl)
 
     -- the run, whose last table is u
-    pub calls-ran : room_for t ≤ length l
+    pub calls_ran : room_for t ≤ length l
         → (u : Table) (m : List ℕ) (taken refusal r : ℕ)
         → u ≡ (run_from s t zero_tally no_cell ws).table
         → taken ≡ (run_from s t zero_tally no_cell ws).tally.words
@@ -76,7 +76,7 @@ module _ (s : Settings) (t : Table) (ws l : List ℕ) where
         → m ≡ placed l 0 (bytes_of (image_of u))
         → CallsTo (call_for s (Input.Ready t ws) l) m r
     unfolding ran_call
-    calls-ran h u m taken refusal r last te re ne me =
+    calls_ran h u m taken refusal r last te re ne me =
         calls_as (sym (call_ran s t ws l fit h))
         (record {
           number_is =

@@ -15,7 +15,7 @@ use Rattle.machine.proofs.SoundRows.{sound_few}
 use Rattle.cells.specs.View.{rows_of}
 use Rattle.cells.proofs.ViewLaws.{rows_length}
 use Rattle.census.specs.Series.{below_from, held_from, one_over, figures_in}
-use Rattle.census.proofs.SeriesLaws.{seriesOf, series_zero, series_small, small_as, series_next, series_same}
+use Rattle.census.proofs.SeriesLaws.{series_of, series_zero, series_small, small_as, series_next, series_same}
 use Rattle.census.proofs.SeriesLaws.{count_same, none_critical, below_small, held_small}
 use Rattle.census.proofs.SeriesLaws.{below-figures, held-figures, all_compete}
 use Rattle.census.proofs.ThresholdLaws.{below_from_is, held_from_none}
@@ -117,18 +117,18 @@ loop-q-preserved c =
 
 pub overflow_sub-result : goal.overflow_sub-result
 overflow_sub-result c =
-    let last-count : (let u = rows_of c.args.cells.now in
+    let last_count : (let u = rows_of c.args.cells.now in
     get_or c.loop-q.below 15 0 ≡ waiting u + critical u) =
     let u = rows_of c.args.cells.now in
     let l = c.loop-q in
     let e : l.q ≡ length u = omega (arith, rows_length c.args.cells.now) in
-    ap (λ (a : List ℕ). get_or a 15 0) (l.invariant.3 ∙ ap (seriesOf below_from u) e) ∙ all_compete u c.requires in
+    ap (λ (a : List ℕ). get_or a 15 0) (l.invariant.3 ∙ ap (series_of below_from u) e) ∙ all_compete u c.requires in
     let at-30-is : c.loop-q.at_30 ≡ critical (rows_of c.args.cells.now) =
     let x = c.args.cells.now in
     let l = c.loop-q in
     let e : l.q ≡ length (rows_of x) = omega (arith, rows_length x) in
     l.invariant.2 ∙ ap (count (λ i. is_critical (row (rows_of x) i))) e in
-    omega (arith, last-count, at-30-is)
+    omega (arith, last_count, at-30-is)
 
 pub figures_in-requires : goal.figures_in-requires
 figures_in-requires c =
@@ -144,12 +144,12 @@ figures_in-requires-2 c =
 
 pub returns : goal.returns
 returns c =
-    let last-count : (let u = rows_of c.args.cells.now in
+    let last_count : (let u = rows_of c.args.cells.now in
     get_or c.loop-q.below 15 0 ≡ waiting u + critical u) =
     let u = rows_of c.args.cells.now in
     let l = c.loop-q in
     let e : l.q ≡ length u = omega (arith, rows_length c.args.cells.now) in
-    ap (λ (a : List ℕ). get_or a 15 0) (l.invariant.3 ∙ ap (seriesOf below_from u) e) ∙ all_compete u c.requires in
+    ap (λ (a : List ℕ). get_or a 15 0) (l.invariant.3 ∙ ap (series_of below_from u) e) ∙ all_compete u c.requires in
     let at-30-is : c.loop-q.at_30 ≡ critical (rows_of c.args.cells.now) =
     let x = c.args.cells.now in
     let l = c.loop-q in
@@ -160,9 +160,9 @@ returns c =
     let at = c.loop-q in
     let n = rows_length x in
     let e : at.q ≡ length t = omega (arith, n) in
-    let b = at.invariant.3 ∙ ap (seriesOf below_from t) e in
-    let h = at.invariant.4 ∙ ap (seriesOf held_from t) e in
-    let w : get_or at.below 15 0 - at.at_30 ≡ waiting t = omega (arith, last-count, at-30-is) in
+    let b = at.invariant.3 ∙ ap (series_of below_from t) e in
+    let h = at.invariant.4 ∙ ap (series_of held_from t) e in
+    let w : get_or at.below 15 0 - at.at_30 ≡ waiting t = omega (arith, last_count, at-30-is) in
     rw (
       census_counted t c.requires,
       w,

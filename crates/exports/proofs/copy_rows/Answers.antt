@@ -4,7 +4,7 @@ use mathlib.Core.Path.{refl, sym, ◌∙◌}
 use mathlib.Core.List.{[]}
 use native.Mathlib.Omega.{arith}
 use lib.ListN.{set, get_or}
-use Rattle.counting.proofs.PlacingLaws.{begun_start, begun-next, begun_end}
+use Rattle.counting.proofs.PlacingLaws.{begun_start, begun_next, begun_end}
 use Rattle.machine.specs.Rows.{blank}
 use Rattle.cells.specs.View.{row_of, rows_of}
 use Rattle.cells.proofs.ViewLaws.{rows_length, rows_row, rows_set}
@@ -41,7 +41,7 @@ loop-q-preserved c =
     let q = at.q in
     let v = get_or table q [] in
     let next =
-    begun-next (rows_of c.args.rows.now) 0 (rows_of table)
+    begun_next (rows_of c.args.rows.now) 0 (rows_of table)
     (omega (arith, c.requires, rows_length table, rows_length c.args.rows.now)) q (q + 1) q (row_of v) blank
     (omega arith) (omega arith) (omega (arith, rows_length table)) (sym (rows_row table q)) in (
       omega arith,

@@ -18,7 +18,7 @@ use Rattle.octets.proofs.ByteLaws.{length_words_in, words_first, take_unpacked}
 use Rattle.inputs.specs.Splitting.{Splits}
 use Rattle.inputs.specs.Opening.{Roomy, ShowsMany, ShowsReady}
 use Rattle.inputs.proofs.SplitLaws.{split_count}
-use Rattle.inputs.proofs.OpeningLaws.{holds_refused, holds_longer, shows-many, shows-ready}
+use Rattle.inputs.proofs.OpeningLaws.{holds_refused, holds_longer, shows_many, shows_ready}
 use Rattle.inputs.proofs.open_input.Goals as goal
 
 -- the image's words are among those of the bytes
@@ -32,9 +32,9 @@ room bs ws m split roomy few =
     omega (arith, roomy (omega (arith, count)))
 
 -- the words of the image, as they were unpacked
-image-is : (bs ws y : List ℕ) (m : ℕ) → Splits (words_in bs) m → y ≡ placed ws 0 (words_in (take (4 * m) bs))
+image_is : (bs ws y : List ℕ) (m : ℕ) → Splits (words_in bs) m → y ≡ placed ws 0 (words_in (take (4 * m) bs))
     → take m y ≡ take m (words_in bs)
-image-is bs ws y m split put =
+image_is bs ws y m split put =
     let long = length-take-le (4 * m) bs (within bs m split) in
     take_unpacked (take (4 * m) bs) ws y m (omega (arith, long)) put ∙ words_first m bs
 
@@ -95,32 +95,32 @@ returns-then-last-m-gt-RUN_LIMIT c =
     let bytes = c.args.input.now in
     let fit = sym c.bytes_fit.ensures ∙ not-false _ c.if-not-bytes_fit.false-raw in
     let m = c.image_length-m in
-    let same = image-is bytes c.args.words.now c.unpack-count.new.words m.result m.ensures c.unpack-count.ensures.1 in
+    let same = image_is bytes c.args.words.now c.unpack-count.new.words m.result m.ensures c.unpack-count.ensures.1 in
     let table = table-of _ _ _ _ _ c.in-Table.n same c.read_cells.ensures c.in-Table.is in
     let among : c.in-Table.n ≤ length c.read_cells.new.cells = omega (arith, table.few, c.read_cells.auto.cells) in
     subst (λ (i : Input). ShowsMany i c.read_cells.new.cells c.in-Table.n)
     (sym (bytes_words bytes fit))
-    (shows-many _ _ m.ensures _ _ table _ (sym (length_words_in bytes)) among c.if-last-m-gt-RUN_LIMIT.true)
+    (shows_many _ _ m.ensures _ _ table _ (sym (length_words_in bytes)) among c.if-last-m-gt-RUN_LIMIT.true)
 
 pub returns-else-last-m-gt-RUN_LIMIT : goal.returns-else-last-m-gt-RUN_LIMIT
 returns-else-last-m-gt-RUN_LIMIT c =
     let bytes = c.args.input.now in
     let fit = sym c.bytes_fit.ensures ∙ not-false _ c.if-not-bytes_fit.false-raw in
     let m = c.image_length-m in
-    let same = image-is bytes c.args.words.now c.unpack-count.new.words m.result m.ensures c.unpack-count.ensures.1 in
+    let same = image_is bytes c.args.words.now c.unpack-count.new.words m.result m.ensures c.unpack-count.ensures.1 in
     let table = table-of _ _ _ _ _ c.in-Table.n same c.read_cells.ensures c.in-Table.is in
     let among : c.in-Table.n ≤ length c.read_cells.new.cells = omega (arith, table.few, c.read_cells.auto.cells) in
     subst
     (λ (i : Input). ShowsReady i (words_in bytes) c.read_cells.new.cells c.in-Table.n m.result (length bytes / 4))
     (sym (bytes_words bytes fit))
-    (shows-ready _ _ m.ensures _ _ table _ (sym (length_words_in bytes)) among c.if-last-m-gt-RUN_LIMIT.false)
+    (shows_ready _ _ m.ensures _ _ table _ (sym (length_words_in bytes)) among c.if-last-m-gt-RUN_LIMIT.false)
 
 pub returns-in-Refused : goal.returns-in-Refused
 returns-in-Refused c =
     let bytes = c.args.input.now in
     let fit = sym c.bytes_fit.ensures ∙ not-false _ c.if-not-bytes_fit.false-raw in
     let m = c.image_length-m in
-    let same = image-is bytes c.args.words.now c.unpack-count.new.words m.result m.ensures c.unpack-count.ensures.1 in
+    let same = image_is bytes c.args.words.now c.unpack-count.new.words m.result m.ensures c.unpack-count.ensures.1 in
     let read = ap reading_of (sym same) ∙ sym c.read_cells.ensures.answer_is ∙ c.in-Refused.is in
     bytes_words bytes fit
     ∙ holds_refused (words_in bytes) _ m.ensures c.in-Refused.number c.in-Refused.place read

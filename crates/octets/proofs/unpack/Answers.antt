@@ -6,7 +6,7 @@ use mathlib.Core.List.{List}
 use Prim.Native.Nat.{ℕ, ◌+◌}
 use lib.ListN.{set, length-set}
 use Rattle.machine.specs.Bytes.{words_in}
-use Rattle.counting.proofs.PlacingLaws.{begun_start, begun-next, begun_end}
+use Rattle.counting.proofs.PlacingLaws.{begun_start, begun_next, begun_end}
 use Rattle.octets.proofs.ByteLaws.{length_words_in}
 use Rattle.octets.proofs.unpack.Goals as goal
 
@@ -22,7 +22,7 @@ loop-i-preserved c =
     let i = l.i in
     let count = length_words_in a.bytes.now in
     let next =
-    begun-next a.words.now 0 (words_in a.bytes.now) (omega arith) i (i + 1) i c.word_at.result 0
+    begun_next a.words.now 0 (words_in a.bytes.now) (omega arith) i (i + 1) i c.word_at.result 0
     (omega arith) refl (omega arith) c.word_at.ensures in (
       omega arith,
       length-set l.words i c.word_at.result ∙ l.invariant.1,

@@ -2,7 +2,7 @@
 use mathlib.Core.Path.{◌≡◌, sym, subst}
 use mathlib.Core.Bool.{Bool, true, false, not}
 use lib.Dec.{T}
-use Rattle.runs.proofs.StandLaws.{stands-room, stands-counted, stands-halted, left_less, stands_end}
+use Rattle.runs.proofs.StandLaws.{stands_room, stands_counted, stands_halted, left_less, stands_end}
 use Rattle.runs.proofs.zaguypo_run_rows.Invariants.{settings}
 use Rattle.runs.proofs.zaguypo_run_rows.Goals as goal
 
@@ -22,7 +22,7 @@ go_on-at-requires c =
 
 pub count_word-requires : goal.count_word-requires
 count_word-requires c =
-    stands-room (settings c.args.act c.args.turn) c.args.words.now c.loop-at.invariant (so _ c.loop-at-test.true)
+    stands_room (settings c.args.act c.args.turn) c.args.words.now c.loop-at.invariant (so _ c.loop-at-test.true)
 
 pub loop-at-smaller-then-at : goal.loop-at-smaller-then-at
 loop-at-smaller-then-at c =
@@ -31,7 +31,7 @@ loop-at-smaller-then-at c =
 
 pub loop-at-preserved-then-at : goal.loop-at-preserved-then-at
 loop-at-preserved-then-at c =
-    stands-counted (settings c.args.act c.args.turn) c.args.words.now c.loop-at.invariant (so _ c.loop-at-test.true)
+    stands_counted (settings c.args.act c.args.turn) c.args.words.now c.loop-at.invariant (so _ c.loop-at-test.true)
     c.go_on-at.ensures c.count_word.ensures (so _ c.if-at.true)
 
 pub loop-at-smaller : goal.loop-at-smaller
@@ -41,7 +41,7 @@ loop-at-smaller c =
 
 pub loop-at-preserved : goal.loop-at-preserved
 loop-at-preserved c =
-    stands-halted (settings c.args.act c.args.turn) c.args.words.now c.loop-at.invariant (so _ c.loop-at-test.true)
+    stands_halted (settings c.args.act c.args.turn) c.args.words.now c.loop-at.invariant (so _ c.loop-at-test.true)
     c.go_on-at.ensures (so_not _ c.if-at.false)
 
 pub returns : goal.returns

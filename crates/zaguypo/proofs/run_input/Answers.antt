@@ -141,7 +141,7 @@ run_table-requires c =
     let ends : (c.in-Ready.first ≤ c.in-Ready.last)
     × (4 * c.in-Ready.last ≤ length bytes) =
     (ready.ordered, omega (arith, ready.ends, length_words_in bytes)) in
-    let events-are : words_in (take (4 * c.in-Ready.last - 4 * c.in-Ready.first) (drop (4 * c.in-Ready.first) bytes))
+    let events_are : words_in (take (4 * c.in-Ready.last - 4 * c.in-Ready.first) (drop (4 * c.in-Ready.first) bytes))
     ≡ part (words_in bytes) c.in-Ready.first c.in-Ready.last =
     words_part _ _ bytes ends.0 in
     record {
@@ -150,7 +150,7 @@ run_table-requires c =
           omega (
             arith,
             ready.few,
-            ap length events-are,
+            ap length events_are,
             length-take (c.in-Ready.last - c.in-Ready.first) (drop c.in-Ready.first (words_in bytes)),
           );
     }
@@ -217,11 +217,11 @@ returns-in-Ready c =
     let ends : (c.in-Ready.first ≤ c.in-Ready.last)
     × (4 * c.in-Ready.last ≤ length bytes) =
     (ready.ordered, omega (arith, ready.ends, length_words_in bytes)) in
-    let events-are : words_in (take (4 * c.in-Ready.last - 4 * c.in-Ready.first) (drop (4 * c.in-Ready.first) bytes))
+    let events_are : words_in (take (4 * c.in-Ready.last - 4 * c.in-Ready.first) (drop (4 * c.in-Ready.first) bytes))
     ≡ part (words_in bytes) c.in-Ready.first c.in-Ready.last =
     words_part _ _ bytes ends.0 in
     let table = table_of c.open_input.new.cells c.in-Ready.size in
     calls_as
-    (ap (λ (ws : List ℕ). call_for under (Input.Ready table ws) lent) events-are
+    (ap (λ (ws : List ℕ). call_for under (Input.Ready table ws) lent) events_are
     ∙ call_of_lem under bytes lent _ ready.holds)
     c.run_table.ensures

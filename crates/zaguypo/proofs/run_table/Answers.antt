@@ -11,7 +11,7 @@ use Rattle.machine.proofs.SoundRows.{sound_rows}
 use Rattle.cells.specs.View.{rows_of}
 use Rattle.cells.proofs.ViewLaws.{rows_length}
 use Rattle.images.proofs.CountLaws.{image_low}
-use Rattle.zaguypo.proofs.CallLaws.{calls_unfit, calls-short, calls-ran}
+use Rattle.zaguypo.proofs.CallLaws.{calls_unfit, calls_short, calls_ran}
 use borrow.Author.Tests.{not-true, not-false}
 use Rattle.zaguypo.proofs.run_table.Goals as goal
 
@@ -40,7 +40,7 @@ returns-then-image-image_words c =
     let fit : settings_fit c.args.settings ≡ true =
     sym c.settings_fit.ensures ∙ not-false _ c.if-not-settings_fit.false-raw in
     let a = c.args in
-    calls-short a.settings (rows_of a.cells.now) (words_in a.events.now) a.image.now fit
+    calls_short a.settings (rows_of a.cells.now) (words_in a.events.now) a.image.now fit
     (omega (arith, ap image_length (rows_length a.cells.now), c.image_words.ensures, c.if-image-image_words.true))
 
 pub run_events-ended-requires : goal.run_events-ended-requires
@@ -71,7 +71,7 @@ returns c =
     let put = c.write_image in
     let a = c.args in
     let run = c.run_events-ended in
-    calls-ran a.settings (rows_of a.cells.now) (words_in a.events.now) a.image.now fit
+    calls_ran a.settings (rows_of a.cells.now) (words_in a.events.now) a.image.now fit
     (omega (arith, ap image_length (rows_length a.cells.now), c.image_words.ensures, c.if-image-image_words.false))
     (rows_of run.new.cells) put.new.image _ _ c.number_of.result
     run.ensures.becomes.rows_are

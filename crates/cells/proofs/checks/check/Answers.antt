@@ -13,7 +13,7 @@ use Rattle.rows.specs.Bounds.{RowFits}
 use Rattle.rows.specs.Passes.{clear_past, Joined}
 use Rattle.cells.specs.View.{rows_of}
 use Rattle.cells.proofs.ViewLaws.{rows_length}
-use Rattle.cells.proofs.CheckLaws.{SoundSo, sound_start, sound-suc, sound-not, sound_all}
+use Rattle.cells.proofs.CheckLaws.{SoundSo, sound_start, sound_suc, sound_not, sound_all}
 use Rattle.cells.proofs.CheckLaws.{refused_few, refused_many, refused_row, refused_none}
 use Rattle.cells.proofs.checks.check.Goals as goal
 
@@ -52,7 +52,7 @@ returns-then-not-row_fits c =
     let x = c.args.cells.now in
     let n = rows_length x in
     let e =
-    sound-not (rows_of x) (length x) l.q (omega arith) _ (row_is x l.q _ _ c.row_at-r.ensures c.row_fits.ensures) l.passes l.invariant.4
+    sound_not (rows_of x) (length x) l.q (omega arith) _ (row_is x l.q _ _ c.row_at-r.ensures c.row_fits.ensures) l.passes l.invariant.4
     (not-true _ c.if-not-row_fits.true-raw) in
     let not_sound = subst (λ (k : ℕ). sound_from k 0 (rows_of x) ≡ false) (sym n) e in
     sym (refused_row (rows_of x) (omega arith) (omega arith) not_sound)
@@ -72,7 +72,7 @@ loop-q-preserved c =
       search rules,
       search rules,
       l.invariant.3,
-      sound-suc (rows_of x) (length x) l.q (omega (arith, rows_length x)) _ (row_is x l.q _ _ c.row_at-r.ensures c.row_fits.ensures) l.passes c.joined-more.result
+      sound_suc (rows_of x) (length x) l.q (omega (arith, rows_length x)) _ (row_is x l.q _ _ c.row_at-r.ensures c.row_fits.ensures) l.passes c.joined-more.result
           l.invariant.4 (not-false _ e.if-not-row_fits.false-raw) j,
     )
 

@@ -4,7 +4,7 @@ use mathlib.Core.Path.{refl, sym, ◌∙◌}
 use native.Mathlib.Omega.{arith}
 use lib.ListN.{set, replicate, length-replicate, get_or-replicate}
 use borrow.Author.Rules.{rules}
-use Rattle.counting.proofs.PlacingLaws.{begun_start, begun-next, begun_end}
+use Rattle.counting.proofs.PlacingLaws.{begun_start, begun_next, begun_end}
 use Rattle.machine.specs.Rows.{idle, blank}
 use Rattle.machine.specs.Tables.{fresh_table}
 use Rattle.cells.proofs.FreshLaws.{pad_handed, made_table, made_none, size_left}
@@ -25,7 +25,7 @@ loop-q-preserved c =
     let q = c.loop-q.q in
     let count = length-replicate n idle in
     let next =
-    begun-next (replicate 16 blank) 0 (fresh_table n) (omega arith) q (q + 1) q idle blank (omega arith) (omega arith)
+    begun_next (replicate 16 blank) 0 (fresh_table n) (omega arith) q (q + 1) q idle blank (omega arith) (omega arith)
     (omega arith) (sym (get_or-replicate n q idle blank (omega arith))) in
     (search rules, v.1, v.2, v.3, search rules, (λ i. set (v.5 i) q idle) ∙ next)
 

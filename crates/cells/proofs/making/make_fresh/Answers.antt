@@ -4,7 +4,7 @@ use mathlib.Core.Path.{sym, ◌∙◌}
 use native.Mathlib.Omega.{arith}
 use lib.ListN.{length, set, length-replicate, get_or-replicate}
 use borrow.Author.Rules.{rules}
-use Rattle.counting.proofs.PlacingLaws.{begun_start, begun-next, begun_end, placed_whole}
+use Rattle.counting.proofs.PlacingLaws.{begun_start, begun_next, begun_end, placed_whole}
 use Rattle.machine.specs.Rows.{idle, blank}
 use Rattle.machine.specs.Tables.{fresh_table}
 use Rattle.cells.specs.View.{rows_of}
@@ -24,7 +24,7 @@ loop-q-preserved c =
     let size = rows_length x in
     let count = length-replicate (length x) idle in
     let next =
-    begun-next (rows_of x) 0 (fresh_table (length x)) (omega arith) q (q + 1) q idle blank (omega arith) (omega arith)
+    begun_next (rows_of x) 0 (fresh_table (length x)) (omega arith) q (q + 1) q idle blank (omega arith) (omega arith)
     (omega arith) (sym (get_or-replicate (length x) q idle blank (omega arith))) in (
       search rules,
       search rules,

@@ -5,7 +5,7 @@ use mathlib.Core.List.{map}
 use native.Mathlib.Omega.{arith}
 use lib.ListN.{length-map, get_or-map}
 use borrow.Author.Rules.{rules}
-use Rattle.counting.proofs.PlacingLaws.{begun_start, begun-next, begun-rest, begun_end, placed_whole}
+use Rattle.counting.proofs.PlacingLaws.{begun_start, begun_next, begun_rest, begun_end, placed_whole}
 use Rattle.machine.specs.Rows.{blank}
 use Rattle.machine.specs.Tables.{row}
 use Rattle.machine.specs.Steps.{forgets}
@@ -27,9 +27,9 @@ loop-q-preserved c =
     let q = c.loop-q.q in
     let size = rows_length a.cells.now in
     let count = length-map t f in
-    let old = begun-rest t 0 (map f t) (omega arith) q q blank (omega arith) (omega arith) in
+    let old = begun_rest t 0 (map f t) (omega arith) q q blank (omega arith) (omega arith) in
     let next =
-    begun-next t 0 (map f t) (omega arith) q (q + 1) q (f (row t q)) (f blank) (omega arith) (omega arith) (omega arith)
+    begun_next t 0 (map f t) (omega arith) q (q + 1) q (f (row t q)) (f blank) (omega arith) (omega arith) (omega arith)
     (sym (get_or-map f t q blank)) in
     (search rules, search rules, search rules, search rules, cc)
 

@@ -5,7 +5,7 @@ use native.Mathlib.Omega.{arith}
 use lib.ListN.{length}
 use borrow.Author.Rules.{rules}
 use Rattle.counting.specs.Ranges.{some}
-use Rattle.counting.proofs.RangeLaws.{none-next, one_some}
+use Rattle.counting.proofs.RangeLaws.{none_next, one_some}
 use Rattle.machine.specs.Tables.{row}
 use Rattle.machine.specs.Settings.{writes_turn}
 use Rattle.cells.specs.View.{rows_of}
@@ -31,7 +31,7 @@ loop-q-preserved c =
     let a = c.args in
     let l = c.loop-q in
     let e = sym (ap (writes_turn a.k) c.row_at-r.ensures) ∙ c.if-r-k.false in
-    (search rules, l.invariant.1, none-next (λ i. writes_turn a.k (row (rows_of a.cells.now) i)) l.q l.invariant.2 e)
+    (search rules, l.invariant.1, none_next (λ i. writes_turn a.k (row (rows_of a.cells.now) i)) l.q l.invariant.2 e)
 
 pub returns : goal.returns
 returns c =

@@ -3,7 +3,7 @@
 use mathlib.Core.Path.{◌≡◌, sym, ap, ◌∙◌}
 use native.Mathlib.Omega.{arith}
 use Rattle.images.proofs.SlotLaws.{none_found}
-use Rattle.images.proofs.CountLaws.{fromPasses, counts_start, counts-stop, counts-on, counts_end}
+use Rattle.images.proofs.CountLaws.{from_passes, counts_start, counts_stop, counts_on, counts_end}
 use borrow.Author.Rules.{rules}
 use Rattle.images.proofs.counts.check_counts.Goals as goal
 
@@ -24,7 +24,7 @@ returns-then-f-ne0 c =
     let is = c.passes_refusal-f.ensures in
     is
     ∙ sym (c.loop-q.invariant.1
-    ∙ counts-stop a.n a.words.now c.loop-q.q c.loop-q-test.true
+    ∙ counts_stop a.n a.words.now c.loop-q.q c.loop-q-test.true
     (λ z. c.if-f-ne0.true (none_found (sym is) z)))
 
 pub loop-q-preserved : goal.loop-q-preserved
@@ -32,7 +32,7 @@ loop-q-preserved c =
     let a = c.args in
     let none = none_found c.passes_refusal-f.ensures c.if-f-ne0.false in
     let on =
-    counts-on a.n a.words.now c.loop-q.q c.loop-q-test.true c.requires.long none in
+    counts_on a.n a.words.now c.loop-q.q c.loop-q-test.true c.requires.long none in
     (search rules, c.loop-q.invariant.1 ∙ on)
 
 pub returns : goal.returns
@@ -40,4 +40,4 @@ returns c =
     let a = c.args in
     let at = c.loop-q in
     let end : at.q ≡ a.n = omega arith in
-    sym (at.invariant.1 ∙ ap (fromPasses a.n a.words.now) end ∙ counts_end a.n a.words.now)
+    sym (at.invariant.1 ∙ ap (from_passes a.n a.words.now) end ∙ counts_end a.n a.words.now)

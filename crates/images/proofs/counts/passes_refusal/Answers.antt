@@ -4,7 +4,7 @@ use Prim.Native.Nat.{ℕ, ◌+◌}
 use mathlib.Core.Path.{◌≡◌, sym, ap, ◌∙◌}
 use native.Mathlib.Omega.{arith}
 use Rattle.machine.specs.Images.{pass_place}
-use Rattle.images.proofs.CountLaws.{passes_within, image_low, fromCount, passes_start, passes-stop, passes_on}
+use Rattle.images.proofs.CountLaws.{passes_within, image_low, from_count, passes_start, passes_stop, passes_on}
 use Rattle.images.proofs.CountLaws.{passes_end}
 use borrow.Author.Rules.{rules}
 use Rattle.images.proofs.counts.passes_refusal.Goals as goal
@@ -32,7 +32,7 @@ returns-then-c-ne0 c =
     let k = c.loop-r.r in
     let inv = c.loop-r.invariant in
     let is = here at k inv.2 in
-    passes-stop c.args.n c.args.words.now c.args.q k (at + k) c.count_refusal-c.result
+    passes_stop c.args.n c.args.words.now c.args.q k (at + k) c.count_refusal-c.result
     c.loop-r-test.true (omega (arith, is, inv.3, c.loop-r-test.true)) is c.count_refusal-c.ensures
     c.if-c-ne0.true
     ∙ sym inv.5
@@ -60,5 +60,5 @@ returns c =
     let end : at.r ≡ a.n = omega arith in
     sym
     (at.invariant.5
-    ∙ ap (fromCount a.n a.words.now a.q) end
+    ∙ ap (from_count a.n a.words.now a.q) end
     ∙ passes_end a.n a.words.now a.q)

@@ -5,7 +5,7 @@ use mathlib.Core.Path.{◌≡◌}
 use lib.ListN.{length}
 use Rattle.machine.specs.Images.{pass_place}
 use Rattle.images.specs.Inner.{passes_refusal}
-use Rattle.images.proofs.CountLaws.{fromCount}
+use Rattle.images.proofs.CountLaws.{from_count}
 use Rattle.images.proofs.counts.passes_refusal.Given as goal
 
 abbrev pub invariant-loop-r : goal.invariant-loop-r
@@ -15,7 +15,7 @@ invariant-loop-r l =
     × (l.at ≡ pass_place l.n l.q 0)
     × (l.at + l.n ≤ length l.words)
     × (l.at + l.n ≤ 336)
-    × (passes_refusal l.words l.n l.q ≡ fromCount l.n l.words l.q l.r)
+    × (passes_refusal l.words l.n l.q ≡ from_count l.n l.words l.q l.r)
 
 abbrev pub decreases-loop-r : goal.decreases-loop-r
 decreases-loop-r l = l.n - l.r

@@ -11,7 +11,7 @@ use Rattle.cells.specs.View.{rows_of}
 use Rattle.cells.proofs.ViewLaws.{rows_length}
 use Rattle.images.specs.Inner.{pass_words}
 use Rattle.images.proofs.CountLaws.{passes_within}
-use Rattle.images.proofs.WriteLaws.{passes_start, passes-next, passes_end}
+use Rattle.images.proofs.WriteLaws.{passes_start, passes_next, passes_end}
 use borrow.Author.Rules.{rules}
 use Rattle.images.proofs.counts.write_counts.Goals as goal
 
@@ -46,7 +46,7 @@ loop-q-preserved c =
     let words = wrote.ensures ∙ (λ i. placed (at.invariant.5 i) (pass_place n at.q 0)
     (pass_words n at.q (c.row_at-row.ensures i).passes)) in
     let next =
-    passes-next (rows_of x) c.args.out.now n at.invariant.2 at.q c.loop-q-test.true c.requires.long in
+    passes_next (rows_of x) c.args.out.now n at.invariant.2 at.q c.loop-q-test.true c.requires.long in
     (search rules, at.invariant.1, at.invariant.2, at.invariant.3, wrote.auto.out ∙ at.invariant.4, words ∙ next)
 
 pub returns : goal.returns

@@ -5,7 +5,7 @@ use mathlib.Core.Path.{◌≡◌}
 use lib.ListN.{length}
 use Rattle.machine.specs.Images.{image_length}
 use Rattle.cells.specs.View.{rows_of}
-use Rattle.images.proofs.WriteLaws.{passesPut}
+use Rattle.images.proofs.WriteLaws.{passes_put}
 use Rattle.images.proofs.counts.write_counts.Given as goal
 
 abbrev pub invariant-loop-q : goal.invariant-loop-q
@@ -15,7 +15,7 @@ invariant-loop-q l =
     × (l.n ≡ length (rows_of l.cells))
     × (image_length l.n ≤ length l.initial.out)
     × (length l.out ≡ length l.initial.out)
-    × (l.out ≡ passesPut (rows_of l.cells) l.initial.out l.n l.q)
+    × (l.out ≡ passes_put (rows_of l.cells) l.initial.out l.n l.q)
 
 abbrev pub decreases-loop-q : goal.decreases-loop-q
 decreases-loop-q l = l.n - l.q

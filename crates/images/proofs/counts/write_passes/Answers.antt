@@ -6,7 +6,7 @@ use mathlib.Core.List.{List}
 use native.Mathlib.Omega.{arith}
 use lib.ListN.{get_or, set, length-set}
 use Rattle.counting.specs.Placing.{placed}
-use Rattle.counting.proofs.PlacingLaws.{begun_start, begun-next, begun_end}
+use Rattle.counting.proofs.PlacingLaws.{begun_start, begun_next, begun_end}
 use Rattle.images.specs.Inner.{pass_word, pass_words}
 use Rattle.images.proofs.CountLaws.{passes_within, image_low, length-pass_words, pass_word_lem}
 use borrow.Author.Rules.{rules}
@@ -40,7 +40,7 @@ loop-r-preserved c =
     let v = c.whole.result in
     let word : v ≡ pass_word a.q l.r (get_or a.passes l.r 0) = omega (arith, c.whole.ensures, inv.6) in
     let next =
-    begun-next a.out.now at (pass_words a.n a.q a.passes) (omega (arith, long, inv.4)) l.r (l.r + 1)
+    begun_next a.out.now at (pass_words a.n a.q a.passes) (omega (arith, long, inv.4)) l.r (l.r + 1)
     (at + l.r) v 0 refl refl (omega (arith, low, long))
     (word ∙ sym (pass_word_lem a.n a.q a.passes l.r low)) in (
       search rules,

@@ -2,7 +2,7 @@
 -- Assumes nothing.
 use mathlib.Core.Path.{◌≡◌, refl, sym, ap, ◌∙◌}
 use native.Mathlib.Omega.{arith}
-use Rattle.images.proofs.WalkLaws.{fromTurn, turns-stop, turns-on, turns_end}
+use Rattle.images.proofs.WalkLaws.{from_turn, turns_stop, turns_on, turns_end}
 use borrow.Author.Rules.{rules}
 use Rattle.images.proofs.decoding.check_turns.Goals as goal
 
@@ -12,7 +12,7 @@ loop-k-init c = (search rules, search rules, refl)
 pub returns-then-r-ne0 : goal.returns-then-r-ne0
 returns-then-r-ne0 c =
     let at = c.turn_place-i in
-    turns-stop c.args.n c.args.words.now c.loop-k.k at.result c.turn_refusal-r.result
+    turns_stop c.args.n c.args.words.now c.loop-k.k at.result c.turn_refusal-r.result
     c.loop-k-test.true c.requires.long at.ensures c.turn_refusal-r.ensures c.if-r-ne0.true
     ∙ sym c.loop-k.invariant.2
 
@@ -20,7 +20,7 @@ pub loop-k-preserved : goal.loop-k-preserved
 loop-k-preserved c =
     let at = c.turn_place-i in
     let on =
-    turns-on c.args.n c.args.words.now c.loop-k.k at.result c.turn_refusal-r.result
+    turns_on c.args.n c.args.words.now c.loop-k.k at.result c.turn_refusal-r.result
     c.loop-k-test.true c.requires.long at.ensures c.turn_refusal-r.ensures c.if-r-ne0.false in
     (search rules, search rules, c.loop-k.invariant.2 ∙ on)
 
@@ -29,4 +29,4 @@ returns c =
     let a = c.args in
     let at = c.loop-k in
     let end : at.k ≡ a.n = omega arith in
-    sym (at.invariant.2 ∙ ap (fromTurn a.n a.words.now) end ∙ turns_end a.n a.words.now)
+    sym (at.invariant.2 ∙ ap (from_turn a.n a.words.now) end ∙ turns_end a.n a.words.now)

@@ -33,7 +33,7 @@ pub overflow_cast-result : goal.overflow_cast-result
 overflow_cast-result c =
     let header : Header (get_or c.args.words.now 0 0) c.size_in-n.result =
     header_some _ _ c.size_in-n.ensures c.if-n-eq0.false in
-    let all-is : (let w = get_or c.args.words.now 0 0 in
+    let all_is : (let w = get_or c.args.words.now 0 0 in
     let n = c.size_in-n.result in
     c.words_by-all.result ≡ cond (says_passes w) (image_length n) (bare_length n)) =
     let w = get_or c.args.words.now 0 0 in
@@ -41,7 +41,7 @@ overflow_cast-result c =
     ∙ ap (λ (m : ℕ). cond (says_passes w) (image_length m) (bare_length m)) header.size_is in
     let n = c.size_in-n.result in
     let w = get_or c.args.words.now 0 0 in
-    omega (arith, c.lesser.ensures, all-is, either_low (says_passes w) n header.few)
+    omega (arith, c.lesser.ensures, all_is, either_low (says_passes w) n header.few)
 
 pub returns-then-len-all : goal.returns-then-len-all
 returns-then-len-all c =
@@ -61,7 +61,7 @@ pub read_words-f-requires : goal.read_words-f-requires
 read_words-f-requires c =
     let header : Header (get_or c.args.words.now 0 0) c.size_in-n.result =
     header_some _ _ c.size_in-n.ensures c.if-n-eq0.false in
-    let all-is : (let w = get_or c.args.words.now 0 0 in
+    let all_is : (let w = get_or c.args.words.now 0 0 in
     let n = c.size_in-n.result in
     c.words_by-all.result ≡ cond (says_passes w) (image_length n) (bare_length n)) =
     let w = get_or c.args.words.now 0 0 in
@@ -69,7 +69,7 @@ read_words-f-requires c =
     ∙ ap (λ (m : ℕ). cond (says_passes w) (image_length m) (bare_length m)) header.size_is in
     let h = header in
     record {
-      sized = record { some = h.some; few = h.few; length_is = c.if-len-all.false ∙ all-is };
+      sized = record { some = h.some; few = h.few; length_is = c.if-len-all.false ∙ all_is };
       n_in_bounds = omega (arith, h.few, c.requires);
     }
 

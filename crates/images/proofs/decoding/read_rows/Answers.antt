@@ -5,7 +5,7 @@ use mathlib.Core.Path.{◌≡◌, refl, sym, ap, ◌∙◌}
 use mathlib.Core.Bool.{true, false≢true}
 use native.Mathlib.Omega.{arith}
 use lib.ListN.{take, set}
-use Rattle.counting.proofs.PlacingLaws.{begun_start, begun-next, begun_end, take_first}
+use Rattle.counting.proofs.PlacingLaws.{begun_start, begun_next, begun_end, take_first}
 use Rattle.machine.specs.Rows.{blank}
 use Rattle.machine.specs.Tables.{Table}
 use Rattle.machine.specs.Images.{row_in, rows_in}
@@ -14,10 +14,10 @@ use Rattle.cells.specs.View.{row_of, rows_of}
 use Rattle.cells.proofs.ViewLaws.{rows_length}
 use Rattle.images.proofs.SlotLaws.{none_found}
 use Rattle.images.proofs.WalkLaws.{
-  fromRow,
-  ofRow,
+  from_row,
+  of_row,
   rows_start,
-  rows-stop,
+  rows_stop,
   rows_on,
   rows_end,
   map-take,
@@ -54,11 +54,11 @@ returns-then-found-ne0 c =
     let q = c.loop-q.q in
     let row = c.read_row-f.ensures.row_read in
     let inv = c.loop-q.invariant in
-    let some : (ofRow n ws q).refusal ≡ 0 → ⊥ = λ z. c.if-found-ne0.true (none_found (sym row.found_is) z) in
+    let some : (of_row n ws q).refusal ≡ 0 → ⊥ = λ z. c.if-found-ne0.true (none_found (sym row.found_is) z) in
     record {
       words_read =
           record {
-            found_is = row.found_is ∙ sym (inv.2 ∙ rows-stop n ws q c.loop-q-test.true some);
+            found_is = row.found_is ∙ sym (inv.2 ∙ rows_stop n ws q c.loop-q-test.true some);
             rows_are = λ z. absurd (c.if-found-ne0.true z);
             size_is = row.size_is ∙ inv.1;
           };
@@ -80,7 +80,7 @@ loop-q-preserved c =
     let count = length-rows_in n ws 0 n in
     let row_is = ap (row_in n ws) {x = q} {y = 0 + q} (omega arith) ∙ sym (row-rows_in n ws 0 n q l) in
     let next =
-    begun-next (rows_of a.cells.now) 0 (rows_in n ws 0 n) (omega (arith, rows_length a.cells.now, pre.n_in_bounds)) q
+    begun_next (rows_of a.cells.now) 0 (rows_in n ws 0 n) (omega (arith, rows_length a.cells.now, pre.n_in_bounds)) q
     (q + 1) q (row_in n ws q) blank (omega arith) (omega arith) (omega arith) row_is in (
       omega arith,
       row.size_is ∙ inv.1,
@@ -102,7 +102,7 @@ returns c =
     record {
       words_read =
           record {
-            found_is = sym (inv.2 ∙ ap (fromRow n ws) end ∙ rows_end n ws);
+            found_is = sym (inv.2 ∙ ap (from_row n ws) end ∙ rows_end n ws);
             rows_are =
                 λ z.
                 map-take row_of n at.cells

@@ -4,7 +4,7 @@ use mathlib.Core.Path.{sym, ap, ◌∙◌}
 use borrow.Author.Tests.{not-true, not-false}
 use Rattle.images.proofs.SlotLaws.{none_found}
 use Rattle.images.proofs.CountLaws.{sized_long, sized_counted, counts_none}
-use Rattle.images.proofs.ImageLaws.{of_all, image_rows, image-turns, image-bare, image-counts}
+use Rattle.images.proofs.ImageLaws.{of_all, image_rows, image_turns, image_bare, image_counts}
 use Rattle.images.proofs.decoding.read_words.Goals as goal
 
 pub returns-then-f-ne0 : goal.returns-then-f-ne0
@@ -35,7 +35,7 @@ returns-then-g-ne0 c =
     record {
       found_is =
           turns
-          ∙ sym (image-turns a.n a.words.now long.some long.long none a.counted
+          ∙ sym (image_turns a.n a.words.now long.some long.long none a.counted
           (λ z. c.if-g-ne0.true (none_found (sym turns) z)));
       rows_are = λ z. rows.rows_are c.if-f-ne0.false;
       size_is = rows.size_is;
@@ -51,7 +51,7 @@ returns-then-not-counted c =
       found_is =
           c.check_turns-g.ensures
           ∙ sym (ap (of_all a.n a.words.now) (not-true a.counted c.if-not-counted.true-raw)
-          ∙ image-bare a.n a.words.now long.some long.long none);
+          ∙ image_bare a.n a.words.now long.some long.long none);
       rows_are = λ z. rows.rows_are c.if-f-ne0.false;
       size_is = rows.size_is;
     }
@@ -69,7 +69,7 @@ returns-then-fit c =
     let enough = sized_counted a.words.now a.n a.counted c.requires.sized counted in
     let turns = none_found c.check_turns-g.ensures c.if-g-ne0.false in
     let last =
-    ap (of_all a.n a.words.now) counted ∙ image-counts a.n a.words.now long.some long.long none turns in
+    ap (of_all a.n a.words.now) counted ∙ image_counts a.n a.words.now long.some long.long none turns in
     record {
       found_is =
           sym (last ∙ counts_none a.n a.words.now enough.long (read.all_fit.none counted c.if-fit.true));
@@ -91,7 +91,7 @@ returns c =
     let counted = not-false _ c.if-not-counted.false-raw in
     let turns = none_found c.check_turns-g.ensures c.if-g-ne0.false in
     let last =
-    ap (of_all a.n a.words.now) counted ∙ image-counts a.n a.words.now long.some long.long none turns in
+    ap (of_all a.n a.words.now) counted ∙ image_counts a.n a.words.now long.some long.long none turns in
     record {
       found_is = c.check_counts.ensures ∙ sym last;
       rows_are = λ z. rows.rows_are c.if-f-ne0.false;

@@ -11,7 +11,7 @@ use Rattle.machine.proofs.SoundRows.{sound_rows}
 use Rattle.cells.specs.View.{rows_of}
 use Rattle.cells.proofs.ViewLaws.{rows_length}
 use Rattle.images.specs.Inner.{rows_part, turns_part, passes_part}
-use Rattle.images.proofs.WriteLaws.{image-placed}
+use Rattle.images.proofs.WriteLaws.{image_placed}
 use Rattle.images.proofs.encoding.write_cells.Goals as goal
 
 pub overflow_cast-out : goal.overflow_cast-out
@@ -81,5 +81,5 @@ returns c =
     (c.write_turns.ensures
     ∙ ap (λ (l : List ℕ). placed l (turn_place (length x) 1) (turns_part u))
     (rows ∙ ap (λ (l : List ℕ). placed l 1 (rows_part u)) head))
-    ∙ image-placed u c.args.out.now (omega arith) c.requires.long (turn_place (length x) 1) (bare_length (length x))
+    ∙ image_placed u c.args.out.now (omega arith) c.requires.long (turn_place (length x) 1) (bare_length (length x))
     (omega arith) (omega arith)

@@ -4,7 +4,7 @@ use Prim.Native.Nat.{◌+◌, ◌-◌, ◌<◌}
 use mathlib.Core.Path.{refl, sym, ap, ◌∙◌}
 use native.Mathlib.Omega.{arith}
 use lib.ListN.{length, set, length-set}
-use Rattle.counting.proofs.PlacingLaws.{begun_start, begun-next, begun_end}
+use Rattle.counting.proofs.PlacingLaws.{begun_start, begun_next, begun_end}
 use Rattle.machine.specs.Images.{TURN, turn_place, body_of}
 use Rattle.machine.specs.declared.Row.{Row}
 use Rattle.machine.proofs.SoundRows.{sound_rows}
@@ -45,7 +45,7 @@ loop-k-preserved c =
     let row_is = c.row_at-r.ensures in
     let word = c.word.ensures ∙ ap (λ (r : Row). word_for TURN k r) row_is ∙ turn_word t k at.invariant.0 l in
     let next =
-    begun-next o (turn_place (length x) 1) (turns_part t) (omega (arith, c.requires.long, at.invariant.3)) (k - 1)
+    begun_next o (turn_place (length x) 1) (turns_part t) (omega (arith, c.requires.long, at.invariant.3)) (k - 1)
     (k + 1 - 1)
     c.turn_place-i.result c.word.result 0 (omega (arith, c.turn_place-i.ensures)) (omega arith)
     (omega arith) word in (

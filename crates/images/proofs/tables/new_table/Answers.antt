@@ -6,7 +6,7 @@ use mathlib.Core.Path.{refl, sym, ◌∙◌}
 use native.Mathlib.Omega.{arith}
 use lib.ListN.{take, set, replicate}
 use lib.Seq.{length-take-le}
-use Rattle.counting.proofs.PlacingLaws.{begun_start, begun-next, begun_end}
+use Rattle.counting.proofs.PlacingLaws.{begun_start, begun_next, begun_end}
 use Rattle.machine.specs.Rows.{blank}
 use Rattle.cells.specs.View.{rows_of}
 use Rattle.cells.proofs.ViewLaws.{rows_length}
@@ -30,7 +30,7 @@ loop-q-preserved c =
     let size = rows_length (take a.n x) ∙ length-take-le a.n x (omega arith) in
     let row_is = c.row_at.ensures ∙ row_taken x a.n q (omega arith) in
     let next =
-    begun-next (replicate 16 blank) 0 (rows_of (take a.n x)) (omega arith) q (q + 1) q c.row_at.result blank
+    begun_next (replicate 16 blank) 0 (rows_of (take a.n x)) (omega arith) q (q + 1) q c.row_at.result blank
     (omega arith) (omega arith) (omega arith) row_is in
     (omega (arith, l), inv.1, (λ i. set (inv.2 i) q c.row_at.result) ∙ next)
 

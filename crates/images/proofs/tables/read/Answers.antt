@@ -1,14 +1,14 @@
 -- `images::tables::read` meets its contract: what is handed back, by the answer. Assumes nothing.
 use mathlib.Core.Path.{subst, ◌∙◌}
 use Rattle.images.specs.Answers.{ReadInto}
-use Rattle.images.proofs.TableLaws.{read-few, read_table, read_none}
+use Rattle.images.proofs.TableLaws.{read_few, read_table, read_none}
 use Rattle.images.proofs.tables.read.Goals as goal
 
 pub new_table-requires : goal.new_table-requires
 new_table-requires c =
     let ws = c.args.words.now in
     let into = subst (ReadInto ws _ _) c.in-Table.is c.read_cells-answer.ensures in
-    (read-few ws _ _ c.in-Table.n into, into.size_is)
+    (read_few ws _ _ c.in-Table.n into, into.size_is)
 
 pub returns-in-Table : goal.returns-in-Table
 returns-in-Table c =

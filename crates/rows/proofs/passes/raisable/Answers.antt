@@ -4,7 +4,7 @@ use mathlib.Core.Path.{◌≡◌, subst}
 use native.Mathlib.Omega.{arith}
 use lib.Dec.{ltb}
 use borrow.Author.Rules.{rules}
-use Rattle.rows.proofs.PassLaws.{noneOf, none_yet, one_more, low_next, full_at, raisable_by}
+use Rattle.rows.proofs.PassLaws.{none_of, none_yet, one_more, low_next, full_at, raisable_by}
 use Rattle.rows.proofs.passes.raisable.Goals as goal
 
 pub loop-i-init : goal.loop-i-init
@@ -28,4 +28,4 @@ returns c =
     let at = c.loop-i in
     let end : at.i ≡ 16 = omega (arith, at.invariant.0) in
     raisable_by x.c x.a _ (λ j l. at.invariant.2 j (omega (arith, end)))
-    (subst (λ (k : ℕ). ltb at.any 1 ≡ noneOf (full_at x.c x.a) k) end at.invariant.1)
+    (subst (λ (k : ℕ). ltb at.any 1 ≡ none_of (full_at x.c x.a) k) end at.invariant.1)

@@ -3,12 +3,12 @@ use Prim.Native.Nat.{ℕ, ◌-◌, ◌≤◌, ◌<◌}
 use mathlib.Core.Path.{◌≡◌}
 use lib.Dec.{ltb}
 use lib.ListN.{get_or}
-use Rattle.rows.proofs.PassLaws.{noneOf, full_at}
+use Rattle.rows.proofs.PassLaws.{none_of, full_at}
 use Rattle.rows.proofs.passes.raisable.Given as goal
 
 abbrev pub invariant-loop-i : goal.invariant-loop-i
 invariant-loop-i l =
-    (l.i ≤ 16) × (ltb l.any 1 ≡ noneOf (full_at l.c l.a) l.i) × ((j : ℕ) → j < l.i → get_or l.a j 0 ≤ 65535)
+    (l.i ≤ 16) × (ltb l.any 1 ≡ none_of (full_at l.c l.a) l.i) × ((j : ℕ) → j < l.i → get_or l.a j 0 ≤ 65535)
 
 abbrev pub decreases-loop-i : goal.decreases-loop-i
 decreases-loop-i l = 16 - l.i

@@ -6,7 +6,7 @@ use lib.Dec.{ltb}
 use lib.ListN.{get_or}
 use borrow.Author.Rules.{rules}
 use Rattle.rows.specs.Passes.{past_at}
-use Rattle.rows.proofs.PassLaws.{noneOf, none_yet, one_more, low_next, reaches}
+use Rattle.rows.proofs.PassLaws.{none_of, none_yet, one_more, low_next, reaches}
 use Rattle.rows.proofs.passes.rest_clear.Goals as goal
 
 pub loop-i-init : goal.loop-i-init
@@ -34,7 +34,7 @@ returns c =
     let at = c.loop-i in
     let end : at.i ≡ 16 = omega (arith, at.invariant.0) in
     record {
-      told = subst (λ (k : ℕ). ltb at.any 1 ≡ noneOf (past_at x.n x.a) k) end at.invariant.1;
+      told = subst (λ (k : ℕ). ltb at.any 1 ≡ none_of (past_at x.n x.a) k) end at.invariant.1;
       sixteen = search rules;
       low = λ j l. at.invariant.2 j (omega (arith, end));
     }

@@ -4,12 +4,12 @@ use mathlib.Core.Path.{◌≡◌}
 use lib.Dec.{ltb}
 use lib.ListN.{get_or}
 use Rattle.rows.specs.Passes.{past_at}
-use Rattle.rows.proofs.PassLaws.{noneOf}
+use Rattle.rows.proofs.PassLaws.{none_of}
 use Rattle.rows.proofs.passes.rest_clear.Given as goal
 
 abbrev pub invariant-loop-i : goal.invariant-loop-i
 invariant-loop-i l =
-    (l.i ≤ 16) × (ltb l.any 1 ≡ noneOf (past_at l.n l.a) l.i) × ((j : ℕ) → j < l.i → get_or l.a j 0 ≤ 65535)
+    (l.i ≤ 16) × (ltb l.any 1 ≡ none_of (past_at l.n l.a) l.i) × ((j : ℕ) → j < l.i → get_or l.a j 0 ≤ 65535)
 
 abbrev pub decreases-loop-i : goal.decreases-loop-i
 decreases-loop-i l = 16 - l.i

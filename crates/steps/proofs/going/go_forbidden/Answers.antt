@@ -8,13 +8,13 @@ use Rattle.rows.specs.Pushing.{to_push}
 use Rattle.cells.specs.View.{rows_of}
 use Rattle.cells.specs.Writers.{has_writer}
 use Rattle.cells.proofs.ViewLaws.{rows_length}
-use Rattle.steps.proofs.SettingLaws.{forbids-not, forbids-away, forbids-by}
+use Rattle.steps.proofs.SettingLaws.{forbids_not, forbids_away, forbids_by}
 use Rattle.steps.proofs.going.go_forbidden.Goals as goal
 
 pub returns-then-settings-ne-ONE_WRITER : goal.returns-then-settings-ne-ONE_WRITER
 returns-then-settings-ne-ONE_WRITER c =
     let a = c.args in
-    sym (forbids-not (rows_of a.cells.now) a.p a.settings c.if-settings-ne-ONE_WRITER.true)
+    sym (forbids_not (rows_of a.cells.now) a.p a.settings c.if-settings-ne-ONE_WRITER.true)
 
 pub returns-then-not-to_push : goal.returns-then-not-to_push
 returns-then-not-to_push c =
@@ -24,7 +24,7 @@ returns-then-not-to_push c =
     let row_is = c.row_at-r.ensures in
     let away = sym (ap to_push row_is) ∙ sym c.to_push.ensures ∙ not-true _ c.if-not-to_push.true-raw in
     let one = c.if-settings-ne-ONE_WRITER.false in
-    sym (forbids-away (rows_of a.cells.now) a.p a.settings one inside away)
+    sym (forbids_away (rows_of a.cells.now) a.p a.settings one inside away)
 
 pub returns : goal.returns
 returns c =
@@ -37,4 +37,4 @@ returns c =
     let goes = sym (ap to_push row_is) ∙ sym push ∙ not-false _ c.if-not-to_push.false-raw in
     c.has_writer.ensures
     ∙ ap (λ (r : Row). has_writer r.level t) row_is
-    ∙ sym (forbids-by t a.p a.settings c.if-settings-ne-ONE_WRITER.false inside goes)
+    ∙ sym (forbids_by t a.p a.settings c.if-settings-ne-ONE_WRITER.false inside goes)

@@ -13,7 +13,7 @@ use Rattle.steps.specs.Stepping.{StepsUnder}
 use Rattle.machine.proofs.SettingLaws.{others_free}
 use Rattle.steps.proofs.TakeLaws.{formed_kind, last_kind}
 use Rattle.steps.proofs.SettingLaws.{takes_free}
-use Rattle.steps.proofs.StepLaws.{kind-steps, process-steps, ready, as_parts, taken-under}
+use Rattle.steps.proofs.StepLaws.{kind-steps, process-steps, ready, as_parts, taken_under}
 use Rattle.steps.proofs.stepping.advance_under.Goals as goal
 
 -- ---- no such process
@@ -69,7 +69,7 @@ returns-then-is_of c =
     let w = c.args.word in
     let process = c.process_of-p.ensures in
     let m = c.args.settings in
-    taken-under m x w c.requires.cells_value c.requires.settings_value f (omega (arith, process, c.if-cells-p.false)) y v
+    taken_under m x w c.requires.cells_value c.requires.settings_value f (omega (arith, process, c.if-cells-p.false)) y v
     (as_parts (λ i j l. TakesUnder m x i j l y v) _ _ _ _ _ _ is (sym process) (sym c.argument_of-a.ensures) h) in
     let is = kind_is _ LOOK _ c.is_of.ensures c.if-is_of.true in
     taken LOOK _ _ is.0 is.1
@@ -96,7 +96,7 @@ returns-then-is_of-2 c =
     let w = c.args.word in
     let process = c.process_of-p.ensures in
     let m = c.args.settings in
-    taken-under m x w c.requires.cells_value c.requires.settings_value f (omega (arith, process, c.if-cells-p.false)) y v
+    taken_under m x w c.requires.cells_value c.requires.settings_value f (omega (arith, process, c.if-cells-p.false)) y v
     (as_parts (λ i j l. TakesUnder m x i j l y v) _ _ _ _ _ _ is (sym process) (sym c.argument_of-a.ensures) h) in
     let is = kind_is _ GO _ c.is_of-2.ensures c.if-is_of-2.true in
     taken GO _ _ is.0 is.1 c.take_go.ensures
@@ -122,7 +122,7 @@ returns-then-is_of-3 c =
     let w = c.args.word in
     let process = c.process_of-p.ensures in
     let m = c.args.settings in
-    taken-under m x w c.requires.cells_value c.requires.settings_value f (omega (arith, process, c.if-cells-p.false)) y v
+    taken_under m x w c.requires.cells_value c.requires.settings_value f (omega (arith, process, c.if-cells-p.false)) y v
     (as_parts (λ i j l. TakesUnder m x i j l y v) _ _ _ _ _ _ is (sym process) (sym c.argument_of-a.ensures) h) in
     let is = kind_is _ STAY _ c.is_of-3.ensures c.if-is_of-3.true in
     taken STAY _ _ is.0 is.1
@@ -153,13 +153,13 @@ returns-then-kind-eq-FLICKER c =
     let w = c.args.word in
     let process = c.process_of-p.ensures in
     let m = c.args.settings in
-    taken-under m x w c.requires.cells_value c.requires.settings_value f (omega (arith, process, c.if-cells-p.false)) y v
+    taken_under m x w c.requires.cells_value c.requires.settings_value f (omega (arith, process, c.if-cells-p.false)) y v
     (as_parts (λ i j l. TakesUnder m x i j l y v) _ _ _ _ _ _ is (sym process) (sym c.argument_of-a.ensures) h) in
     let word : ℕ =
     c.args.word in
-    let formed-so : formed word ≡ true =
+    let formed_so : formed word ≡ true =
     sym c.formed-2.ensures ∙ not-false _ c.if-not-formed-2.false-raw in
-    taken _ _ _ formed-so (sym c.kind_of-kind.ensures ∙ c.if-kind-eq-FLICKER.true) c.take_flicker.ensures
+    taken _ _ _ formed_so (sym c.kind_of-kind.ensures ∙ c.if-kind-eq-FLICKER.true) c.take_flicker.ensures
 
 pub take_come-requires : goal.take_come-requires
 take_come-requires c =
@@ -179,13 +179,13 @@ returns-then-kind-eq-COME c =
     let w = c.args.word in
     let process = c.process_of-p.ensures in
     let m = c.args.settings in
-    taken-under m x w c.requires.cells_value c.requires.settings_value f (omega (arith, process, c.if-cells-p.false)) y v
+    taken_under m x w c.requires.cells_value c.requires.settings_value f (omega (arith, process, c.if-cells-p.false)) y v
     (as_parts (λ i j l. TakesUnder m x i j l y v) _ _ _ _ _ _ is (sym process) (sym c.argument_of-a.ensures) h) in
     let word : ℕ =
     c.args.word in
-    let formed-so : formed word ≡ true =
+    let formed_so : formed word ≡ true =
     sym c.formed-2.ensures ∙ not-false _ c.if-not-formed-2.false-raw in
-    taken COME _ _ formed-so (sym c.kind_of-kind.ensures ∙ c.if-kind-eq-COME.true)
+    taken COME _ _ formed_so (sym c.kind_of-kind.ensures ∙ c.if-kind-eq-COME.true)
     (takes_free _ (others_free _ _ COME _ (omega arith) (omega arith)) c.take_come.ensures)
 
 pub take_cancel-requires : goal.take_cancel-requires
@@ -206,21 +206,21 @@ returns c =
     let w = c.args.word in
     let process = c.process_of-p.ensures in
     let m = c.args.settings in
-    taken-under m x w c.requires.cells_value c.requires.settings_value f (omega (arith, process, c.if-cells-p.false)) y v
+    taken_under m x w c.requires.cells_value c.requires.settings_value f (omega (arith, process, c.if-cells-p.false)) y v
     (as_parts (λ i j l. TakesUnder m x i j l y v) _ _ _ _ _ _ is (sym process) (sym c.argument_of-a.ensures) h) in
     let word : ℕ =
     c.args.word in
-    let formed-so : formed word ≡ true =
+    let formed_so : formed word ≡ true =
     sym c.formed-2.ensures ∙ not-false _ c.if-not-formed-2.false-raw in
     let not-look : kind_of word ≡ LOOK → ⊥ =
-    kind_is_not word LOOK _ c.is_of.ensures c.if-is_of.false formed-so in
+    kind_is_not word LOOK _ c.is_of.ensures c.if-is_of.false formed_so in
     let not-go : kind_of word ≡ GO → ⊥ =
-    kind_is_not word GO _ c.is_of-2.ensures c.if-is_of-2.false formed-so in
+    kind_is_not word GO _ c.is_of-2.ensures c.if-is_of-2.false formed_so in
     let not-stay : kind_of word ≡ STAY → ⊥ =
-    kind_is_not word STAY _ c.is_of-3.ensures c.if-is_of-3.false formed-so in
+    kind_is_not word STAY _ c.is_of-3.ensures c.if-is_of-3.false formed_so in
     let is = c.kind_of-kind.ensures in
     let last =
-    last_kind (kind_of word) (formed_kind word formed-so) not-look not-go not-stay
+    last_kind (kind_of word) (formed_kind word formed_so) not-look not-go not-stay
     (λ i. c.if-kind-eq-FLICKER.false (is ∙ i)) (λ i. c.if-kind-eq-COME.false (is ∙ i)) in
-    taken CANCEL _ _ formed-so last
+    taken CANCEL _ _ formed_so last
     (takes_free _ (others_free _ _ CANCEL _ (omega arith) (omega arith)) c.take_cancel.ensures)

@@ -8,7 +8,7 @@ use lib.ListN.{length}
 use Rattle.machine.specs.Text.{decimal}
 use Rattle.text.specs.Appending.{Appended, PairReady, pair}
 use Rattle.text.proofs.AppendingLaws.{appended_as, appended_then}
-use Rattle.text.proofs.DigitLaws.{decimal_long, length-decimal_long}
+use Rattle.text.proofs.DigitLaws.{decimal_long, length_decimal_long}
 use Rattle.text.proofs.fields.+put_long.Goals as goal
 
 -- the digits of the hundredth, and the last two
@@ -21,13 +21,13 @@ last_pair n small long inside first last =
 pair_fits : {y : List ℕ} {e k : ℕ} (n at : ℕ) → n < 2 ^ 32 → 100 ≤ n → at + length (decimal n) ≤ k → length y ≡ k
     → e ≡ at + length (decimal (n / 100)) → PairReady y e (n % 100)
 pair_fits n at small long room same end =
-    record { low = omega arith; room = omega (arith, length-decimal_long n small long) }
+    record { low = omega arith; room = omega (arith, length_decimal_long n small long) }
 
 -- ---- three or four digits
 
 pub put_short-third-requires : goal.put_short-third-requires
 put_short-third-requires t c =
-    let more = length-decimal_long c.args.n c.ranges.n.fits c.requires.long in
+    let more = length_decimal_long c.args.n c.ranges.n.fits c.requires.long in
     record { low = omega (arith, c.if-n-lt10000.true); room = omega (arith, c.requires.room) }
 
 pub put_pair-requires : goal.put_pair-requires
@@ -44,7 +44,7 @@ returns-then-n-lt10000 t c =
 
 pub put_long-end-requires : goal.put_long-end-requires
 put_long-end-requires t c =
-    let more = length-decimal_long c.args.n c.ranges.n.fits c.requires.long in (
+    let more = length_decimal_long c.args.n c.ranges.n.fits c.requires.long in (
       omega (arith, c.decreases, c.requires.long),
       record { long = omega (arith, c.if-n-lt10000.false); room = omega (arith, c.requires.room) },
     )

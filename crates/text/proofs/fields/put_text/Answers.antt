@@ -5,7 +5,7 @@ use mathlib.Core.Path.{refl, ap, ◌∙◌}
 use mathlib.Core.List.{List}
 use Prim.Native.Nat.{ℕ, ◌+◌}
 use lib.ListN.{get_or, set, length-set}
-use Rattle.counting.proofs.PlacingLaws.{begun_start, begun-next, begun_end}
+use Rattle.counting.proofs.PlacingLaws.{begun_start, begun_next, begun_end}
 use Rattle.text.proofs.fields.put_text.Goals as goal
 
 pub loop-i-init : goal.loop-i-init
@@ -34,7 +34,7 @@ loop-i-preserved c =
       omega arith,
       length-set l.out (a.at + l.i) b ∙ l.invariant.1,
       ap (λ (d : List ℕ). set d (a.at + l.i) b) l.invariant.2
-          ∙ begun-next a.out.now a.at a.s.now (omega arith) l.i _ _ b 0 refl refl (omega arith) refl,
+          ∙ begun_next a.out.now a.at a.s.now (omega arith) l.i _ _ b 0 refl refl (omega arith) refl,
     )
 
 pub overflow_add-result : goal.overflow_add-result

@@ -8,8 +8,8 @@ use Rattle.machine.specs.Bytes.{words_in}
 use Rattle.text.specs.Running.{head_room}
 use Rattle.text.specs.Printing.{head_of}
 use Rattle.text.proofs.PrintLaws.{
-  few-processes,
-  head-fits,
+  few_processes,
+  head_fits,
   length_opened,
   shows_run,
   events_end,
@@ -21,9 +21,9 @@ use Rattle.text.proofs.measuring.text_length.Goals as goal
 pub put_head-at-requires : goal.put_head-at-requires
 put_head-at-requires c =
     let a = c.args in
-    let head : length (head_of a.opened) ≤ head_room = head-fits (words_in a.input.now) a.cells a.opened c.requires in
+    let head : length (head_of a.opened) ≤ head_room = head_fits (words_in a.input.now) a.cells a.opened c.requires in
     record {
-      few = few-processes (words_in a.input.now) a.cells a.opened c.requires;
+      few = few_processes (words_in a.input.now) a.cells a.opened c.requires;
       room = omega (arith, head);
     }
 
@@ -50,7 +50,7 @@ slice_bounds-run_end-end-in-Ready c =
 pub run_end-requires : goal.run_end-requires
 run_end-requires c =
     let a = c.args in
-    let head : length (head_of a.opened) ≤ head_room = head-fits (words_in a.input.now) a.cells a.opened c.requires in
+    let head : length (head_of a.opened) ≤ head_room = head_fits (words_in a.input.now) a.cells a.opened c.requires in
     let shown = shows_run a.input.now a.cells a.opened c.requires _ _ _ c.in-Ready.is in
     record {
       sound = shown.table.sound;
