@@ -64,32 +64,39 @@ def blocks(text):
     return joined
 
 
-def clauses():
-    """For each function of the sources, by its whole path, the names of its requires and of its ensures."""
-    out = {}
+def modules():
+    """For each file of src/ the path of its module, and its text."""
     for folder, _dirs, files in os.walk("crates"):
-        if "/src" not in folder:
+        if "/src" not in folder or "/out" in folder:
             continue
         for name in files:
             if not name.endswith(".rt"):
                 continue
             crate = folder.split("/")[1]
-            module = os.path.relpath(os.path.join(folder, name), f"crates/{crate}/src")[:-3].replace("/", "::")
-            head = crate if module in ("lib", "main") else f"{crate}::{module}"
-            now = owner = None
-            for line in open(os.path.join(folder, name)):
-                m = re.match(r"impl (\w+)", line)
-                if m:
-                    owner = m.group(1)
-                if line.startswith("}"):
-                    owner = None
-                m = re.match(r"\s*(?:pub(?:\(crate\))? )?(?:extern \"C\" )?fn (\w+)", line)
-                if m:
-                    now = "::".join([head] + ([owner] if owner else []) + [m.group(1)])
-                    out[now] = ([], [])
-                m = re.match(r"\s+(requires|ensures)\*? (?:(\w+) )?\{", line)
-                if m and now:
-                    out[now][0 if m.group(1) == "requires" else 1].append(m.group(2))
+            file = os.path.join(folder, name)
+            module = os.path.relpath(file, f"crates/{crate}/src")[:-3].replace("/", "::")
+            with open(file) as text:
+                yield crate if module in ("lib", "main") else f"{crate}::{module}", text.read()
+
+
+def clauses():
+    """For each function of the sources, by its whole path, the names of its requires and of its ensures."""
+    out = {}
+    for head, text in modules():
+        now = owner = None
+        for line in text.split("\n"):
+            m = re.match(r"impl (\w+)", line)
+            if m:
+                owner = m.group(1)
+            if line.startswith("}"):
+                owner = None
+            m = re.match(r"\s*(?:pub(?:\(crate\))? )?(?:extern \"C\" )?fn (\w+)", line)
+            if m:
+                now = "::".join([head] + ([owner] if owner else []) + [m.group(1)])
+                out[now] = ([], [])
+            m = re.match(r"\s+(requires|ensures)\*? (?:(\w+) )?\{", line)
+            if m and now:
+                out[now][0 if m.group(1) == "requires" else 1].append(m.group(2))
     return out
 
 
@@ -100,27 +107,18 @@ FIELDS = {}
 
 def sources():
     """For each function the parameters that come back, and for each variant of an enum its fields."""
-    for folder, _dirs, files in os.walk("crates"):
-        if "/src" not in folder:
-            continue
-        for name in files:
-            if not name.endswith(".rt"):
-                continue
-            crate = folder.split("/")[1]
-            module = os.path.relpath(os.path.join(folder, name), f"crates/{crate}/src")[:-3].replace("/", "::")
-            head = crate if module in ("lib", "main") else f"{crate}::{module}"
-            text = open(os.path.join(folder, name)).read()
-            for m in re.finditer(r"\bfn (\w+)\(((?:[^()]|\([^()]*\))*)\)", text):
-                back = []
-                for one in re.split(r",(?![^\[]*\])", m.group(2)):
-                    w = re.match(r"\s*(?:mut )?(\w+): (.*)", one.strip(), re.S)
-                    if w and not re.match(r"(u8|u16|u32|u64|usize|bool)$", w.group(2).strip()):
-                        back.append(w.group(1))
-                PARAMS[f"{head}::{m.group(1)}"] = back
-            for m in re.finditer(r"\benum \w+ \{(.*?)^\}", text, re.S | re.M):
-                for v in re.finditer(r"^    (\w+)(?: \{(.*?)\}|\((.*?)\))?,", m.group(1), re.S | re.M):
-                    if v.group(2):
-                        FIELDS[v.group(1)] = re.findall(r"(\w+):", v.group(2))
+    for head, text in modules():
+        for m in re.finditer(r"\bfn (\w+)\(((?:[^()]|\([^()]*\))*)\)", text):
+            back = []
+            for one in re.split(r",(?![^\[]*\])", m.group(2)):
+                w = re.match(r"\s*(?:mut )?(\w+): (.*)", one.strip(), re.S)
+                if w and not re.match(r"(u8|u16|u32|u64|usize|bool)$", w.group(2).strip()):
+                    back.append(w.group(1))
+            PARAMS[f"{head}::{m.group(1)}"] = back
+        for m in re.finditer(r"\benum \w+ \{(.*?)^\}", text, re.S | re.M):
+            for v in re.finditer(r"^    (\w+)(?: \{(.*?)\}|\((.*?)\))?,", m.group(1), re.S | re.M):
+                if v.group(2):
+                    FIELDS[v.group(1)] = re.findall(r"(\w+):", v.group(2))
 
 
 def indexed(tail):
