@@ -28,8 +28,8 @@ use Rattle.machine.specs.Images.{
   read_image,
 }
 use Rattle.machine.specs.Tables.{handed}
-use Rattle.machine.specs.declared.Found.{Found}
-use Rattle.machine.specs.declared.NewTable.{NewTable}
+use Rattle.machine.specs.Images.{Found}
+use Rattle.machine.specs.Tables.{Handed}
 use Rattle.image_theorems.proofs.Slots.{length_for, slots_for, Placed, no_slot, slot_at}
 use Rattle.image_theorems.proofs.Slots.{length-slots, placed_at}
 use Rattle.image_theorems.proofs.Headers.{Header, header_facts, header_known}
@@ -247,9 +247,9 @@ module _ (ws : List ℕ) where
 
 module _ (ws : List ℕ) where
   -- by the first refusal
-  abbrev answered : Bool → NewTable
+  abbrev answered : Bool → Handed
   answered b =
-      elim b as (λ _. NewTable) [
+      elim b as (λ _. Handed) [
         | true ↦ handed 0 0 (table_in ws)
         | false ↦ handed (image_refusal ws).refusal (image_refusal ws).place []
       ]

@@ -18,7 +18,7 @@ use Rattle.machine.specs.Bytes.{bytes_of}
 use Rattle.machine.specs.Inputs.{Input, words_hold}
 use Rattle.machine.specs.Calls.{call_of}
 use Rattle.machine.specs.Text.{digits, printed}
-use Rattle.machine.specs.declared.Found.{Found}
+use Rattle.machine.specs.Images.{Found}
 use Rattle.machine.proofs.Benchmarks.{evaluated}
 
 -- ---- both forms

@@ -15,10 +15,8 @@ use lib.Pow.{split as splits, mod-pow-add}
 use borrow.Author.Tests.{eqb-true, leb-true, eq-eqb, le-leb}
 use Rattle.machine.specs.Refusals.{bad_kind, no_process, bad_argument}
 use Rattle.machine.specs.Words.{is_kind, kind_of, process_of, argument_of, spare_clear, formed, word_of, apart}
-use Rattle.machine.specs.Words.{together}
-use Rattle.machine.specs.declared.Parts.{Parts}
-use Rattle.machine.specs.declared.Apart.{Apart}
-use Rattle.machine.specs.declared.Together.{Together}
+use Rattle.machine.specs.Words.{Fields, together}
+use Rattle.std.specs.Prelude.{Ok, Err}
 
 -- ---- the parts of a made word
 
@@ -80,61 +78,61 @@ parts_injective v w hv hw k p a = let x = formed_is v hv in let y = formed_is w 
 
 -- what comes apart was formed, and names a process up to 15
 module _ (w : ℕ) where
-  abbrev parts : Parts
+  abbrev parts : Fields
   parts = record { kind = kind_of w; process = process_of w; argument = argument_of w }
 
-  apart-is : (x : Parts) → apart w ≡ Apart.Word x → (formed w ≡ true) × (leb (process_of w) 15 ≡ true) × (parts ≡ x)
+  apart-is : (x : Fields) → apart w ≡ Ok x → (formed w ≡ true) × (leb (process_of w) 15 ≡ true) × (parts ≡ x)
   apart-is x = go (formed w) (leb (process_of w) 15)
     where
       go : (a b : Bool)
-          → cond (not a) (Apart.Refused bad_kind) (cond (not b) (Apart.Refused no_process) (Apart.Word parts))
-          ≡ Apart.Word x
+          → cond (not a) (Err bad_kind) (cond (not b) (Err no_process) (Ok parts))
+          ≡ Ok x
           → (a ≡ true) × (b ≡ true) × (parts ≡ x)
       go true true h = (refl, refl, cc)
       go true false h = let z : ◌≡◌ {A = ℕ} 0 1 = cc in absurd (omega arith)
       go false b h = let z : ◌≡◌ {A = ℕ} 0 1 = cc in absurd (omega arith)
 
-  pub together-apart : (x : Parts)
-      → apart w ≡ Apart.Word x
-      → together x.kind x.process x.argument ≡ Together.Word w
+  pub together-apart : (x : Fields)
+      → apart w ≡ Ok x
+      → together x.kind x.process x.argument ≡ Ok w
   together-apart x h =
       let c = apart-is x h in
       let kind : is_kind (kind_of w) ≡ true = ((and-eq-true_iff (is_kind (kind_of w)) (spare_clear w)).0 c.0).0 in
       let low : leb (argument_of w) 255 ≡ true = le-leb (argument_of w) 255 (omega arith) in
-      ap (λ (y : Parts). together y.kind y.process y.argument) (sym c.2)
+      ap (λ (y : Fields). together y.kind y.process y.argument) (sym c.2)
       ∙ made (is_kind (kind_of w)) (leb (process_of w) 15) (leb (argument_of w) 255) kind c.1 low
-      ∙ ap Together.Word (formed_is w c.0)
+      ∙ ap Ok (formed_is w c.0)
     where
       made : (a b c : Bool)
           → a ≡ true
           → b ≡ true
           → c ≡ true
-          → cond (not a) (Together.Refused bad_kind)
-          (cond (not b) (Together.Refused no_process)
-          (cond (not c) (Together.Refused bad_argument)
-          (Together.Word (word_of (kind_of w) (process_of w) (argument_of w)))))
-          ≡ Together.Word (word_of (kind_of w) (process_of w) (argument_of w))
+          → cond (not a) (Err bad_kind)
+          (cond (not b) (Err no_process)
+          (cond (not c) (Err bad_argument)
+          (Ok (word_of (kind_of w) (process_of w) (argument_of w)))))
+          ≡ Ok (word_of (kind_of w) (process_of w) (argument_of w))
       made a b c x y z = rw (x, y, z)
 
 module _ (k p a w : ℕ) where
   -- what was put together has one of the kinds, a process up to 15 and an argument up to 255
-  together-is : together k p a ≡ Together.Word w
+  together-is : together k p a ≡ Ok w
       → (is_kind k ≡ true) × (leb p 15 ≡ true) × (leb a 255 ≡ true) × (word_of k p a ≡ w)
   together-is = go (is_kind k) (leb p 15) (leb a 255)
     where
       go : (x y z : Bool)
-          → cond (not x) (Together.Refused bad_kind)
-          (cond (not y) (Together.Refused no_process)
-          (cond (not z) (Together.Refused bad_argument) (Together.Word (word_of k p a))))
-          ≡ Together.Word w
+          → cond (not x) (Err bad_kind)
+          (cond (not y) (Err no_process)
+          (cond (not z) (Err bad_argument) (Ok (word_of k p a))))
+          ≡ Ok w
           → (x ≡ true) × (y ≡ true) × (z ≡ true) × (word_of k p a ≡ w)
       go true true true h = (refl, refl, refl, cc)
       go true true false h = let z : ◌≡◌ {A = ℕ} 0 1 = cc in absurd (omega arith)
       go true false z h = let i : ◌≡◌ {A = ℕ} 0 1 = cc in absurd (omega arith)
       go false y z h = let i : ◌≡◌ {A = ℕ} 0 1 = cc in absurd (omega arith)
 
-  pub apart-together : together k p a ≡ Together.Word w
-      → apart w ≡ Apart.Word (record { kind = k; process = p; argument = a })
+  pub apart-together : together k p a ≡ Ok w
+      → apart w ≡ Ok (record { kind = k; process = p; argument = a })
   apart-together h =
       let c = together-is h in
       let lp : p ≤ 15 = leb-true _ _ c.1 in

@@ -13,12 +13,10 @@ use mathlib.Core.Logic.{◌≢◌, ◌⊎◌}
 use mathlib.Core.List.{List}
 use lib.ListN.{length, get_or}
 use Rattle.machine.specs.Tables.{Table, row, sound, table_refusal, competes}
-use Rattle.machine.specs.Words.{FLICKER, GO, kind_of, process_of, argument_of, word_of, apart, together}
+use Rattle.machine.specs.Words.{Fields, FLICKER, GO, kind_of, process_of, argument_of, word_of, apart, together}
 use Rattle.machine.specs.Steps.{refusal_of, after_word, after_words}
 use Rattle.machine.specs.System.{Step, step_word}
-use Rattle.machine.specs.declared.Parts.{Parts}
-use Rattle.machine.specs.declared.Apart.{Apart}
-use Rattle.machine.specs.declared.Together.{Together}
+use Rattle.std.specs.Prelude.{Ok}
 use Rattle.machine.proofs.SoundRows.{sound-accepted, accepted-sound}
 use Rattle.machine.proofs.Accepted as Accepted
 use Rattle.machine.proofs.Soundness as Soundness
@@ -152,12 +150,12 @@ words_keep_sound t ws h =
 
 -- Taking a word apart and putting parts together undo each other, wherever neither refuses.
 -- Excludes: parts that are lost or overlap; two words of the same parts. Proved in WordLaws.antt.
-pub together-apart : (w : ℕ) (x : Parts)
-    → apart w ≡ Apart.Word x
-    → together x.kind x.process x.argument ≡ Together.Word w
+pub together-apart : (w : ℕ) (x : Fields)
+    → apart w ≡ Ok x
+    → together x.kind x.process x.argument ≡ Ok w
 together-apart = WordLaws.together-apart
 
 pub apart-together : (k p a w : ℕ)
-    → together k p a ≡ Together.Word w
-    → apart w ≡ Apart.Word (record { kind = k; process = p; argument = a })
+    → together k p a ≡ Ok w
+    → apart w ≡ Ok (record { kind = k; process = p; argument = a })
 apart-together = WordLaws.apart-together

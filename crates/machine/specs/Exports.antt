@@ -8,18 +8,14 @@
 --   printed_in bs l       ==  the text of a run printed into the lent bytes l: its length, and the text where it fits.
 --
 -- Assumes nothing.
-use Rattle.std.specs.Prelude.{ℕ, true, false, cond, List, eqb, leb, length}
+use Rattle.std.specs.Prelude.{ℕ, true, false, cond, List, eqb, leb, length, Result, Ok, Err}
 use Rattle.counting.specs.Placing.{placed}
 use Rattle.machine.specs.Refusals.{accepted, wrong_size, too_few_lent}
 use Rattle.machine.specs.Tables.{Table, size_fits, fresh_table}
-use Rattle.machine.specs.Words.{apart, together}
+use Rattle.machine.specs.Words.{Fields, apart, together}
 use Rattle.machine.specs.Images.{image_refusal, table_in}
 use Rattle.machine.specs.Calls.{Called}
 use Rattle.machine.specs.Text.{printed}
-use Rattle.machine.specs.declared.Apart.{Apart}
-use Rattle.machine.specs.declared.Apart.TheVariants as Apart'
-use Rattle.machine.specs.declared.Together.{Together}
-use Rattle.machine.specs.declared.Together.TheVariants as Together'
 use Rattle.machine.specs.declared.PartsAnswer.{PartsAnswer}
 use Rattle.machine.specs.declared.WordAnswer.{WordAnswer}
 use Rattle.machine.specs.declared.ReadAnswer.{ReadAnswer}
@@ -27,17 +23,17 @@ use Rattle.machine.specs.declared.ReadAnswer.{ReadAnswer}
 -- ---- event words
 
 -- the parts, or the refusal and zeros
-abbrev pub parts_for : Apart → PartsAnswer
-parts_for (Apart'.Word s) = record { refusal = accepted; kind = s.kind; process = s.process; argument = s.argument }
-parts_for (Apart'.Refused why) = record { refusal = why; kind = 0; process = 0; argument = 0 }
+abbrev pub parts_for : Result Fields ℕ → PartsAnswer
+parts_for (Ok s) = record { refusal = accepted; kind = s.kind; process = s.process; argument = s.argument }
+parts_for (Err why) = record { refusal = why; kind = 0; process = 0; argument = 0 }
 
 abbrev pub parts_answer_of : ℕ → PartsAnswer
 parts_answer_of w = parts_for (apart w)
 
 -- the word, or the refusal and 0
-abbrev pub word_for : Together → WordAnswer
-word_for (Together'.Word w) = record { refusal = accepted; word = w }
-word_for (Together'.Refused why) = record { refusal = why; word = 0 }
+abbrev pub word_for : Result ℕ ℕ → WordAnswer
+word_for (Ok w) = record { refusal = accepted; word = w }
+word_for (Err why) = record { refusal = why; word = 0 }
 
 abbrev pub word_answer_of : ℕ → ℕ → ℕ → WordAnswer
 word_answer_of k p a = word_for (together k p a)

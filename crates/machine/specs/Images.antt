@@ -11,14 +11,14 @@
 -- Of each kind of word: its fields, written (body_of, count_of) and read (code_in .. turn_in, count_in), the other bits
 -- (spare_body), the ranges (in_range, off_diagonal). Assumes nothing.
 use Rattle.std.specs.Prelude.{ℕ, zero, suc, ◌+◌, ◌-◌, ◌*◌, ◌/◌, ◌%◌, ◌^◌, min, Bool, true, false, cond, ◌&&◌, ◌||◌}
-use Rattle.std.specs.Prelude.{not, List, [], ◌∷◌, ◌++◌, map, eqb, leb, ltb, length, get_or, drop}
+use Rattle.std.specs.Prelude.{not, List, [], ◌∷◌, ◌++◌, map, eqb, leb, ltb, length, get_or, drop, Result, Ok, Err}
 use Rattle.counting.specs.Ranges.{up_to}
 use Rattle.counting.specs.Placing.{placed}
 use Rattle.machine.specs.Refusals.{accepted, no_header, wrong_length, malformed, out_of_range}
-use Rattle.machine.specs.Refusals.{level_misfit, too_few_lent}
-use Rattle.machine.specs.Tables.{Table, row, locations, level_fits, table_refusal, handed}
+use Rattle.machine.specs.Refusals.{level_misfit, too_few_lent, number}
+use Rattle.machine.specs.Tables.{Table, row, locations, level_fits, table_refusal, Handed, handed}
 use Rattle.machine.specs.declared.Row.{Row}
-use Rattle.machine.specs.declared.Found.{Found}
+use Rattle.machine.specs.declared.ImageError.{ImageError}
 use Rattle.machine.specs.declared.NewTable.{NewTable}
 
 -- ---- the layout
@@ -230,6 +230,16 @@ written_of t l =
 
 -- ---- reading
 
+-- a refusal, or 0, and the place of the word that it is about
+pub record Found : Type 0 where
+  pub refusal : ℕ
+  pub place : ℕ
+
+-- the refusal and the place that an answer of the code has; 0 and 0 where it has none
+abbrev pub found_in : {A : Type 0} → Result A ImageError → Found
+found_in (Ok _) = record { refusal = accepted; place = 0 }
+found_in (Err e) = record { refusal = number e.refusal; place = e.place }
+
 -- kind, passer, number and spare bits of a word are those of its slot
 abbrev pub fits_slot : Slot → ℕ → Bool
 fits_slot s w =
@@ -304,7 +314,7 @@ unfolding rows_in
 table_in ws = let n = size_in (get_or ws 0 0) in rows_in n ws 0 n
 
 -- what reading hands back
-unfoldable pub read_image : List ℕ → NewTable
+unfoldable pub read_image : List ℕ → Handed
 unfolding image_refusal table_in
 read_image ws =
     let f = image_refusal ws in
@@ -312,3 +322,8 @@ read_image ws =
       | true ↦ handed accepted 0 (table_in ws)
       | false ↦ handed f.refusal f.place []
     ]
+
+-- what an answer of the code hands back: a table, or a refusal with its place and no table
+abbrev pub image_in : Result NewTable ImageError → Handed
+image_in (Ok t) = record { refusal = accepted; place = 0; size = t.size; rows = t.rows }
+image_in (Err e) = handed (number e.refusal) e.place []

@@ -1,5 +1,16 @@
--- The refusals by number (MANUAL, "Refusals"). 0 is an accepted answer. Assumes nothing.
-use Rattle.std.specs.Prelude.{ℕ}
+-- The refusals by number (MANUAL, "Refusals"), and answers in these numbers. 0 is an accepted answer.
+--
+--   number e      ==  the number of a refusal.
+--   refusal_in r  ==  0, or the number of the refusal in an answer.
+--   numbered r    ==  an answer with the number in the place of the refusal.
+--
+-- Assumes nothing.
+use Rattle.std.specs.Prelude.{ℕ, Result, Ok, Err}
+use Rattle.machine.specs.declared.Refusal.{Refusal}
+use Rattle.machine.specs.declared.Refusal.TheVariants.{NoHeader, WrongLength, Malformed, OutOfRange, LevelMisfit}
+use Rattle.machine.specs.declared.Refusal.TheVariants.{WrongSize, UnsoundRow, BadKind, NoProcess, NotAllowed}
+use Rattle.machine.specs.declared.Refusal.TheVariants.{BadArgument, TooManyWords, TooFewLent, BadBytes, PassesFull}
+use Rattle.machine.specs.declared.Refusal.TheVariants.{PlainFlicker, SecondWriter, BadSettings}
 
 -- no refusal
 abbrev pub accepted : ℕ
@@ -76,3 +87,33 @@ second_writer = 17
 -- settings: a value that is none of those listed
 abbrev pub bad_settings : ℕ
 bad_settings = 18
+
+-- ---- the refusals of the code
+
+abbrev pub number : Refusal → ℕ
+number NoHeader = no_header
+number WrongLength = wrong_length
+number Malformed = malformed
+number OutOfRange = out_of_range
+number LevelMisfit = level_misfit
+number WrongSize = wrong_size
+number UnsoundRow = unsound_row
+number BadKind = bad_kind
+number NoProcess = no_process
+number NotAllowed = not_allowed
+number BadArgument = bad_argument
+number TooManyWords = too_many_words
+number TooFewLent = too_few_lent
+number BadBytes = bad_bytes
+number PassesFull = passes_full
+number PlainFlicker = plain_flicker
+number SecondWriter = second_writer
+number BadSettings = bad_settings
+
+abbrev pub refusal_in : {A : Type 0} → Result A Refusal → ℕ
+refusal_in (Ok _) = accepted
+refusal_in (Err e) = number e
+
+abbrev pub numbered : {A : Type 0} → Result A Refusal → Result A ℕ
+numbered (Ok x) = Ok x
+numbered (Err e) = Err (number e)

@@ -4,6 +4,7 @@
 --
 --   weakest                ==   act safe and turn write-safe, which forbid nothing: the memory of the paper.
 --   settings_fit s         <=>  each of the two is one of the values listed.
+--   settings_of m          ==   settings that fit, as the two numbers; fitting s is s, or 18 where it does not fit.
 --   flicker_forbidden s r  <=>  FLICKER at the row r would show a write of plain memory.
 --   go_forbidden s t p     <=>  GO of process p would bring a second writer to a turn cell that is to have one.
 --   forbidden_by s t k p   ==   16 or 17, where the settings s forbid kind k of process p, or 0.
@@ -16,6 +17,7 @@
 --
 -- Assumes nothing.
 use Rattle.std.specs.Prelude.{ℕ, ◌≡◌, Bool, cond, ◌&&◌, not, List, [], ◌∷◌, eqb, leb, length}
+use Rattle.std.specs.Prelude.{Result, Ok, Err}
 use Rattle.counting.specs.Ranges.{some}
 use Rattle.machine.specs.Refusals.{accepted, passes_full, plain_flicker, second_writer, bad_settings}
 use Rattle.machine.specs.Tables.{Table, row, one_of, table_refusal}
@@ -24,7 +26,13 @@ use Rattle.machine.specs.Shared.{no_cell}
 use Rattle.machine.specs.Steps.{gone, refusal_of, after_word, cell_of, told_of, answer_of, step_answer_of}
 use Rattle.machine.specs.declared.Row.{Row}
 use Rattle.machine.specs.declared.Settings.{Settings}
-use Rattle.machine.specs.declared.Stepped.{Stepped}
+use Rattle.machine.specs.declared.Refusal.{Refusal}
+use Rattle.machine.specs.declared.ActMemory.{ActMemory}
+use Rattle.machine.specs.declared.ActMemory.TheVariants as Act
+use Rattle.machine.specs.declared.TurnMemory.{TurnMemory}
+use Rattle.machine.specs.declared.TurnMemory.TheVariants as Turn
+use Rattle.machine.specs.declared.Memory.{Memory}
+use Rattle.machine.specs.declared.Told.{Told}
 use Rattle.machine.specs.declared.StepAnswer.{StepAnswer}
 
 -- ---- the values
@@ -46,6 +54,28 @@ weakest = record { act = 0; turn = 0 }
 -- act is 0 or 1, turn is 0, 1 or 2, each as a whole number
 abbrev pub settings_fit : Settings → Bool
 settings_fit s = leb s.act 1 && leb s.turn 2
+
+-- ---- settings that fit, as the code has them
+
+abbrev pub act_number : ActMemory → ℕ
+act_number Act.Safe = 0
+act_number Act.Plain = act_plain
+
+abbrev pub turn_number : TurnMemory → ℕ
+turn_number Turn.WriteSafe = 0
+turn_number Turn.OneWriter = one_writer
+turn_number Turn.Plain = turn_plain
+
+abbrev pub settings_of : Memory → Settings
+settings_of m = record { act = act_number m.act; turn = turn_number m.turn }
+
+abbrev pub fitting : Settings → Result Settings ℕ
+fitting s = cond (settings_fit s) (Ok s) (Err bad_settings)
+
+-- the settings that an answer has, as numbers
+abbrev pub settings_in : Result Memory Refusal → Result Settings Refusal
+settings_in (Ok m) = Ok (settings_of m)
+settings_in (Err e) = Err e
 
 -- ---- what they forbid
 
@@ -110,10 +140,10 @@ accepted_of s t (w ∷ ws) =
     cond (eqb (refusal_under s t w) accepted) (w ∷ rest) rest
 
 -- and tells what it tells without them
-unfoldable pub answer_under : Settings → Table → ℕ → Stepped
+unfoldable pub answer_under : Settings → Table → ℕ → Result Told ℕ
 unfolding refusal_under
 answer_under s t w =
-    let n = refusal_under s t w in cond (eqb n accepted) (Stepped.Moved (told_of t w)) (Stepped.Refused n)
+    let n = refusal_under s t w in cond (eqb n accepted) (Ok (told_of t w)) (Err n)
 
 abbrev pub step_answer_under : Settings → Table → ℕ → StepAnswer
 step_answer_under s t w =

@@ -20,7 +20,7 @@
 --
 -- Assumes nothing.
 use Rattle.std.specs.Prelude.{ℕ, ◌+◌, ◌-◌, Bool, false, cond, ◌&&◌, ◌||◌, not, List, [], ◌∷◌, map, eqb, leb, ltb}
-use Rattle.std.specs.Prelude.{length, get_or, set}
+use Rattle.std.specs.Prelude.{length, get_or, set, Result, Ok, Err}
 use Rattle.counting.specs.Sums.{bit}
 use Rattle.counting.specs.Sets.{has, size, without, others}
 use Rattle.counting.specs.Ranges.{up_to, every}
@@ -34,7 +34,6 @@ use Rattle.machine.specs.declared.Row.{Row}
 use Rattle.machine.specs.declared.Event.{Event}
 use Rattle.machine.specs.declared.SharedCell.{SharedCell}
 use Rattle.machine.specs.declared.Told.{Told}
-use Rattle.machine.specs.declared.Stepped.{Stepped}
 use Rattle.machine.specs.declared.StepAnswer.{StepAnswer}
 
 -- ---- the row of the process that moves
@@ -224,10 +223,10 @@ cell_of t w =
 abbrev pub told_of : Table → ℕ → Told
 told_of t w = record { event = event_of t w; cell = cell_of t w }
 
-unfoldable pub answer_of : Table → ℕ → Stepped
+unfoldable pub answer_of : Table → ℕ → Result Told ℕ
 unfolding refusal_of event_of cell_of
 answer_of t w =
-    cond (eqb (refusal_of t w) accepted) (Stepped.Moved (told_of t w)) (Stepped.Refused (refusal_of t w))
+    cond (eqb (refusal_of t w) accepted) (Ok (told_of t w)) (Err (refusal_of t w))
 
 abbrev pub step_answer_of : Table → ℕ → StepAnswer
 step_answer_of t w = record { refusal = refusal_of t w; cell = cell_of t w }

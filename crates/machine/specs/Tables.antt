@@ -6,16 +6,18 @@
 --   fresh t        <=>  sound, and every process at 10 with act 0, bb 0, ahead empty and counts 0: an initial state.
 --   fresh_table n   ==   the fresh table of n processes in which everything else is 0 too.
 --   handed ..      ==   a refusal, a place and a table as they are handed back by value; made_fresh n is a fresh one so.
+--   handed_in r    ==   what an answer of the code hands back.
 --   competes r     <=>  at locations 21 to 30; competitors t is the set of those that compete, the paper's Cp.
 --
 -- Assumes nothing.
 use Rattle.std.specs.Prelude.{ℕ, suc, ◌-◌, ◌^◌, Bool, true, false, cond, ◌&&◌, ◌||◌, not, List, [], ◌∷◌, ◌++◌, eqb}
-use Rattle.std.specs.Prelude.{leb, ltb, length, get_or, replicate}
+use Rattle.std.specs.Prelude.{leb, ltb, length, get_or, replicate, Result, Ok, Err}
 use Rattle.counting.specs.Ranges.{every}
 use Rattle.counting.specs.Sets.{set_of}
-use Rattle.machine.specs.Refusals.{accepted, wrong_size, unsound_row}
+use Rattle.machine.specs.Refusals.{accepted, wrong_size, unsound_row, number}
 use Rattle.machine.specs.Rows.{idle, blank}
 use Rattle.machine.specs.declared.Row.{Row}
+use Rattle.machine.specs.declared.Refusal.{Refusal}
 use Rattle.machine.specs.declared.NewTable.{NewTable}
 
 -- row q for process q
@@ -111,14 +113,26 @@ fresh t = sound t && all_resting t
 abbrev pub fresh_table : ℕ → Table
 fresh_table n = replicate n idle
 
+-- a refusal, its place and a table handed back by value: the table is the first `size` rows
+pub record Handed : Type 0 where
+  pub refusal : ℕ
+  pub place : ℕ
+  pub size : ℕ
+  pub rows : List Row
+
 -- a refusal with its place and a table as they are handed back; the rows past the table's end are blank
-abbrev pub handed : ℕ → ℕ → Table → NewTable
+abbrev pub handed : ℕ → ℕ → Table → Handed
 handed refusal place t =
     record { refusal = refusal; place = place; size = length t; rows = t ++ replicate (16 - length t) blank }
 
 -- the making of a fresh table: 6 and no table for n outside 2 to 16
-abbrev pub made_fresh : ℕ → NewTable
+abbrev pub made_fresh : ℕ → Handed
 made_fresh n = cond (size_fits n) (handed accepted 0 (fresh_table n)) (handed wrong_size 0 [])
+
+-- a table, or a refusal and no table
+abbrev pub handed_in : Result NewTable Refusal → Handed
+handed_in (Ok t) = record { refusal = accepted; place = 0; size = t.size; rows = t.rows }
+handed_in (Err e) = handed (number e) 0 []
 
 -- ---- competing
 

@@ -5,13 +5,16 @@
 ghost use Rattle.std.specs.Prelude.{◌≡◌};
 ghost use Rattle.machine.specs.Shared.{act_read, act_written, turn_read, turn_written};
 ghost use Rattle.machine.specs.Steps.{quiet, with_event, with_cell};
+ghost use Rattle.machine.specs.Refusals.{number, numbered, refusal_in};
+ghost use Rattle.machine.specs.Words.{kind_in, kinds_in};
+ghost use Rattle.machine.specs.Settings.{fitting, settings_in};
 
 // One process: its location (program counter), its shared flag act, its private variables, its
 // history set ahead, the shared cell turn[k] in the row of process k, and its passes, the history
 // counts a[q, r] of section 4.1 of the paper in the row of process q: how often q entered while r
 // competed.
 #[repr(C)]
-#[derive(Clone, Copy)]
+#[derive(Clone, Copy, Debug, PartialEq, Eq)]
 pub struct Row {
     pub location: u16,
     pub act: u16,
@@ -58,18 +61,34 @@ pub const LOCATIONS: [u16; 8] = [10, 20, 21, 22, 23, 24, 30, 40];
 // The kinds of word allowed at each of LOCATIONS, as a set: bit k stands for kind k.
 pub const ALLOWED: [u16; 8] = [6, 88, 16, 48, 16, 24, 16, 24];
 
-// The kinds of event word.
-pub const STAY: u16 = 1;
+// The kinds of event word, by their numbers.
+#[derive(Clone, Copy, Debug, PartialEq, Eq)]
+pub enum Kind {
+    Stay = 1,
+    Come = 2,
+    Flicker = 3,
+    Go = 4,
+    Look = 5,
+    Cancel = 6,
+}
 
-pub const COME: u16 = 2;
+impl TryFrom<u32> for Kind {
+    type Error = Refusal;
 
-pub const FLICKER: u16 = 3;
+    ghost try_from_gives = { λ n r. numbered (kinds_in r) ≡ kind_in n };
 
-pub const GO: u16 = 4;
-
-pub const LOOK: u16 = 5;
-
-pub const CANCEL: u16 = 6;
+    fn try_from(number: u32) -> Result<Kind, Refusal> {
+        match number {
+            1 => Ok(Kind::Stay),
+            2 => Ok(Kind::Come),
+            3 => Ok(Kind::Flicker),
+            4 => Ok(Kind::Go),
+            5 => Ok(Kind::Look),
+            6 => Ok(Kind::Cancel),
+            _ => Err(Refusal::BadKind),
+        }
+    }
+}
 
 // The most processes of a table.
 pub const MOST_PROCESSES: usize = 16;
@@ -98,100 +117,127 @@ pub const INPUT_BYTES: usize = 4 * INPUT_WORDS;
 // Room for the bytes of every text.
 pub const TEXT_BYTES: usize = 180260;
 
-// The refusals by number; specs/Refusals.antt says what each means.
-pub const NO_HEADER: u16 = 1;
+// The refusals; specs/Refusals.antt says what each means, and its number.
+#[derive(Clone, Copy, Debug, PartialEq, Eq)]
+pub enum Refusal {
+    NoHeader = 1,
+    WrongLength = 2,
+    Malformed = 3,
+    OutOfRange = 4,
+    LevelMisfit = 5,
+    WrongSize = 6,
+    UnsoundRow = 7,
+    BadKind = 8,
+    NoProcess = 9,
+    NotAllowed = 10,
+    BadArgument = 11,
+    TooManyWords = 12,
+    TooFewLent = 13,
+    BadBytes = 14,
+    PassesFull = 15,
+    PlainFlicker = 16,
+    SecondWriter = 17,
+    BadSettings = 18,
+}
 
-pub const WRONG_LENGTH: u16 = 2;
+impl From<Refusal> for u16 {
+    ghost from_gives = { λ e n. n ≡ number e };
 
-pub const MALFORMED: u16 = 3;
+    fn from(refusal: Refusal) -> u16 {
+        refusal as u16
+    }
+}
 
-pub const OUT_OF_RANGE: u16 = 4;
+// As C gets an answer without a value: 0, or the number of the refusal.
+pub fn refusal_number(answer: Result<(), Refusal>) -> u16
+    ensures { result ≡ refusal_in answer }
+{
+    match answer {
+        Ok(()) => 0,
+        Err(refusal) => refusal.into(),
+    }
+}
 
-pub const LEVEL_MISFIT: u16 = 5;
-
-pub const WRONG_SIZE: u16 = 6;
-
-pub const UNSOUND_ROW: u16 = 7;
-
-pub const BAD_KIND: u16 = 8;
-
-pub const NO_PROCESS: u16 = 9;
-
-pub const NOT_ALLOWED: u16 = 10;
-
-pub const BAD_ARGUMENT: u16 = 11;
-
-pub const TOO_MANY_WORDS: u16 = 12;
-
-pub const TOO_FEW_LENT: u16 = 13;
-
-pub const BAD_BYTES: u16 = 14;
-
-pub const PASSES_FULL: u16 = 15;
-
-pub const PLAIN_FLICKER: u16 = 16;
-
-pub const SECOND_WRITER: u16 = 17;
-
-pub const BAD_SETTINGS: u16 = 18;
-
-// The memory settings of a step or of a run: what act and turn do while they are written.
-#[derive(Clone, Copy)]
+// The memory settings of a step or of a run as a caller gives them: any two numbers.
+#[derive(Clone, Copy, Debug, PartialEq, Eq)]
 pub struct Settings {
     pub act: u32,
     pub turn: u32,
 }
-
-// The settings but for 0, which is safe for act and write-safe for turn.
-pub const ACT_PLAIN: u32 = 1;
-
-pub const ONE_WRITER: u32 = 1;
-
-pub const TURN_PLAIN: u32 = 2;
 
 impl Settings {
     // Act safe and turn write-safe: they forbid nothing.
     pub const WEAKEST: Settings = Settings { act: 0, turn: 0 };
 }
 
+// What act does while it is written.
+#[derive(Clone, Copy, Debug, PartialEq, Eq)]
+pub enum ActMemory {
+    Safe,
+    Plain,
+}
+
+// What turn does while it is written.
+#[derive(Clone, Copy, Debug, PartialEq, Eq)]
+pub enum TurnMemory {
+    WriteSafe,
+    OneWriter,
+    Plain,
+}
+
+// Settings that fit.
+#[derive(Clone, Copy, Debug, PartialEq, Eq)]
+pub struct Memory {
+    pub act: ActMemory,
+    pub turn: TurnMemory,
+}
+
+impl Memory {
+    // Act safe and turn write-safe: they forbid nothing.
+    pub const WEAKEST: Memory = Memory {
+        act: ActMemory::Safe,
+        turn: TurnMemory::WriteSafe,
+    };
+}
+
+impl TryFrom<Settings> for Memory {
+    type Error = Refusal;
+
+    ghost try_from_gives = { λ s r. numbered (settings_in r) ≡ fitting s };
+
+    fn try_from(settings: Settings) -> Result<Memory, Refusal> {
+        let act = match settings.act {
+            0 => ActMemory::Safe,
+            1 => ActMemory::Plain,
+            _ => return Err(Refusal::BadSettings),
+        };
+        let turn = match settings.turn {
+            0 => TurnMemory::WriteSafe,
+            1 => TurnMemory::OneWriter,
+            2 => TurnMemory::Plain,
+            _ => return Err(Refusal::BadSettings),
+        };
+        Ok(Memory { act, turn })
+    }
+}
+
 // The parts of an event word.
-#[derive(Clone, Copy)]
+#[derive(Clone, Copy, Debug, PartialEq, Eq)]
 pub struct Parts {
-    pub kind: u16,
+    pub kind: Kind,
     pub process: u16,
     pub argument: u16,
 }
 
-// A word taken apart: its parts, or the number of the refusal.
-#[derive(Clone, Copy)]
-pub enum Apart {
-    Word(Parts),
-    Refused(u16),
-}
-
-// Parts put together: the word, or the number of the refusal.
-#[derive(Clone, Copy)]
-pub enum Together {
-    Word(u32),
-    Refused(u16),
-}
-
-// A refusal and the place of the word of an image that it is about; refusal 0 is none.
-#[derive(Clone, Copy)]
-pub struct Found {
-    pub refusal: u16,
+// What refuses an image, and the place of the word that it is about.
+#[derive(Clone, Copy, Debug, PartialEq, Eq)]
+pub struct ImageError {
+    pub refusal: Refusal,
     pub place: u16,
 }
 
-// The answer to an image: how many processes its table has, or the refusal.
-#[derive(Clone, Copy)]
-pub enum Reading {
-    Table(u16),
-    Refused { number: u16, place: u16 },
-}
-
 // The event of an accepted word: a COME, an arrival at 30, a departure from 30, or none of these.
-#[derive(Clone, Copy)]
+#[derive(Clone, Copy, Debug, PartialEq, Eq)]
 pub enum Event {
     Quiet,
     Come,
@@ -202,7 +248,7 @@ pub enum Event {
 // The shared cell that a step used: whether it was read or written, whether it is an act or a turn
 // cell, and its index; all 0 where it used none.
 #[repr(C)]
-#[derive(Clone, Copy)]
+#[derive(Clone, Copy, Debug, PartialEq, Eq)]
 pub struct SharedCell {
     pub access: u16,
     pub variable: u16,
@@ -227,7 +273,7 @@ impl SharedCell {
 }
 
 // What a step tells of an accepted word.
-#[derive(Clone, Copy)]
+#[derive(Clone, Copy, Debug, PartialEq, Eq)]
 pub struct Told {
     pub event: Event,
     pub cell: SharedCell,
@@ -244,22 +290,14 @@ impl Told {
     pub fn with_event(self, event: Event) -> Told
         ensures { result ≡ with_event event self }
     {
-        let cell = self.cell;
-        Told {
-            event: event,
-            cell: cell,
-        }
+        Told { event, ..self }
     }
 
     // The same but for the shared cell.
     pub fn with_cell(self, cell: SharedCell) -> Told
         ensures { result ≡ with_cell cell self }
     {
-        let event = self.event;
-        Told {
-            event: event,
-            cell: cell,
-        }
+        Told { cell, ..self }
     }
 
     // There is nothing to tell but the shared cell.
@@ -267,9 +305,9 @@ impl Told {
         ensures { result ≡ with_cell (record { access = access; variable = variable; index = index }) quiet }
     {
         Told::QUIET.with_cell(SharedCell {
-            access: access,
-            variable: variable,
-            index: index,
+            access,
+            variable,
+            index,
         })
     }
 
@@ -302,16 +340,9 @@ impl Told {
     }
 }
 
-// The answer of a step: what it tells of an accepted word, or the number of the refusal.
-#[derive(Clone, Copy)]
-pub enum Stepped {
-    Moved(Told),
-    Refused(u16),
-}
-
 // The tally of a run, its counters: words taken, COMEs, arrivals at 30.
 #[repr(C)]
-#[derive(Clone, Copy)]
+#[derive(Clone, Copy, Debug, PartialEq, Eq)]
 pub struct Tally {
     pub words: u32,
     pub comes: u32,
@@ -329,7 +360,7 @@ impl Tally {
 // The answer of a run: how many words were taken, the refusal or 0, and the shared cell of the last
 // word taken.
 #[repr(C)]
-#[derive(Clone, Copy)]
+#[derive(Clone, Copy, Debug, PartialEq, Eq)]
 pub struct Ran {
     pub taken: u32,
     pub refusal: u32,
@@ -338,7 +369,7 @@ pub struct Ran {
 
 // The answer of a step to C: the refusal or 0, and the shared cell that the word used.
 #[repr(C)]
-#[derive(Clone, Copy)]
+#[derive(Clone, Copy, Debug, PartialEq, Eq)]
 pub struct StepAnswer {
     pub refusal: u16,
     pub cell: SharedCell,
@@ -347,7 +378,7 @@ pub struct StepAnswer {
 // The answer of rounds: the refusal or 0, how many rounds were done, and whether some process is at 30
 // in the table as left: 1, or 0 where none is.
 #[repr(C)]
-#[derive(Clone, Copy)]
+#[derive(Clone, Copy, Debug, PartialEq, Eq)]
 pub struct RoundsAnswer {
     pub refusal: u16,
     pub rounds: u16,
@@ -357,7 +388,7 @@ pub struct RoundsAnswer {
 // The answer of taking a word apart to C: the refusal or 0, and the parts; these are 0 where the word
 // is refused.
 #[repr(C)]
-#[derive(Clone, Copy)]
+#[derive(Clone, Copy, Debug, PartialEq, Eq)]
 pub struct PartsAnswer {
     pub refusal: u16,
     pub kind: u16,
@@ -368,7 +399,7 @@ pub struct PartsAnswer {
 // The answer of putting a word together to C: the refusal or 0, and the word, which is 0 where there
 // is none.
 #[repr(C)]
-#[derive(Clone, Copy)]
+#[derive(Clone, Copy, Debug, PartialEq, Eq)]
 pub struct WordAnswer {
     pub refusal: u32,
     pub word: u32,
@@ -377,7 +408,7 @@ pub struct WordAnswer {
 // The answer of reading an image into lent rows to C: the refusal or 0, the place of the word that it
 // is about, and how many rows are the table; 0 where it is refused.
 #[repr(C)]
-#[derive(Clone, Copy)]
+#[derive(Clone, Copy, Debug, PartialEq, Eq)]
 pub struct ReadAnswer {
     pub refusal: u16,
     pub place: u16,
@@ -387,7 +418,7 @@ pub struct ReadAnswer {
 // The census, the counts of a table, for each k from 0 to N; what stands past N is 0. Where the table is
 // refused there are no figures: all are 0.
 #[repr(C)]
-#[derive(Clone, Copy)]
+#[derive(Clone, Copy, Debug, PartialEq, Eq)]
 pub struct Census {
     pub refusal: u16,
     pub critical: u16,
@@ -396,12 +427,10 @@ pub struct Census {
     pub held: [u16; 17],
 }
 
-// A whole new table handed back: its rows are the first `size` of `rows`. A refusal, with the
-// place of the word that it is about, hands back no table: the size is 0.
-#[derive(Clone, Copy)]
+// A whole new table handed back by value: its rows are the first `size` of `rows`, and those after
+// them are blank.
+#[derive(Clone, Copy, Debug, PartialEq, Eq)]
 pub struct NewTable {
-    pub refusal: u16,
-    pub place: u16,
-    pub size: u16,
+    pub size: usize,
     pub rows: [Row; 16],
 }
