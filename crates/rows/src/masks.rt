@@ -3,7 +3,10 @@
 // every word. Of a constant kind the compiler computes them.
 ghost use Rattle.std.specs.Prelude.{◌≡◌, ◌&&◌, eqb, ltb, get_or, ◌/◌, ◌%◌, ◌^◌, ◌<◌};
 ghost use Rattle.machine.specs.Tables.{locations, level_fits};
-ghost use Rattle.rows.specs.Masks.{mask_of, allowed_at, Mark, Coded};
+ghost use Rattle.machine.specs.Words.{kind_number};
+ghost use Rattle.rows.specs.Masks.{mask_of, allowed_at, Mark};
+
+use machine::Kind;
 
 // Whether bit l of a mask is set; a mask has bits below 64 only.
 pub(crate) fn marked(mask: u64, l: u16) -> bool
@@ -21,17 +24,16 @@ fn mark(code: usize, on: bool) -> u64
 }
 
 // The location of a code where a kind of word is allowed there, whatever lis is.
-fn place(code: usize, kind: u16) -> u64
-    requires { Coded code kind }
-    ensures { Mark code (allowed_at kind (get_or locations code 0)) result }
+fn place(code: usize, kind: Kind) -> u64
+    requires { code < 8 }
+    ensures { Mark code (allowed_at (kind_number kind) (get_or locations code 0)) result }
 {
-    mark(code, (machine::ALLOWED[code] >> kind) % 2 == 1)
+    mark(code, (machine::ALLOWED[code] >> (kind as u16)) % 2 == 1)
 }
 
 // The locations at which a kind of word is allowed, whatever lis is.
-pub(crate) fn places(kind: u16) -> u64
-    requires { kind < 16 }
-    ensures { result ≡ mask_of (allowed_at kind) }
+pub(crate) fn places(kind: Kind) -> u64
+    ensures { result ≡ mask_of (allowed_at (kind_number kind)) }
 {
     place(0, kind)
         + place(1, kind)

@@ -33,10 +33,8 @@ pub fn joined(a: [u16; 16], b: [u16; 16]) -> [u16; 16]
     ensures { Joined a b result }
 {
     let mut c = [0u16; 16];
-    let mut i = 0;
-    while i < 16 {
+    for i in 0..16 {
         c[i] = either(a[i], b[i]);
-        i += 1;
     }
     c
 }
@@ -47,10 +45,8 @@ pub fn rest_clear(n: u16, a: [u16; 16]) -> bool
     ensures { Clear n a result }
 {
     let mut any: u16 = 0;
-    let mut i = 0;
-    while i < 16 {
-        any = any | only(a[i], (i as u16 + 16 - n) / 16);
-        i += 1;
+    for i in 0..16 {
+        any |= only(a[i], (i as u16 + 16 - n) / 16);
     }
     any < 1
 }
@@ -60,10 +56,8 @@ pub fn raisable(c: u16, a: [u16; 16]) -> bool
     ensures { result ≡ raisable c a }
 {
     let mut any: u16 = 0;
-    let mut i = 0;
-    while i < 16 {
-        any = any | at_limit(a[i], (c >> i) % 2);
-        i += 1;
+    for i in 0..16 {
+        any |= at_limit(a[i], (c >> i) % 2);
     }
     any < 1
 }
@@ -74,10 +68,8 @@ pub(crate) fn raised(c: u16, a: [u16; 16]) -> [u16; 16]
     ensures { result ≡ raised c a }
 {
     let mut b = [0u16; 16];
-    let mut i = 0;
-    while i < 16 {
+    for i in 0..16 {
         b[i] = a[i] + (c >> i) % 2;
-        i += 1;
     }
     b
 }

@@ -1,5 +1,5 @@
 // Whether a row is within its ranges, and whether its process competes (machine/specs/Tables.antt).
-ghost use Rattle.std.specs.Prelude.{◌≡◌, ◌&&◌, ◌≤◌, get_or};
+ghost use Rattle.std.specs.Prelude.{◌≡◌, ◌&&◌, ◌≤◌, ◌<◌};
 ghost use Rattle.machine.specs.Tables.{one_of, locations, level_fits, competes};
 ghost use Rattle.rows.specs.Bounds.{Full, RowFits};
 
@@ -11,8 +11,7 @@ pub fn full_set(n: u16) -> u16
     requires { n ≤ 16 }
     ensures { Full n result }
 {
-    let one: u32 = 1;
-    ((one << n) - 1) as u16
+    ((1u32 << n) - 1) as u16
 }
 
 // Whether location l is one of the eight and level v goes with it.
@@ -26,12 +25,11 @@ pub fn location_fits(l: u16, v: u16) -> bool
 }
 
 // Whether row q of a table of n processes is within its ranges, but for its passes over processes
-// that are not there. `full` is the set of all n. `own` is the count of passes of q over itself:
-// it is not taken from the row, since an array that is indexed by a variable would be built anew.
-pub fn row_fits(n: u16, full: u16, q: u16, own: u16, r: Row) -> bool
+// that are not there. `full` is the set of all n.
+pub fn row_fits(n: u16, full: u16, q: u16, r: &Row) -> bool
     requires full { Full n full }
-    requires own_value { own ≡ get_or r.passes q 0 }
-    ensures { RowFits n q r result }
+    requires q_in { q < n }
+    ensures { RowFits n q r.now result }
 {
     ((r.act | r.bb) < 2)
         & (r.level < n)
@@ -39,12 +37,12 @@ pub fn row_fits(n: u16, full: u16, q: u16, own: u16, r: Row) -> bool
         & (r.turn < n)
         & ((q != 0) | (r.turn == 0))
         & location_fits(r.location, r.level)
-        & (own == 0)
+        & (r.passes[q as usize] == 0)
 }
 
 // Whether a process competes, at locations 21 to 30.
-pub fn competes(r: Row) -> bool
-    ensures { result ≡ competes r }
+pub fn competes(r: &Row) -> bool
+    ensures { result ≡ competes r.now }
 {
     (21 <= r.location) & (r.location <= 30)
 }

@@ -4,23 +4,21 @@
 --   lowest_of s       ==   the lowest member of s, if it has one.
 --
 -- Assumes nothing.
-use Rattle.std.specs.Prelude.{ℕ, zero, suc, cond}
+use Rattle.std.specs.Prelude.{ℕ, zero, suc, cond, Option, Some, None}
 use Rattle.counting.specs.Sets.{has}
-use Rattle.sets.specs.declared.Lowest.{Lowest}
-use Rattle.sets.specs.declared.Lowest.TheVariants.{Member, Empty}
 
 -- the answer a where it names a member, else b
-abbrev pub first_of : Lowest → Lowest → Lowest
-first_of (Member q) b = Member q
-first_of Empty b = b
+abbrev pub first_of : Option ℕ → Option ℕ → Option ℕ
+first_of (Some q) b = Some q
+first_of None b = b
 
 -- the lowest member of s below n, if there is one
-unfoldable pub lowest_below : ℕ → ℕ → Lowest
+unfoldable pub lowest_below : ℕ → ℕ → Option ℕ
 unfolding has
-lowest_below s zero = Empty
-lowest_below s (suc n) = first_of (lowest_below s n) (cond (has s n) (Member n) Empty)
+lowest_below s zero = None
+lowest_below s (suc n) = first_of (lowest_below s n) (cond (has s n) (Some n) None)
 
 -- the lowest member of s, if it has one
-unfoldable pub lowest_of : ℕ → Lowest
+unfoldable pub lowest_of : ℕ → Option ℕ
 unfolding lowest_below
 lowest_of s = lowest_below s 16

@@ -3,17 +3,10 @@
 // are for crates above that know their arguments to be in range, and do not branch.
 #![tactic(auto)]
 
-ghost use Rattle.std.specs.Prelude.{◌≡◌, ◌<◌};
+ghost use Rattle.std.specs.Prelude.{◌≡◌, ◌<◌, Some};
 ghost use Rattle.counting.specs.Sets.{has, size, without, others};
 ghost use Rattle.sets.specs.Answers.{lowest_of};
 ghost use Rattle.sets.specs.Bounds.{Among};
-
-// The lowest member of a set, if it has one.
-#[derive(Clone, Copy)]
-pub enum Lowest {
-    Member(u16),
-    Empty,
-}
 
 // Whether q is in s; a q of 16 or more is in no set.
 pub fn has(s: u16, q: u16) -> bool
@@ -34,25 +27,25 @@ fn member_of(s: u16, q: u16) -> bool
 pub fn size(s: u16) -> u16
     ensures { result ≡ size s }
 {
-    u16::count_ones(s) as u16
+    s.count_ones() as u16
 }
 
-// The lowest member of s, or Empty where s has none.
-pub fn lowest_member(s: u16) -> Lowest
+// The lowest member of s, if it has one.
+pub fn lowest_member(s: u16) -> Option<u16>
     ensures { result ≡ lowest_of s }
 {
     if s == 0 {
-        return Lowest::Empty;
+        return None;
     }
-    Lowest::Member(first_of(s))
+    Some(first_of(s))
 }
 
 // The lowest member of an s that has one.
 pub fn first_of(s: u16) -> u16
     requires { 0 < s }
-    ensures { lowest_of s ≡ Lowest.Member result }
+    ensures { lowest_of s ≡ Some result }
 {
-    u16::trailing_zeros(s) as u16
+    s.trailing_zeros() as u16
 }
 
 // The set s, less p; s itself where p is not in it.
@@ -67,8 +60,7 @@ pub fn removed(s: u16, p: u16) -> u16
     requires { p < 16 }
     ensures { result ≡ without s p }
 {
-    let one: u16 = 1;
-    s & !(one << p)
+    s & !(1 << p)
 }
 
 // All of n processes but p.
@@ -76,6 +68,5 @@ pub fn others(n: u16, p: u16) -> u16
     requires { Among n p }
     ensures { result ≡ others n p }
 {
-    let one: u32 = 1;
-    ((one << n) - 1 - (one << p)) as u16
+    ((1u32 << n) - 1 - (1u32 << p)) as u16
 }

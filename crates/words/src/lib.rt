@@ -1,16 +1,17 @@
 // Event words taken apart and put together, without a table (machine/specs/Words.antt).
 #![tactic(auto)]
 
-ghost use Rattle.std.specs.Prelude.{◌≡◌, true, ◌&&◌, eqb};
-ghost use Rattle.machine.specs.Words.{is_kind, kind_of, process_of, argument_of, formed, apart, together};
+ghost use Rattle.std.specs.Prelude.{◌≡◌, ◌&&◌, eqb};
+ghost use Rattle.machine.specs.Refusals.{numbered};
+ghost use Rattle.machine.specs.Words.{is_kind, kind_number, kind_of, process_of, argument_of, formed, fields_in, apart, together};
 
-use machine::{Apart, Parts, Together};
+use machine::{Kind, Parts, Refusal};
 
 // Whether a number is one of the kinds of word.
 fn is_kind(kind: u32) -> bool
     ensures { result ≡ is_kind kind }
 {
-    (machine::STAY as u32 <= kind) & (kind <= machine::CANCEL as u32)
+    (Kind::Stay as u32 <= kind) & (kind <= Kind::Cancel as u32)
 }
 
 // The kind of a word, bits 31 to 28.
@@ -43,44 +44,45 @@ pub fn formed(w: u32) -> bool
 
 // Whether a word is of this kind and its spare bits are 0: what is left of it without process and
 // argument is compared once.
-pub fn is_of(w: u32, kind: u16) -> bool
-    requires { is_kind kind ≡ true }
-    ensures { result ≡ (formed w && eqb (kind_of w) kind) }
+pub fn is_of(word: u32, kind: Kind) -> bool
+    ensures { result ≡ (formed word && eqb (kind_of word) (kind_number kind)) }
 {
-    let head = w - w % 256 - (w >> 16) % 256 * 65536;
+    let head = word - word % 256 - (word >> 16) % 256 * 65536;
     head == (kind as u32) * 268435456
 }
 
 // The parts of a word; or 8 where it is not formed, then 9 for a process over 15.
-pub fn take_apart(word: u32) -> Apart
-    ensures { result ≡ apart word }
+pub fn take_apart(word: u32) -> Result<Parts, Refusal>
+    ensures { numbered (fields_in result) ≡ apart word }
 {
     if !formed(word) {
-        return Apart::Refused(machine::BAD_KIND);
+        return Err(Refusal::BadKind);
     }
     let process = process_of(word);
     if 15 < process {
-        return Apart::Refused(machine::NO_PROCESS);
+        return Err(Refusal::NoProcess);
     }
-    Apart::Word(Parts {
-        kind: kind_of(word),
+    let kind = Kind::try_from(word >> 28)?;
+    let argument = argument_of(word);
+    Ok(Parts {
+        kind,
         process,
-        argument: argument_of(word),
+        argument,
     })
 }
 
 // The word of a kind, a process and an argument; or 8, then 9, then 11 where one is out of range.
-pub fn put_together(kind: u32, process: u32, argument: u32) -> Together
-    ensures { result ≡ together kind process argument }
+pub fn put_together(kind: u32, process: u32, argument: u32) -> Result<u32, Refusal>
+    ensures { numbered result ≡ together kind process argument }
 {
     if !is_kind(kind) {
-        return Together::Refused(machine::BAD_KIND);
+        return Err(Refusal::BadKind);
     }
     if 15 < process {
-        return Together::Refused(machine::NO_PROCESS);
+        return Err(Refusal::NoProcess);
     }
     if 255 < argument {
-        return Together::Refused(machine::BAD_ARGUMENT);
+        return Err(Refusal::BadArgument);
     }
-    Together::Word(kind * 268435456 + process * 65536 + argument)
+    Ok(kind * 268435456 + process * 65536 + argument)
 }
