@@ -1,9 +1,0 @@
-// Sizes of lists of any kind.
-ghost use Rattle.std.specs.Prelude.{◌≡◌, min};
-
-// The lesser of two sizes.
-pub fn lesser(a: usize, b: usize) -> usize
-    ensures { result ≡ min a b }
-{
-    if a < b { a } else { b }
-}
