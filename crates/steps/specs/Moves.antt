@@ -3,22 +3,21 @@
 --   kind_event k r     ==   the event of an allowed kind at a row, read before the step; go_event r is that of GO.
 --   kind_told k p a r  ==   what the step tells of it, of process p with argument a.
 --   row_refusal t k p a  ==  the first of 10 and 11 that applies, or 0: what refuses it but 16, 17 and 15.
---   Ready x p         <=>  process p of the cells x can move: what a sound table gives.
+--   Ready x p         <=>  process p of the table x can move: what a sound table gives.
 --   At x p l          <=>  it can, and is at location l.
 --   Free x k p        <=>  it can, and kind k is allowed where it is.
 --   Sees x p q        <=>  it can, and q is a process.
---   Asked x k p       <=>  it can, and k is a kind.
---   Moves x k p a y s <=>  kind k with argument a made y of the cells x and tells s, where it is allowed.
+--   Moves x k p a y s <=>  kind k with argument a made y of the table x and tells s, where it is allowed.
 --   Goes x p y s      <=>  so did GO.
---   TakesBy n x k p a y s  <=>  kind k with argument a made y of the cells x and answered s, by the refusal n, or 0.
+--   TakesBy n x k p a y s  <=>  kind k with argument a made y of the table x and answered s, by the refusal n, or 0.
 --   Takes x k p a y s <=>  so it did, by its refusal without settings.
 --   TakesUnder m x k p a y s  <=>  so it did, by its refusal under the settings m.
 --
 -- Assumes nothing.
-use Rattle.std.specs.Prelude.{ℕ, ◌^◌, ◌≤◌, ◌<◌, ◌≡◌, true, cond, ◌&&◌, not, List, eqb, length}
-use Rattle.machine.specs.Refusals.{accepted, not_allowed, bad_argument}
+use Rattle.std.specs.Prelude.{ℕ, ◌^◌, ◌≤◌, ◌<◌, ◌≡◌, true, cond, ◌&&◌, not, eqb, length, Result, Ok, Err}
+use Rattle.machine.specs.Refusals.{accepted, not_allowed, bad_argument, numbered}
 use Rattle.machine.specs.Tables.{Table, row}
-use Rattle.machine.specs.Words.{COME, GO, is_kind}
+use Rattle.machine.specs.Words.{COME, GO}
 use Rattle.machine.specs.Shared.{cell_at}
 use Rattle.machine.specs.Steps.{moved, allowed, argument_fits, refusal_at}
 use Rattle.machine.specs.Settings.{forbidden_by, before15}
@@ -26,8 +25,7 @@ use Rattle.machine.specs.declared.Row.{Row}
 use Rattle.machine.specs.declared.Event.{Event}
 use Rattle.machine.specs.declared.Settings.{Settings}
 use Rattle.machine.specs.declared.Told.{Told}
-use Rattle.machine.specs.declared.Stepped.{Stepped}
-use Rattle.cells.specs.View.{rows_of, Becomes}
+use Rattle.machine.specs.declared.Refusal.{Refusal}
 
 -- ---- what is told, read before the step
 
@@ -52,49 +50,44 @@ row_refusal t k p a =
 
 -- ---- what the functions require
 
-pub record Ready (x : List (List ℕ)) (p : ℕ) : Type 0 where
+pub record Ready (x : Table) (p : ℕ) : Type 0 where
   pub one : p < length x
   pub few : length x ≤ 16
-  pub low : (row (rows_of x) p).level < length x
-  pub listed : (row (rows_of x) p).lis < 2 ^ length x
+  pub low : (row x p).level < length x
+  pub listed : (row x p).lis < 2 ^ length x
 
-pub record At (x : List (List ℕ)) (p l : ℕ) : Type 0 where
+pub record At (x : Table) (p l : ℕ) : Type 0 where
   pub ready : Ready x p
-  pub there : (row (rows_of x) p).location ≡ l
+  pub there : (row x p).location ≡ l
 
-pub record Free (x : List (List ℕ)) (k p : ℕ) : Type 0 where
+pub record Free (x : Table) (k p : ℕ) : Type 0 where
   pub ready : Ready x p
-  pub may : allowed k (row (rows_of x) p) ≡ true
+  pub may : allowed k (row x p) ≡ true
 
-pub record Sees (x : List (List ℕ)) (p q : ℕ) : Type 0 where
+pub record Sees (x : Table) (p q : ℕ) : Type 0 where
   pub ready : Ready x p
   pub seen : q < length x
 
-pub record Asked (x : List (List ℕ)) (k p : ℕ) : Type 0 where
-  pub ready : Ready x p
-  pub kind : is_kind k ≡ true
-
 -- ---- what the functions ensure
 
-pub record Moves (x : List (List ℕ)) (k p a : ℕ) (y : List (List ℕ)) (s : Told) : Type 0 where
-  pub told_is : s ≡ kind_told k p a (row (rows_of x) p)
-  pub becomes : Becomes x (moved (rows_of x) k p a) y
+pub record Moves (x : Table) (k p a : ℕ) (y : Table) (s : Told) : Type 0 where
+  pub told_is : s ≡ kind_told k p a (row x p)
+  pub becomes : y ≡ moved x k p a
 
 -- GO has no argument
-abbrev pub Goes : List (List ℕ) → ℕ → List (List ℕ) → Told → Type 0
+abbrev pub Goes : Table → ℕ → Table → Told → Type 0
 Goes x p y s = Moves x GO p 0 y s
 
-pub record TakesBy (n : ℕ) (x : List (List ℕ)) (k p a : ℕ) (y : List (List ℕ)) (s : Stepped) : Type 0 where
-  pub answer_is : s
-      ≡ cond (eqb n accepted) (Stepped.Moved (kind_told k p a (row (rows_of x) p))) (Stepped.Refused n)
-  pub becomes : Becomes x (cond (eqb n accepted) (moved (rows_of x) k p a) (rows_of x)) y
+pub record TakesBy (n : ℕ) (x : Table) (k p a : ℕ) (y : Table) (s : Result Told Refusal) : Type 0 where
+  pub answer_is : numbered s ≡ cond (eqb n accepted) (Ok (kind_told k p a (row x p))) (Err n)
+  pub becomes : y ≡ cond (eqb n accepted) (moved x k p a) x
 
-abbrev pub Takes : List (List ℕ) → ℕ → ℕ → ℕ → List (List ℕ) → Stepped → Type 0
-Takes x k p a y s = TakesBy (refusal_at (rows_of x) k p a) x k p a y s
+abbrev pub Takes : Table → ℕ → ℕ → ℕ → Table → Result Told Refusal → Type 0
+Takes x k p a y s = TakesBy (refusal_at x k p a) x k p a y s
 
 -- 16 and 17 after 11 and before 15
 abbrev pub refusal_by : Settings → Table → ℕ → ℕ → ℕ → ℕ
 refusal_by m t k p a = before15 (forbidden_by m t k p) (refusal_at t k p a)
 
-abbrev pub TakesUnder : Settings → List (List ℕ) → ℕ → ℕ → ℕ → List (List ℕ) → Stepped → Type 0
-TakesUnder m x k p a y s = TakesBy (refusal_by m (rows_of x) k p a) x k p a y s
+abbrev pub TakesUnder : Settings → Table → ℕ → ℕ → ℕ → Table → Result Told Refusal → Type 0
+TakesUnder m x k p a y s = TakesBy (refusal_by m x k p a) x k p a y s

@@ -1,20 +1,16 @@
--- What the step promises of cells.
+-- What the step promises of a table.
 --
---   Steps x w y s         <=>  the step of word w, without settings, made y of the cells x and answered s.
---   StepsUnder m x w y s  <=>  the step under the settings m did.
+--   StepsUnder m x w y s  <=>  the step of word w under the settings m made y of the table x and answered s.
 --
 -- Assumes nothing.
-use Rattle.std.specs.Prelude.{ℕ, ◌≡◌, List}
-use Rattle.machine.specs.Steps.{after_word, answer_of}
+use Rattle.std.specs.Prelude.{ℕ, ◌≡◌, Result}
+use Rattle.machine.specs.Refusals.{numbered}
+use Rattle.machine.specs.Tables.{Table}
 use Rattle.machine.specs.Settings.{after_under, answer_under}
+use Rattle.machine.specs.declared.Refusal.{Refusal}
 use Rattle.machine.specs.declared.Settings.{Settings}
-use Rattle.machine.specs.declared.Stepped.{Stepped}
-use Rattle.cells.specs.View.{rows_of, Becomes}
+use Rattle.machine.specs.declared.Told.{Told}
 
-pub record Steps (x : List (List ℕ)) (w : ℕ) (y : List (List ℕ)) (s : Stepped) : Type 0 where
-  pub answer_is : s ≡ answer_of (rows_of x) w
-  pub becomes : Becomes x (after_word (rows_of x) w) y
-
-pub record StepsUnder (m : Settings) (x : List (List ℕ)) (w : ℕ) (y : List (List ℕ)) (s : Stepped) : Type 0 where
-  pub answer_is : s ≡ answer_under m (rows_of x) w
-  pub becomes : Becomes x (after_under m (rows_of x) w) y
+pub record StepsUnder (m : Settings) (x : Table) (w : ℕ) (y : Table) (s : Result Told Refusal) : Type 0 where
+  pub answer_is : numbered s ≡ answer_under m x w
+  pub becomes : y ≡ after_under m x w

@@ -6,3 +6,4 @@ pub mod going; // GO, location by location
 pub mod moving; // COME, FLICKER, LOOK and CANCEL
 pub mod taking; // every kind: refused, or moved
 pub mod stepping; // the check of a word, and the step
+pub mod system; // a sound table, step by step

@@ -3,49 +3,48 @@
 ghost use Rattle.machine.specs.Words.{COME, FLICKER, LOOK, CANCEL};
 ghost use Rattle.steps.specs.Moves.{Ready, Free, Sees, Moves};
 
-use crate::going::go_to;
-use cells::access::{put_row, row_at, turn_to};
-use machine::{Event, Told};
+use machine::{Event, Row, Told};
 
 // COME of process p: to 20.
-pub(crate) fn come(cells: &mut [[u16; 24]], p: u16) -> Told
-    requires { Ready cells.old p }
-    ensures { Moves cells.old COME p 0 cells.new result }
+pub(crate) fn come(rows: &mut [Row], p: u16) -> Told
+    requires { Ready rows.old p }
+    ensures { Moves rows.old COME p 0 rows.new result }
 {
-    go_to(cells, p, 20);
+    rows[p as usize].location = 20;
     Told::QUIET.with_event(Event::Come)
 }
 
 // FLICKER of process p: at 24 the turn cell of its level becomes `a`, elsewhere its act.
-pub(crate) fn flicker(cells: &mut [[u16; 24]], p: u16, a: u16) -> Told
-    requires { Free cells.old FLICKER p }
-    ensures { Moves cells.old FLICKER p a cells.new result }
+pub(crate) fn flicker(rows: &mut [Row], p: u16, a: u16) -> Told
+    requires { Free rows.old FLICKER p }
+    ensures { Moves rows.old FLICKER p a rows.new result }
 {
-    let r = row_at(cells, p as usize);
+    let r = &rows[p as usize];
     if r.location == 24 {
-        turn_to(cells, r.level as usize, a);
-        return Told::turn_written(r.level);
+        let level = r.level;
+        rows[level as usize].turn = a;
+        return Told::turn_written(level);
     }
-    put_row(cells, p as usize, rows::moves::flicker_act(a, r));
+    rows[p as usize].act = a;
     Told::act_written(p)
 }
 
 // LOOK of process p at q.
-pub fn look(cells: &mut [[u16; 24]], p: u16, q: u16) -> Told
-    requires { Sees cells.old p q }
-    ensures { Moves cells.old LOOK p q cells.new result }
+pub fn look(rows: &mut [Row], p: u16, q: u16) -> Told
+    requires { Sees rows.old p q }
+    ensures { Moves rows.old LOOK p q rows.new result }
 {
-    let r = row_at(cells, p as usize);
-    let act = row_at(cells, q as usize).act;
-    put_row(cells, p as usize, rows::moves::looked(q, act, r));
+    let act = rows[q as usize].act;
+    let r = rows[p as usize];
+    rows[p as usize] = rows::moves::looked(q, act, r);
     Told::act_read(q)
 }
 
 // CANCEL of process p: to 40, where its act is still what the last FLICKER left.
-pub(crate) fn cancel(cells: &mut [[u16; 24]], p: u16) -> Told
-    requires { Ready cells.old p }
-    ensures { Moves cells.old CANCEL p 0 cells.new result }
+pub(crate) fn cancel(rows: &mut [Row], p: u16) -> Told
+    requires { Ready rows.old p }
+    ensures { Moves rows.old CANCEL p 0 rows.new result }
 {
-    go_to(cells, p, 40);
+    rows[p as usize].location = 40;
     Told::QUIET
 }

@@ -1,75 +1,56 @@
 // The step: the check of the table, of the settings and of the word, and the move.
-ghost use Rattle.std.specs.Prelude.{◌≡◌, true};
+ghost use Rattle.std.specs.Prelude.{◌≡◌};
 ghost use Rattle.machine.specs.Tables.{table_refusal};
-ghost use Rattle.machine.specs.Settings.{settings_fit};
-ghost use Rattle.cells.specs.View.{rows_of};
-ghost use Rattle.steps.specs.Stepping.{Steps, StepsUnder};
+ghost use Rattle.machine.specs.Settings.{settings_of};
+ghost use Rattle.steps.specs.Stepping.{StepsUnder};
 
 use crate::taking::{take_cancel, take_come, take_flicker, take_go, take_look, take_stay};
-use cells::checks::check;
-use machine::{Settings, Stepped};
+use machine::{Kind, Memory, Refusal, Row, Settings, Told};
 
-// The step of a word under settings, at a table that is known to be sound and with settings that
-// are known to fit, which are not checked again: what it tells of an accepted word; else the
-// number of the refusal, and no row is changed. The frequent kinds come first, each by one
-// comparison of the word. Not all six do: five cases in a row become a jump through a table, which
-// is slower.
+// The step of a word under settings at a table that is known to be sound, which is not checked
+// again: what it tells of an accepted word; else the refusal, and no row is changed. The frequent
+// kinds come first, each by one comparison of the word. Not all six do: five cases in a row become a
+// jump through a table, which is slower.
 #[inline(always)]
-pub fn advance_under(cells: &mut [[u16; 24]], word: u32, settings: Settings) -> Stepped
-    requires cells_value { table_refusal (rows_of cells.old) ≡ 0 }
-    requires settings_value { settings_fit settings ≡ true }
-    ensures { StepsUnder settings cells.old word cells.new result }
+pub(crate) fn advance(rows: &mut [Row], word: u32, memory: Memory) -> Result<Told, Refusal>
+    requires { table_refusal rows.old ≡ 0 }
+    ensures { StepsUnder (settings_of memory) rows.old word rows.new result }
 {
     let p = words::process_of(word);
-    if cells.len() <= p as usize {
+    if rows.len() <= p as usize {
         if !words::formed(word) {
-            return Stepped::Refused(machine::BAD_KIND);
+            return Err(Refusal::BadKind);
         }
-        return Stepped::Refused(machine::NO_PROCESS);
+        return Err(Refusal::NoProcess);
     }
     let a = words::argument_of(word);
-    if words::is_of(word, machine::LOOK) {
-        return take_look(cells, p, a);
+    if words::is_of(word, Kind::Look) {
+        return take_look(rows, p, a);
     }
-    if words::is_of(word, machine::GO) {
-        return take_go(cells, p, a, settings);
+    if words::is_of(word, Kind::Go) {
+        return take_go(rows, p, a, memory);
     }
-    if words::is_of(word, machine::STAY) {
-        return take_stay(cells, p, a);
+    if words::is_of(word, Kind::Stay) {
+        return take_stay(rows, p, a);
     }
     if !words::formed(word) {
-        return Stepped::Refused(machine::BAD_KIND);
+        return Err(Refusal::BadKind);
     }
-    let kind = words::kind_of(word);
-    if kind == machine::FLICKER {
-        return take_flicker(cells, p, a, settings);
+    if words::is_of(word, Kind::Flicker) {
+        return take_flicker(rows, p, a, memory);
     }
-    if kind == machine::COME {
-        return take_come(cells, p, a);
+    if words::is_of(word, Kind::Come) {
+        return take_come(rows, p, a);
     }
-    take_cancel(cells, p, a)
-}
-
-// The same under settings that forbid nothing.
-pub fn advance(cells: &mut [[u16; 24]], word: u32) -> Stepped
-    requires { table_refusal (rows_of cells.old) ≡ 0 }
-    ensures { Steps cells.old word cells.new result }
-{
-    advance_under(cells, word, Settings::WEAKEST)
+    take_cancel(rows, p, a)
 }
 
 // The step of a word under settings at a table of any size and content: what it tells of an accepted
-// word; else the number of the refusal, of the table, of the settings or of the word, and no row is
-// changed.
-pub fn step(cells: &mut [[u16; 24]], word: u32, settings: Settings) -> Stepped
-    ensures { StepsUnder settings cells.old word cells.new result }
+// word; else the refusal, of the table, of the settings or of the word, and no row is changed.
+pub fn step(rows: &mut [Row], word: u32, settings: Settings) -> Result<Told, Refusal>
+    ensures { StepsUnder settings rows.old word rows.new result }
 {
-    let unsound = check(cells);
-    if unsound != 0 {
-        return Stepped::Refused(unsound);
-    }
-    if !rows::settings::settings_fit(settings) {
-        return Stepped::Refused(machine::BAD_SETTINGS);
-    }
-    advance_under(cells, word, settings)
+    tables::check(rows)?;
+    let memory = Memory::try_from(settings)?;
+    advance(rows, word, memory)
 }
