@@ -1,32 +1,48 @@
 -- What the parts of the call from C require and promise (machine/specs/Calls).
 --
---   CallsTo c m r    <=>  the lent bytes are m and the answer is r, as the call c says.
---   Prepared x ws    <=>  the cells x hold a sound table, and the words ws are at most 8,192.
---   Ends x o y r     <=>  the cells x have become y, a sound table, by a run with outcome o, and r says how it ended.
---   Writable x l     <=>  the cells x hold a sound table, and the lent bytes l have room for its image.
+--   number_in r      ==   the number of an answer: words taken and refusal, or the refusal alone.
+--   refusal_for e m  ==   what refuses a call under the settings m whose input is refused with e.
+--   CallsTo c l r    <=>  the lent bytes are l and the answer is r, as the call c says.
+--   Prepared x ws    <=>  the table x is sound, and the words ws are at most 8,192.
+--   Writable x l     <=>  the table x is sound, and the lent bytes l have room for its image.
+--   Packable n x l   <=>  and n words have.
 --
 -- Assumes nothing.
-use Rattle.std.specs.Prelude.{ℕ, ◌≤◌, ◌≡◌, List, length}
-use Rattle.machine.specs.Tables.{table_refusal}
-use Rattle.machine.specs.Runs.{limit, Outcome}
-use Rattle.machine.specs.Calls.{Called, room_for}
-use Rattle.cells.specs.View.{rows_of, Becomes}
-use Rattle.zaguypo.specs.declared.Ended.{Ended}
+use Rattle.std.specs.Prelude.{ℕ, ◌≤◌, ◌≡◌, cond, List, length, Result, Ok, Err}
+use Rattle.machine.specs.Refusals.{too_many_words, bad_bytes, bad_settings, number}
+use Rattle.machine.specs.Tables.{Table, table_refusal}
+use Rattle.machine.specs.Settings.{settings_fit}
+use Rattle.machine.specs.Runs.{limit}
+use Rattle.machine.specs.Images.{image_length}
+use Rattle.machine.specs.Calls.{Called, number_of, room_for}
+use Rattle.machine.specs.declared.Refusal.{Refusal}
+use Rattle.machine.specs.declared.Settings.{Settings}
+use Rattle.machine.specs.declared.Ran.{Ran}
+use Rattle.inputs.specs.declared.InputError.{InputError}
+use Rattle.inputs.specs.declared.InputError.TheVariants.{BadBytes, BadImage, TooMany}
 
-pub record CallsTo (c : Called) (m : List ℕ) (r : ℕ) : Type 0 where
-  pub number_is : r ≡ c.number
-  pub lent_is : m ≡ c.lent
+abbrev pub number_in : Result Ran Refusal → ℕ
+number_in (Ok r) = number_of r.taken r.refusal
+number_in (Err e) = number_of 0 (number e)
 
-pub record Writable (x : List (List ℕ)) (l : List ℕ) : Type 0 where
-  pub sound : table_refusal (rows_of x) ≡ 0
-  pub room : room_for (rows_of x) ≤ length l
+-- 18 comes before 12
+abbrev pub refusal_for : InputError → Settings → ℕ
+refusal_for BadBytes m = bad_bytes
+refusal_for (BadImage e) m = number e.refusal
+refusal_for (TooMany n) m = cond (settings_fit m) too_many_words bad_settings
 
-pub record Prepared (x : List (List ℕ)) (ws : List ℕ) : Type 0 where
-  pub table_sound : table_refusal (rows_of x) ≡ 0
+pub record CallsTo (c : Called) (l : List ℕ) (r : Result Ran Refusal) : Type 0 where
+  pub number_is : number_in r ≡ c.number
+  pub lent_is : l ≡ c.lent
+
+pub record Prepared (x : Table) (ws : List ℕ) : Type 0 where
+  pub table_sound : table_refusal x ≡ 0
   pub words_few : length ws ≤ limit
 
-pub record Ends (x : List (List ℕ)) (o : Outcome) (y : List (List ℕ)) (r : Ended) : Type 0 where
-  pub becomes : Becomes x o.table y
-  pub taken_is : r.taken ≡ o.tally.words
-  pub refusal_is : r.refusal ≡ o.refusal
-  pub sound_after : table_refusal (rows_of y) ≡ 0
+pub record Writable (x : Table) (l : List ℕ) : Type 0 where
+  pub sound : table_refusal x ≡ 0
+  pub room : room_for x ≤ length l
+
+pub record Packable (n : ℕ) (x : Table) (l : List ℕ) : Type 0 where
+  pub writable : Writable x l
+  pub long : image_length (length x) ≤ n

@@ -1,13 +1,12 @@
 // What C calls (include/zaguypo.h): each function under its C name, over the one of the same name in the
-// library that does the work, with the same clauses. A row is 24 numbers, which have the layout of the
-// row struct that the header declares.
+// library that does the work, with the same clauses. A row has the layout of the row struct that the
+// header declares.
 #![tactic(auto)]
 
 ghost use Rattle.std.specs.Prelude.{◌≡◌};
 ghost use Rattle.machine.specs.Census.{census_of};
 ghost use Rattle.machine.specs.Calls.{call_of};
 ghost use Rattle.machine.specs.Exports.{parts_answer_of, word_answer_of, fresh_in, read_in, printed_in};
-ghost use Rattle.cells.specs.View.{rows_of};
 ghost use Rattle.images.specs.Answers.{Writes};
 ghost use Rattle.lent.specs.LentStep.{StepsTo};
 ghost use Rattle.runs.specs.Outcomes.{RunsTo};
@@ -44,9 +43,9 @@ pub extern "C" fn zaguypo_print(input: &[u8], text: &mut [u8]) -> usize
 // The lent rows become the fresh table of that many processes; 6 for other than 2 to 16, which are
 // left as they are.
 #[unsafe(no_mangle)]
-pub extern "C" fn zaguypo_fresh(rows: &mut [[u16; 24]]) -> u16
-    ensures { (result ≡ (fresh_in (rows_of rows.old)).refusal)
-        × (rows_of rows.new ≡ (fresh_in (rows_of rows.old)).rows) }
+pub extern "C" fn zaguypo_fresh(rows: &mut [Row]) -> u16
+    ensures { (result ≡ (fresh_in rows.old).refusal)
+        × (rows.new ≡ (fresh_in rows.old).rows) }
 {
     exports::zaguypo_fresh(rows)
 }
@@ -64,30 +63,30 @@ pub extern "C" fn zaguypo_step(rows: &mut [Row], word: u32, act: u32, turn: u32)
 // shared cell of the last word taken. Each accepted word is counted in the tally, which starts at zero.
 #[unsafe(no_mangle)]
 pub extern "C" fn zaguypo_run_rows(
-    rows: &mut [[u16; 24]],
+    rows: &mut [Row],
     words: &[u32],
     tally: &mut Tally,
     act: u32,
     turn: u32,
 ) -> Ran
     ensures { RunsTo (record { act = act; turn = turn }) words.now result tally.new
-        (rows_of rows.old) (rows_of rows.new) }
+        rows.old rows.new }
 {
     runs::zaguypo_run_rows(rows, words, tally, act, turn)
 }
 
 // The census of a table. Its waiting figure counts 21 to 24; up to version 1.1.0 it counted 20 to 24.
 #[unsafe(no_mangle)]
-pub extern "C" fn zaguypo_census(rows: &[[u16; 24]]) -> Census
-    ensures { result ≡ census_of (rows_of rows.now) }
+pub extern "C" fn zaguypo_census(rows: &[Row]) -> Census
+    ensures { result ≡ census_of rows.now }
 {
     census::zaguypo_census(rows)
 }
 
 // Rounds in the lent rows.
 #[unsafe(no_mangle)]
-pub extern "C" fn zaguypo_rounds(rows: &mut [[u16; 24]]) -> RoundsAnswer
-    ensures { RoundsTo result (rows_of rows.old) (rows_of rows.new) }
+pub extern "C" fn zaguypo_rounds(rows: &mut [Row]) -> RoundsAnswer
+    ensures { RoundsTo result rows.old rows.new }
 {
     rounds::zaguypo_rounds(rows)
 }
@@ -97,17 +96,17 @@ pub extern "C" fn zaguypo_rounds(rows: &mut [[u16; 24]]) -> RoundsAnswer
 // Reads an image into the first of the lent rows: its table, or the refusal 1 to 5 with its place, then
 // 13 where the rows are too few; a refusal leaves them.
 #[unsafe(no_mangle)]
-pub extern "C" fn zaguypo_read(words: &[u32], rows: &mut [[u16; 24]]) -> ReadAnswer
-    ensures { (result ≡ (read_in words.now (rows_of rows.old)).answer)
-        × (rows_of rows.new ≡ (read_in words.now (rows_of rows.old)).rows) }
+pub extern "C" fn zaguypo_read(words: &[u32], rows: &mut [Row]) -> ReadAnswer
+    ensures { (result ≡ (read_in words.now rows.old).answer)
+        × (rows.new ≡ (read_in words.now rows.old).rows) }
 {
     exports::zaguypo_read(words, rows)
 }
 
 // Writes the image of a table into the first of the lent words: 6, 7, then 13, which leave them.
 #[unsafe(no_mangle)]
-pub extern "C" fn zaguypo_write(rows: &[[u16; 24]], words: &mut [u32]) -> u16
-    ensures { Writes (rows_of rows.now) words.old words.new result }
+pub extern "C" fn zaguypo_write(rows: &[Row], words: &mut [u32]) -> u16
+    ensures { Writes rows.now words.old words.new result }
 {
     exports::zaguypo_write(rows, words)
 }
