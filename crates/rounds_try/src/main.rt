@@ -2,7 +2,7 @@
 // processes, then rounds that are not done, refused, used up or broken.
 #![tactic(auto)]
 
-use machine::{RoundsAnswer, Settings};
+use machine::{RoundsAnswer, Row, Settings};
 use std::io;
 
 // COME of each of sixteen processes.
@@ -26,20 +26,18 @@ const COMES: [u32; 16] = [
 ];
 
 // A row at a location with act, bb, level and est, and so many passes over process 0.
-fn row(location: u16, act: u16, bb: u16, level: u16, est: u16, over: u16) -> [u16; 24] {
-    let mut r = [0u16; 24];
-    r[0] = location;
-    r[1] = act;
-    r[2] = bb;
-    r[3] = level;
-    r[4] = est;
-    r[8] = over;
-    r
-}
-
-// The row of a process in a fresh table.
-fn fresh() -> [u16; 24] {
-    row(10, 0, 0, 0, 0, 0)
+fn row(location: u16, act: u16, bb: u16, level: u16, est: u16, over: u16) -> Row {
+    let mut passes = [0u16; 16];
+    passes[0] = over;
+    Row {
+        location,
+        act,
+        bb,
+        level,
+        est,
+        passes,
+        ..Row::IDLE
+    }
 }
 
 // A number and what stands before it.
@@ -56,32 +54,28 @@ fn show(rt: &impl Print, a: RoundsAnswer) -> io::Result<()> {
 }
 
 // Rounds from fresh rows of n processes, once each has come.
-fn longest(rt: &impl Print, n: u16, comes: &[u32], cells: &mut [[u16; 24]]) -> io::Result<()> {
-    let _ran = runs::run(cells, comes, Settings::WEAKEST);
+fn longest(rt: &impl Print, n: u16, comes: &[u32], rows: &mut [Row]) -> io::Result<()> {
+    let _ran = runs::run(rows, comes, Settings::WEAKEST);
     figure(rt, "processes ", n)?;
-    show(rt, rounds::rounds(cells))
+    show(rt, rounds::rounds(rows))
 }
 
 // So of 2 to 16 processes.
 fn longest_of_each(rt: &impl Print) -> io::Result<()> {
-    let comes = COMES;
-    let r = fresh();
-    let mut n = 2;
-    while n < 17 {
-        let mut cells = [r; 16];
-        longest(rt, n as u16, &comes[..n], &mut cells[..n])?;
-        n += 1;
+    for n in 2..=16 {
+        let mut rows = [Row::IDLE; 16];
+        longest(rt, n as u16, &COMES[..n], &mut rows[..n])?;
     }
     Ok(())
 }
 
 // Rounds from two rows.
-fn from(rt: &impl Print, name: &str, first: [u16; 24], second: [u16; 24]) -> io::Result<()> {
-    let mut cells = [first, second];
+fn from(rt: &impl Print, name: &str, first: Row, second: Row) -> io::Result<()> {
+    let mut rows = [first, second];
     print!(rt; "{name}")?;
-    show(rt, rounds::rounds(&mut cells))?;
-    figure(rt, "locations ", cells[0][0])?;
-    figure(rt, " ", cells[1][0])?;
+    show(rt, rounds::rounds(&mut rows))?;
+    figure(rt, "locations ", rows[0].location)?;
+    figure(rt, " ", rows[1].location)?;
     println!(rt; "")
 }
 
@@ -93,9 +87,9 @@ fn not_done(rt: &impl Print) -> io::Result<()> {
         row(20, 0, 0, 0, 0, 0),
         row(30, 1, 0, 0, 0, 0),
     )?;
-    from(rt, "nobody", row(40, 1, 0, 0, 0, 0), fresh())?;
-    from(rt, "unsound", row(20, 2, 0, 0, 0, 0), fresh())?;
-    let mut one = [fresh()];
+    from(rt, "nobody", row(40, 1, 0, 0, 0, 0), Row::IDLE)?;
+    from(rt, "unsound", row(20, 2, 0, 0, 0, 0), Row::IDLE)?;
+    let mut one = [Row::IDLE];
     longest(rt, 1, &COMES[..1], &mut one)
 }
 
@@ -134,5 +128,5 @@ fn main(rt: HostRuntime) -> io::Result<()> {
         row(20, 0, 0, 0, 0, 65534),
     )?;
     // nobody competes whom process 1 would pass
-    from(&rt, "nobody to pass", fresh(), row(20, 0, 0, 0, 0, 65535))
+    from(&rt, "nobody to pass", Row::IDLE, row(20, 0, 0, 0, 0, 65535))
 }

@@ -1,28 +1,9 @@
 // Runs of two processes (MANUAL, "Runs"): what each answers, a line each.
 #![tactic(auto)]
 
-use machine::Settings;
+use machine::{Row, Settings};
 use runs::RunAnswer;
 use std::io;
-
-// A row of eight cells with no passes.
-fn row(c: [u16; 8]) -> [u16; 24] {
-    let mut r = [0u16; 24];
-    r[0] = c[0];
-    r[1] = c[1];
-    r[2] = c[2];
-    r[3] = c[3];
-    r[4] = c[4];
-    r[5] = c[5];
-    r[6] = c[6];
-    r[7] = c[7];
-    r
-}
-
-// The row of a process that rests, in a fresh table.
-fn rests() -> [u16; 24] {
-    row([10, 0, 0, 0, 0, 0, 0, 0])
-}
 
 // A number and what stands before it.
 fn figure(rt: &impl Print, before: &str, n: u32) -> io::Result<()> {
@@ -50,27 +31,27 @@ fn show(rt: &impl Print, name: &str, r: RunAnswer) -> io::Result<()> {
 }
 
 // The locations of two processes.
-fn locations(rt: &impl Print, cells: [[u16; 24]; 2]) -> io::Result<()> {
-    place(rt, "locations ", cells[0][0])?;
-    place(rt, " ", cells[1][0])?;
+fn locations(rt: &impl Print, rows: [Row; 2]) -> io::Result<()> {
+    place(rt, "locations ", rows[0].location)?;
+    place(rt, " ", rows[1].location)?;
     println!(rt; "")
 }
 
 // STAYs of process 0, up to and over the most words of a run, and none.
 fn stays(rt: &impl Print) -> io::Result<()> {
     let words = [0x1000_0000; 8193];
-    let mut cells = [rests(), rests()];
+    let mut rows = [Row::IDLE, Row::IDLE];
     show(
         rt,
         "none",
-        runs::run(&mut cells, &words[..0], Settings::WEAKEST),
+        runs::run(&mut rows, &words[..0], Settings::WEAKEST),
     )?;
     show(
         rt,
         "most",
-        runs::run(&mut cells, &words[..8192], Settings::WEAKEST),
+        runs::run(&mut rows, &words[..8192], Settings::WEAKEST),
     )?;
-    show(rt, "over", runs::run(&mut cells, &words, Settings::WEAKEST))
+    show(rt, "over", runs::run(&mut rows, &words, Settings::WEAKEST))
 }
 
 // Process 0 comes and goes to the critical section; the eighth word names no process.
@@ -86,62 +67,62 @@ fn arrival(rt: &impl Print) -> io::Result<()> {
         0x1002_0000,
         0x4000_0000,
     ];
-    let mut cells = [rests(), rests()];
+    let mut rows = [Row::IDLE, Row::IDLE];
     show(
         rt,
         "arrival",
-        runs::run(&mut cells, &words, Settings::WEAKEST),
+        runs::run(&mut rows, &words, Settings::WEAKEST),
     )?;
-    locations(rt, cells)
+    locations(rt, rows)
 }
 
 // Process 0 comes and gives up: two words, and no event but the COME. A second CANCEL stops the run.
 fn cancel(rt: &impl Print) -> io::Result<()> {
     let words = [0x2000_0000, 0x6000_0000, 0x6000_0000];
-    let mut cells = [rests(), rests()];
+    let mut rows = [Row::IDLE, Row::IDLE];
     show(
         rt,
         "cancel",
-        runs::run(&mut cells, &words, Settings::WEAKEST),
+        runs::run(&mut rows, &words, Settings::WEAKEST),
     )?;
-    locations(rt, cells)
+    locations(rt, rows)
 }
 
 // Process 0 in the critical section: a word of no kind, a word not allowed and a bad argument.
 fn stops(rt: &impl Print) -> io::Result<()> {
-    let mut cells = [row([30, 1, 0, 0, 0, 0, 0, 0]), rests()];
+    let mut rows = [Row { location: 30, act: 1, ..Row::IDLE }, Row::IDLE];
     show(
         rt,
         "kind",
-        runs::run(&mut cells, &[0x7000_0000], Settings::WEAKEST),
+        runs::run(&mut rows, &[0x7000_0000], Settings::WEAKEST),
     )?;
     show(
         rt,
         "allowed",
-        runs::run(&mut cells, &[0x4000_0000, 0x1000_0000], Settings::WEAKEST),
+        runs::run(&mut rows, &[0x4000_0000, 0x1000_0000], Settings::WEAKEST),
     )?;
     show(
         rt,
         "argument",
-        runs::run(&mut cells, &[0x3000_0001, 0x3000_0002], Settings::WEAKEST),
+        runs::run(&mut rows, &[0x3000_0001, 0x3000_0002], Settings::WEAKEST),
     )
 }
 
 // The last word taken reads or writes a shared cell; a refused word after it changes nothing.
 fn shared(rt: &impl Print) -> io::Result<()> {
-    let mut at_22 = [row([22, 1, 0, 1, 2, 2, 0, 0]), rests()];
+    let mut at_22 = [Row { location: 22, act: 1, level: 1, est: 2, lis: 2, ..Row::IDLE }, Row::IDLE];
     show(
         rt,
         "looks",
         runs::run(&mut at_22, &[0x5000_0001], Settings::WEAKEST),
     )?;
-    let mut at_23 = [row([23, 1, 1, 1, 2, 0, 0, 0]), rests()];
+    let mut at_23 = [Row { location: 23, act: 1, bb: 1, level: 1, est: 2, ..Row::IDLE }, Row::IDLE];
     show(
         rt,
         "reconsiders",
         runs::run(&mut at_23, &[0x4000_0000], Settings::WEAKEST),
     )?;
-    let mut at_24 = [row([24, 1, 0, 1, 2, 0, 0, 0]), rests()];
+    let mut at_24 = [Row { location: 24, act: 1, level: 1, est: 2, ..Row::IDLE }, Row::IDLE];
     show(
         rt,
         "flickers",
@@ -152,8 +133,8 @@ fn shared(rt: &impl Print) -> io::Result<()> {
 // Tables that are refused before any word is taken, and before the words are counted.
 fn tables(rt: &impl Print) -> io::Result<()> {
     let words = [0x1000_0000; 8193];
-    let mut one = [rests()];
-    let mut unsound = [rests(), row([11, 0, 0, 0, 0, 0, 0, 0])];
+    let mut one = [Row::IDLE];
+    let mut unsound = [Row::IDLE, Row { location: 11, ..Row::IDLE }];
     show(
         rt,
         "one row",
@@ -175,7 +156,7 @@ fn tables(rt: &impl Print) -> io::Result<()> {
 fn under(
     rt: &impl Print,
     name: &str,
-    cells: &mut [[u16; 24]],
+    rows: &mut [Row],
     words: &[u32],
     act: u32,
     turn: u32,
@@ -184,12 +165,9 @@ fn under(
         rt,
         name,
         runs::run(
-            cells,
+            rows,
             words,
-            Settings {
-                act: act,
-                turn: turn,
-            },
+            Settings { act, turn },
         ),
     )
 }
@@ -199,14 +177,14 @@ fn under(
 fn settings(rt: &impl Print) -> io::Result<()> {
     let words = [0x3000_0001, 0x4001_0000];
     let many = [0x1000_0000; 8193];
-    let at_24 = row([24, 1, 0, 1, 2, 0, 0, 0]);
-    let at_23 = row([23, 1, 0, 1, 1, 0, 0, 0]);
-    let mut cells = [at_24, at_23];
-    under(rt, "turn plain", &mut cells, &words, 0, 2)?;
-    under(rt, "one writer", &mut cells, &words, 1, 1)?;
-    under(rt, "act plain", &mut cells, &words, 1, 0)?;
-    under(rt, "act 2", &mut cells, &many, 2, 0)?;
-    let mut unsound = [rests(), row([11, 0, 0, 0, 0, 0, 0, 0])];
+    let at_24 = Row { location: 24, act: 1, level: 1, est: 2, ..Row::IDLE };
+    let at_23 = Row { location: 23, act: 1, level: 1, est: 1, ..Row::IDLE };
+    let mut rows = [at_24, at_23];
+    under(rt, "turn plain", &mut rows, &words, 0, 2)?;
+    under(rt, "one writer", &mut rows, &words, 1, 1)?;
+    under(rt, "act plain", &mut rows, &words, 1, 0)?;
+    under(rt, "act 2", &mut rows, &many, 2, 0)?;
+    let mut unsound = [Row::IDLE, Row { location: 11, ..Row::IDLE }];
     under(rt, "unsound, turn 3", &mut unsound, &words, 0, 3)
 }
 
