@@ -1,15 +1,15 @@
 -- Laws of what the code computes of counts of passes.
 --
---   times_low         a number of 16 bits times 0 or 1 fits
 --   none_yet, one_more    a loop that joins numbers finds whether all are 0
 --   digit, raisable_by    the loop over counts at their limit finds whether there is room
+--   raised_by         counts with a bit of the set added are `raised`
 --   passes_sound      the tests of a row's counts are `sound_passes`
 --   own_first         sound counts have none over their own process
 --   clear_none, clear_joined  none is past n among zeros; among joined counts where none is among both
 --
 -- Assumes nothing.
 use Prim.Native.Nat.{ℕ, zero, suc, ◌+◌, ◌-◌, ◌*◌, ◌/◌, ◌%◌, ◌^◌, ◌≤◌, ◌<◌}
-use mathlib.Core.Path.{◌≡◌, refl, sym, ap, ap₂, ◌∙◌, subst}
+use mathlib.Core.Path.{◌≡◌, refl, sym, ap, ap₂, ◌∙◌}
 use mathlib.Core.Bool.{Bool, true, false, ◌&&◌, and-false, and-eq-true_iff}
 use mathlib.Core.List.{List}
 use native.Mathlib.Decide.{ℕ_discrete, dec_lt, dec_le}
@@ -17,42 +17,24 @@ use native.Mathlib.Numerals.{add-one}
 use native.Mathlib.Omega.{arith}
 use lib.Bits.{bit_or}
 use lib.Dec.{eqb, leb, ltb}
-use lib.ListN.{get_or, replicate, get_or-replicate, get_or-eq_default}
+use lib.ListN.{length, get_or, replicate, get_or-replicate, get_or-eq_default}
 use borrow.Author.Tests.{eqb-true, ltb-true, eq-eqb, ne_eqb, le-leb, lt-leb, lt-ltb}
 use Rattle.counting.specs.Sums.{bit}
 use Rattle.counting.specs.Sets.{has}
 use Rattle.counting.specs.Ranges.{every}
 use Rattle.counting.proofs.TestLaws.{same_test}
-use Rattle.counting.proofs.RangeLaws.{every_at, every_all, every_cong}
+use Rattle.counting.proofs.RangeLaws.{up_to_cong, up_to_all, every_at, every_all, every_cong}
 use Rattle.machine.specs.Tables.{count_limit, sound_passes}
-use Rattle.machine.specs.Steps.{count_after, raisable}
+use Rattle.machine.specs.Steps.{count_after, raised, raisable}
 use Rattle.machine.proofs.PassLaws.{SoundPasses, passes_facts, passes_true}
 use Rattle.rows.specs.Passes.{past_at, clear_past, Clear, Joined}
 use Rattle.rows.proofs.SoundLaws.{or_ltb}
 
-pub times_low : (v d : ℕ) → v ≤ 65535 → d < 2 → v * d < 65536
-times_low v zero h l = omega arith
-times_low v (suc zero) h l = omega arith
-times_low v (suc (suc d)) h l = absurd (omega arith)
-
-pub times_zero : (v : ℕ) → v * 0 ≡ 0
+times_zero : (v : ℕ) → v * 0 ≡ 0
 times_zero v = omega arith
 
 times_one : (v : ℕ) → v * 1 ≡ v
 times_one v = omega arith
-
--- one count more is low
-pub low_next : (a : List ℕ) (i : ℕ)
-    → ((j : ℕ) → j < i → get_or a j 0 ≤ 65535)
-    → get_or a i 0 ≤ 65535
-    → (j : ℕ)
-    → j < i + 1
-    → get_or a j 0 ≤ 65535
-low_next a i f h j l = go (ℕ_discrete j i)
-  where
-    go : Dec (j ≡ i) → get_or a j 0 ≤ 65535
-    go (yes e) = subst (λ (k : ℕ). get_or a k 0 ≤ 65535) (sym e) h
-    go (no ne) = f j (omega (arith, ne))
 
 -- ---- numbers joined by a loop
 
@@ -114,6 +96,18 @@ raisable_by c a b low e =
     ∙ every_cong (λ i. ltb (full_at c a i) 1) (λ i. leb (count_after c a i) count_limit) 16
     (λ i l.
     ap (λ (d : ℕ). ltb (get_or a i 0 / 65535 * d) 1) (digit c i) ∙ room_at (get_or a i 0) (has c i) (low i l))
+
+-- ---- one more over each process in a set
+
+pub raised_by : (c : ℕ) (a b : List ℕ)
+    → length b ≡ 16
+    → ((i : ℕ) → i < 16 → get_or b i 0 ≡ get_or a i 0 + c / 2 ^ i % 2)
+    → b ≡ raised c a
+unfolding raised
+raised_by c a b e h =
+    sym (up_to_all b 16 e)
+    ∙ up_to_cong (λ i. get_or b i 0) (count_after c a) 16
+    (λ i l. h i l ∙ ap (λ (d : ℕ). get_or a i 0 + d) (digit c i))
 
 -- ---- counts in range
 

@@ -1,26 +1,15 @@
 -- What the functions on counts of passes ensure inside this crate.
 --
---   Product v d w   <=>  w is the product of v, a number of 16 bits, and d.
---   Limited v d w   <=>  w is d where v, a number of 16 bits, is 65,535, and else 0.
 --   past_at n a i   ==   the count over process i in the counts a, or 0 where i is below n.
 --   clear_past n a  <=>  the counts a over processes that are not below n are 0.
 --   Clear n a b     <=>  b tells clear_past n a; there are sixteen counts, all of 16 bits.
---   Either v w x    <=>  x is v | w, and w is a number of 16 bits.
 --   Joined a b c    <=>  each of sixteen counts of c is that of a | that of b; those of b are of 16 bits.
 --
 -- Assumes nothing.
-use Rattle.std.specs.Prelude.{ℕ, ◌*◌, ◌/◌, ◌≤◌, ◌<◌, ◌≡◌, Bool, List, leb, ltb, length, get_or}
+use Rattle.std.specs.Prelude.{ℕ, ◌*◌, ◌≤◌, ◌<◌, ◌≡◌, Bool, List, leb, ltb, length, get_or}
 use Rattle.std.specs.Int.Bits.{bit_or}
 use Rattle.counting.specs.Sums.{bit}
 use Rattle.counting.specs.Ranges.{every}
-
-pub record Product (v d w : ℕ) : Type 0 where
-  pub is : w ≡ v * d
-  pub low : v ≤ 65535
-
-pub record Limited (v d w : ℕ) : Type 0 where
-  pub is : w ≡ v / 65535 * d
-  pub low : v ≤ 65535
 
 abbrev pub past_at : ℕ → List ℕ → ℕ → ℕ
 past_at n a i = get_or a i 0 * bit (leb n i)
@@ -32,10 +21,6 @@ pub record Clear (n : ℕ) (a : List ℕ) (b : Bool) : Type 0 where
   pub told : b ≡ clear_past n a
   pub sixteen : length a ≡ 16
   pub low : (i : ℕ) → i < 16 → get_or a i 0 ≤ 65535
-
-pub record Either (v w x : ℕ) : Type 0 where
-  pub is : x ≡ bit_or v w
-  pub low : w ≤ 65535
 
 pub record Joined (a b c : List ℕ) : Type 0 where
   pub at : (i : ℕ) → i < 16 → get_or c i 0 ≡ bit_or (get_or a i 0) (get_or b i 0)

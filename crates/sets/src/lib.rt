@@ -9,21 +9,15 @@ ghost use Rattle.sets.specs.Answers.{lowest_of};
 ghost use Rattle.sets.specs.Bounds.{Among};
 
 // Whether q is in s; a q of 16 or more is in no set.
+#[tactic(auto, unfolding(counting::specs::Sets::has))]
 pub fn has(s: u16, q: u16) -> bool
     ensures { result ≡ has s q }
 {
-    if q < 16 { member_of(s, q) } else { false }
-}
-
-// Whether q, below 16, is in s.
-fn member_of(s: u16, q: u16) -> bool
-    requires { q < 16 }
-    ensures { result ≡ has s q }
-{
-    (s >> q) % 2 == 1
+    q < 16 && (s >> q) % 2 == 1
 }
 
 // How many members s has.
+#[tactic(auto, using(counting::proofs::BitLaws::ones_size))]
 pub fn size(s: u16) -> u16
     ensures { result ≡ size s }
 {
@@ -31,6 +25,7 @@ pub fn size(s: u16) -> u16
 }
 
 // The lowest member of s, if it has one.
+#[tactic(auto, using(crate::proofs::LowestLaws::lowest_zero))]
 pub fn lowest_member(s: u16) -> Option<u16>
     ensures { result ≡ lowest_of s }
 {
@@ -41,6 +36,7 @@ pub fn lowest_member(s: u16) -> Option<u16>
 }
 
 // The lowest member of an s that has one.
+#[tactic(auto, using(counting::proofs::BitLaws::zeros_lowest, crate::proofs::LowestLaws::lowest_first))]
 pub fn first_of(s: u16) -> u16
     requires { 0 < s }
     ensures { lowest_of s ≡ Some result }
@@ -56,6 +52,7 @@ pub fn without(s: u16, p: u16) -> u16
 }
 
 // The set s, less p below 16.
+#[tactic(auto, using(counting::proofs::BitLaws::and_without))]
 pub fn removed(s: u16, p: u16) -> u16
     requires { p < 16 }
     ensures { result ≡ without s p }

@@ -1,5 +1,5 @@
 -- `passes::raisable` meets its contract: a count at its limit shows in what the loop joins. Assumes nothing.
-use Prim.Native.Nat.{ℕ, ◌-◌, ◌≤◌, ◌<◌}
+use Prim.Native.Nat.{ℕ, ◌≤◌, ◌<◌}
 use mathlib.Core.Path.{◌≡◌}
 use lib.Dec.{ltb}
 use lib.ListN.{get_or}
@@ -8,7 +8,7 @@ use Rattle.rows.proofs.passes.raisable.Given as goal
 
 abbrev pub invariant-loop-i : goal.invariant-loop-i
 invariant-loop-i l =
-    (l.i ≤ 16) × (ltb l.any 1 ≡ none_of (full_at l.c l.a) l.i) × ((j : ℕ) → j < l.i → get_or l.a j 0 ≤ 65535)
-
-abbrev pub decreases-loop-i : goal.decreases-loop-i
-decreases-loop-i l = 16 - l.i
+    record {
+      none : ltb l.any 1 ≡ none_of (full_at l.c l.a) l.i;
+      low : (j : ℕ) → j < l.i → get_or l.a j 0 ≤ 65535;
+    }

@@ -1,5 +1,5 @@
 -- `passes::rest_clear` meets its contract: a count that is not 0 shows in what the loop joins. Assumes nothing.
-use Prim.Native.Nat.{ℕ, ◌-◌, ◌≤◌, ◌<◌}
+use Prim.Native.Nat.{ℕ, ◌≤◌, ◌<◌}
 use mathlib.Core.Path.{◌≡◌}
 use lib.Dec.{ltb}
 use lib.ListN.{get_or}
@@ -9,7 +9,7 @@ use Rattle.rows.proofs.passes.rest_clear.Given as goal
 
 abbrev pub invariant-loop-i : goal.invariant-loop-i
 invariant-loop-i l =
-    (l.i ≤ 16) × (ltb l.any 1 ≡ none_of (past_at l.n l.a) l.i) × ((j : ℕ) → j < l.i → get_or l.a j 0 ≤ 65535)
-
-abbrev pub decreases-loop-i : goal.decreases-loop-i
-decreases-loop-i l = 16 - l.i
+    record {
+      none : ltb l.any 1 ≡ none_of (past_at l.n l.a) l.i;
+      low : (j : ℕ) → j < l.i → get_or l.a j 0 ≤ 65535;
+    }
