@@ -7,6 +7,7 @@ use native.Mathlib.Numerals.{add-one}
 use lib.ListN.{length, get_or, drop, replicate}
 use lib.Dec.{ltb}
 use lib.Seq.{drop-cons, drop-length}
+use Rattle.machine.specs.Refusals.{accepted, unsound_row}
 use Rattle.machine.specs.Tables.{Table, sound_passes, sound_row, sound_from, table_refusal}
 use Rattle.machine.specs.declared.Row.{Row}
 use Rattle.rows.specs.Bounds.{RowFits}
@@ -69,10 +70,10 @@ module _ (t : Table) where
 
   -- the size fits
   pub judged : (b : Bool) → (ltb (length t) 2 || ltb 16 (length t)) ≡ false → sound_from (length t) 0 t ≡ b
-      → table_refusal t ≡ cond b 0 7
+      → table_refusal t ≡ cond b accepted unsound_row
   unfolding table_refusal
   judged b h e = rw (size_in (length t) h, e) (either b)
     where
-      either : (b : Bool) → cond (not b) 7 0 ≡ cond b 0 7
+      either : (b : Bool) → cond (not b) unsound_row accepted ≡ cond b accepted unsound_row
       either true = refl
       either false = refl

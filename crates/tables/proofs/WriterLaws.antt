@@ -1,5 +1,5 @@
 -- A test of any row of a list, and of any row of a table by its number. Assumes nothing.
-use Rattle.std.proofs.Common.{◌≡◌, ℕ, zero, suc, Bool, ◌||◌, List, [], ◌∷◌, length, refl, ap, sym, ◌∙◌}
+use Rattle.std.proofs.Common.{◌≡◌, ℕ, zero, suc, Bool, ◌||◌, [], ◌∷◌, length, refl, ap, sym, ◌∙◌}
 use mathlib.Core.Bool.{or_assoc, or-false}
 use Rattle.std.specs.List.{list_any}
 use Rattle.counting.specs.Ranges.{some}
