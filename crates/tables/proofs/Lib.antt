@@ -1,4 +1,5 @@
--- Laws of the view of cells as a table.
-pub mod ViewLaws
+-- Laws of the checks, of fresh tables, and of writers.
+pub mod SizeLaws
 pub mod CheckLaws
 pub mod FreshLaws
+pub mod WriterLaws
