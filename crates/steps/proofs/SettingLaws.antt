@@ -15,7 +15,7 @@ use native.Mathlib.Omega.{arith}
 use lib.Dec.{eqb, leb}
 use lib.ListN.{length}
 use borrow.Author.Tests.{eqb-true, eq-eqb, ne_eqb}
-use Rattle.std.specs.Prelude.{Result, Ok, Err}
+use Rattle.std.specs.Prelude.{Result, Err}
 use Rattle.counting.proofs.TestLaws.{split}
 use Rattle.counting.proofs.RangeLaws.{some_cong}
 use Rattle.machine.specs.Refusals.{accepted, passes_full, number}

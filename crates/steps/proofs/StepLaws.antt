@@ -3,17 +3,18 @@
 -- Assumes nothing.
 use Prim.Native.Nat.{ℕ, ◌≤◌, ◌<◌}
 use mathlib.Core.Path.{◌≡◌, refl, sym, ap, subst, ◌∙◌}
-use mathlib.Core.Bool.{true, false, cond}
+use mathlib.Core.Bool.{Bool, true, false, cond, ◌&&◌, and-eq-true_iff, true≢false}
 use native.Mathlib.Omega.{arith}
 use lib.Dec.{eqb}
 use lib.ListN.{length}
 use borrow.Author.Tests.{eq-eqb, ne_eqb, eqb-true, lt-ltb, le-ltb}
 use Rattle.std.specs.Prelude.{Result, Ok, Err}
-use Rattle.machine.specs.Refusals.{number}
+use Rattle.machine.specs.Refusals.{bad_settings, number}
 use Rattle.machine.specs.Tables.{Table, row, table_refusal}
-use Rattle.machine.specs.Words.{kind_of, process_of, argument_of, formed}
+use Rattle.machine.specs.Words.{STAY, COME, FLICKER, GO, LOOK, CANCEL, is_kind, kind_of, spare_clear}
+use Rattle.machine.specs.Words.{process_of, argument_of, formed}
 use Rattle.machine.specs.Steps.{moved, word_refusal, refusal_of, after_word, told_of, refusal_at}
-use Rattle.machine.specs.Settings.{settings_fit, settings_of, before15, refusal_under, after_under, answer_under}
+use Rattle.machine.specs.Settings.{settings_fit, settings_of, fitting, before15, refusal_under, after_under, answer_under}
 use Rattle.machine.specs.declared.Settings.{Settings}
 use Rattle.machine.specs.declared.Memory.{Memory}
 use Rattle.machine.specs.declared.Told.{Told}
@@ -21,11 +22,11 @@ use Rattle.machine.specs.declared.Refusal.{Refusal}
 use Rattle.counting.proofs.TestLaws.{split}
 use Rattle.machine.proofs.SoundRows.{sound-row, sound_few}
 use Rattle.machine.proofs.Accepted.{accepted_word, accepted-moved}
-use Rattle.machine.proofs.SettingLaws.{before15_other, forbidden, under_fit, accepted_under}
+use Rattle.machine.proofs.SettingLaws.{before15_other, forbidden, under_table, under_unfit, under_fit, accepted_under}
 use Rattle.machine.proofs.SettingTheorems.{refused_under}
 use Rattle.steps.specs.Moves.{kind_told, refusal_by, Ready, TakesUnder}
 use Rattle.steps.specs.Stepping.{StepsUnder}
-use Rattle.steps.proofs.TakeLaws.{number_some}
+use Rattle.steps.proofs.TakeLaws.{number_some, last_kind}
 use Rattle.steps.proofs.ToldLaws.{word_told}
 use Rattle.steps.proofs.SettingLaws.{memory_fits}
 
@@ -59,6 +60,32 @@ module _ (t : Table) (w : ℕ) where
       → refusal_of t w ≡ refusal_at t (kind_of w) (process_of w) (argument_of w)
   refusal-of z f k = refusal_word z ∙ refused-at f k
 
+-- ---- the kinds
+
+-- what one comparison says of a word
+pub kind_is : (w k : ℕ) → (formed w && eqb (kind_of w) k) ≡ true → (formed w ≡ true) × (kind_of w ≡ k)
+kind_is w k h = let both = (and-eq-true_iff (formed w) (eqb (kind_of w) k)).0 h in (both.0, eqb-true _ _ both.1)
+
+kind_not : (w k : ℕ) → formed w ≡ true → (formed w && eqb (kind_of w) k) ≡ false → kind_of w ≡ k → ⊥
+kind_not w k f h i = true≢false (sym ((and-eq-true_iff (formed w) (eqb (kind_of w) k)).1 (f, eq-eqb _ _ i)) ∙ h)
+
+-- a kind that is none of the others
+pub kind_last : (w : ℕ)
+    → formed w ≡ true
+    → (formed w && eqb (kind_of w) LOOK) ≡ false
+    → (formed w && eqb (kind_of w) GO) ≡ false
+    → (formed w && eqb (kind_of w) STAY) ≡ false
+    → (formed w && eqb (kind_of w) FLICKER) ≡ false
+    → (formed w && eqb (kind_of w) COME) ≡ false
+    → (formed w ≡ true) × (kind_of w ≡ CANCEL)
+kind_last w f l g s k c =
+    let known = ((and-eq-true_iff (is_kind (kind_of w)) (spare_clear w)).0 f).0 in (
+      f,
+      last_kind (kind_of w) known (kind_not w LOOK f l) (kind_not w GO f g) (kind_not w STAY f s)
+          (kind_not w FLICKER f k)
+          (kind_not w COME f c),
+    )
+
 -- ---- under settings
 
 module _ (m : Settings) (t : Table) (w : ℕ) where
@@ -90,6 +117,29 @@ refused_steps m x w e why =
       answer_is = ap (λ (i : ℕ). Err i) why ∙ sym (answer_refused m x w ne);
       becomes = sym (refused_under m x w ne).0;
     }
+
+-- a table that is not sound
+pub table-steps : (m : Settings) (x : Table) (w : ℕ) (e : Refusal)
+    → number e ≡ table_refusal x
+    → StepsUnder m x w x (Err e)
+table-steps m x w e why =
+    let ne : table_refusal x ≡ 0 → ⊥ = λ z. number_some e (why ∙ z) in
+    refused_steps m x w e (why ∙ sym (under_table m x w ne ∙ refusal_table x w ne))
+
+-- a sound table, and settings that do not fit
+pub settings-steps : (m : Settings) (x : Table) (w : ℕ) (e : Refusal)
+    → table_refusal x ≡ 0
+    → Err (number e) ≡ fitting m
+    → StepsUnder m x w x (Err e)
+settings-steps m x w e z why = go (settings_fit m) refl
+  where
+    go : (b : Bool) → settings_fit m ≡ b → StepsUnder m x w x (Err e)
+    go true h =
+        let no : Err (number e) ≡ Ok m = why ∙ ap (λ (b : Bool). cond b (Ok m) (Err bad_settings)) h in absurd (cc)
+    go false h =
+        let is : Err (number e) ≡ Err bad_settings =
+        why ∙ ap (λ (b : Bool). cond b (Ok m) (Err bad_settings)) h in
+        let unfit = under_unfit m x w z h in refused_steps m x w e (cc)
 
 -- .. of a sound table under settings that fit
 module _ (memory : Memory) (x : Table) (w : ℕ) (z : table_refusal x ≡ 0) where
@@ -165,3 +215,13 @@ module _ (memory : Memory) (x : Table) (w : ℕ) (z : table_refusal x ≡ 0) whe
           (subst (λ (v : ℕ). TakesUnder m x kind v (argument_of w) y s) j
           (subst (λ (v : ℕ). TakesUnder m x kind p v y s) l h)) in
           record { answer_is = same.answer_is ∙ sym answer_taken; becomes = same.becomes ∙ sym table_taken }
+
+  -- by the words of the code: p and a are what it has read of the word
+  pub taken_so : (k p a : ℕ) {y : Table} {s : Result Told Refusal}
+      → (formed w ≡ true) × (kind_of w ≡ k)
+      → p ≡ process_of w
+      → a ≡ argument_of w
+      → p < length x
+      → TakesUnder m x k p a y s
+      → StepsUnder m x w y s
+  taken_so k p a is i j l h = taken_under is.0 (subst (λ (v : ℕ). v < length x) i l) k p a is.1 i j h

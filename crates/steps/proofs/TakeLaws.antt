@@ -11,7 +11,7 @@ use Rattle.counting.proofs.SetLaws.{member_below}
 use Rattle.counting.proofs.TestLaws.{cond_zero, cond_le}
 use Rattle.machine.specs.Refusals.{accepted, not_allowed, bad_argument, passes_full, number}
 use Rattle.machine.specs.Tables.{Table, row, competitors}
-use Rattle.machine.specs.Words.{STAY, COME, FLICKER, GO, LOOK, CANCEL, is_kind, kind_of, spare_clear, formed}
+use Rattle.machine.specs.Words.{STAY, COME, FLICKER, GO, LOOK, CANCEL, is_kind}
 use Rattle.machine.specs.Steps.{moved, allowed, argument_fits, raisable, overflows, refusal_at}
 use Rattle.machine.specs.declared.Settings.{Settings}
 use Rattle.machine.specs.declared.Told.{Told}
@@ -24,9 +24,6 @@ use Rattle.machine.proofs.KindLaws.{by_kind}
 use Rattle.steps.specs.Moves.{kind_told, row_refusal, Ready, Free, Sees, Moves, Goes, TakesBy, Takes, TakesUnder}
 
 -- ---- the kinds
-
-pub formed_kind : (w : ℕ) → formed w ≡ true → is_kind (kind_of w) ≡ true
-formed_kind w f = ((and-eq-true_iff (is_kind (kind_of w)) (spare_clear w)).0 f).0
 
 -- a kind that is none of the others
 pub last_kind : (k : ℕ)

@@ -1,6 +1,6 @@
 -- What a step tells, from the row before it: GO at each location, the kinds, an accepted word. Assumes nothing.
 use Prim.Native.Nat.{ℕ}
-use mathlib.Core.Path.{◌≡◌, refl, sym, ap, ap₂, subst, ◌∙◌}
+use mathlib.Core.Path.{◌≡◌, refl, sym, ap, ap₂, ◌∙◌}
 use mathlib.Core.Bool.{Bool, true, false, cond}
 use mathlib.Core.List.{[], ◌∷◌}
 use lib.Dec.{eqb}
@@ -10,7 +10,6 @@ use Rattle.machine.specs.Tables.{Table, row, table_refusal}
 use Rattle.machine.specs.Words.{STAY, COME, FLICKER, GO, CANCEL, kind_of, process_of, argument_of}
 use Rattle.machine.specs.Shared.{no_cell, act_written, turn_read, turn_written, asks_turn, cell_at}
 use Rattle.machine.specs.Steps.{gone, moved, allowed, word_refusal, quiet, with_event, with_cell, told_of}
-use Rattle.machine.specs.declared.Row.{Row}
 use Rattle.machine.specs.declared.Event.{Event}
 use Rattle.machine.specs.declared.SharedCell.{SharedCell}
 use Rattle.machine.specs.declared.Told.{Told}

@@ -2,9 +2,13 @@
 use mathlib.Core.Path.{refl, sym}
 use Rattle.machine.specs.Shared.{cell_at}
 use Rattle.machine.proofs.Forms.{gone_22}
+use Rattle.steps.proofs.ReadLaws.{read_row}
 use Rattle.steps.proofs.ToldLaws.{goes_at}
 use Rattle.steps.proofs.going.end_scan.Goals as goal
 
 pub returns : goal.returns
 unfolding cell_at
-returns c = goes_at 22 c.requires.there refl (sym (gone_22 c.args.rows.now c.args.p c.requires.there))
+returns c =
+    let x = c.args.rows.now in
+    goes_at 22 c.requires.there refl
+    (rw (read_row x c.args.p c.requires.ready.one) (sym (gone_22 x c.args.p c.requires.there)))

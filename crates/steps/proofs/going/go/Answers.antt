@@ -1,6 +1,6 @@
 -- `going::go` meets its contract, location by location. Assumes nothing.
 use Prim.Native.Nat.{ℕ}
-use mathlib.Core.Path.{◌≡◌, refl, sym, ◌∙◌}
+use mathlib.Core.Path.{◌≡◌, refl, sym}
 use mathlib.Core.Bool.{true, false, and-eq-true_iff}
 use mathlib.Core.List.{[], ◌∷◌}
 use lib.Dec.{eqb}
@@ -13,8 +13,9 @@ use Rattle.machine.specs.Settings.{settings_of}
 use Rattle.machine.specs.declared.Refusal.{Refusal}
 use Rattle.machine.specs.declared.Settings.{Settings}
 use Rattle.machine.specs.declared.Told.{Told}
-use Rattle.steps.specs.Moves.{At, Goes, TakesUnder}
-use Rattle.steps.proofs.MoveLaws.{place_may, scan_may, left_not}
+use Rattle.steps.specs.Moves.{Goes, TakesUnder}
+use Rattle.steps.proofs.ReadLaws.{read_row}
+use Rattle.steps.proofs.MoveLaws.{Left, place_may, scan_may, left_not}
 use Rattle.steps.proofs.TakeLaws.{goes_on, refused_there}
 use Rattle.steps.proofs.SettingLaws.{goes_free, takes_early}
 use Rattle.steps.proofs.going.go.Goals as goal
@@ -41,33 +42,82 @@ passes m x p l there away free one g = moves m x p l there away free (place_may 
 
 -- ---- 22 with lis empty
 
+pub end_scan-requires : goal.end_scan-requires
+end_scan-requires c =
+    let own = read_row c.args.rows.now c.args.p c.requires.one in
+    let scans = rw own at c.if-l-r.true in
+    record { ready = c.requires; there = eqb-true _ _ ((and-eq-true_iff _ _).0 scans).0 }
+
 pub returns-then-l-r : goal.returns-then-l-r
 returns-then-l-r c =
-    let scanning = eqb-true _ _ ((and-eq-true_iff _ _).0 c.if-l-r.true).0 in
-    moves (settings_of c.args.memory) c.args.rows.now c.args.p 22 scanning refl refl (scan_may _ c.if-l-r.true)
-    c.end_scan.ensures
+    let own = read_row c.args.rows.now c.args.p c.requires.one in
+    let scans = rw own at c.if-l-r.true in
+    moves (settings_of c.args.memory) _ _ 22 (eqb-true _ _ ((and-eq-true_iff _ _).0 scans).0) refl refl
+    (scan_may _ scans) c.end_scan.ensures
 
 -- ---- the other locations
 
+pub enter-requires : goal.enter-requires
+enter-requires c =
+    let own = read_row c.args.rows.now c.args.p c.requires.one in
+    record { ready = c.requires; there = rw own at c.in-20.is }
+
+pub start_scan-requires : goal.start_scan-requires
+start_scan-requires c =
+    let own = read_row c.args.rows.now c.args.p c.requires.one in
+    record { ready = c.requires; there = rw own at c.in-21.is }
+
+pub reconsider_under-requires : goal.reconsider_under-requires
+reconsider_under-requires c =
+    let own = read_row c.args.rows.now c.args.p c.requires.one in
+    record { ready = c.requires; there = rw own at c.in-23.is }
+
+pub push-requires : goal.push-requires
+push-requires c =
+    let own = read_row c.args.rows.now c.args.p c.requires.one in
+    record { ready = c.requires; there = rw own at c.in-24.is }
+
+pub leave-requires : goal.leave-requires
+leave-requires c =
+    let own = read_row c.args.rows.now c.args.p c.requires.one in
+    record { ready = c.requires; there = rw own at c.in-30.is }
+
+pub rest-requires : goal.rest-requires
+rest-requires c =
+    let own = read_row c.args.rows.now c.args.p c.requires.one in
+    record { ready = c.requires; there = rw own at c.in-40.is }
+
 pub returns-in-20 : goal.returns-in-20
-returns-in-20 c = goes_free (settings_of c.args.memory) 20 c.in-20.is refl c.enter.ensures
+returns-in-20 c =
+    let own = read_row c.args.rows.now c.args.p c.requires.one in
+    goes_free (settings_of c.args.memory) 20 (rw own at c.in-20.is) refl c.enter.ensures
 
 pub returns-in-21 : goal.returns-in-21
-returns-in-21 c = passes _ _ _ 21 c.in-21.is refl refl refl c.start_scan.ensures
+returns-in-21 c =
+    let own = read_row c.args.rows.now c.args.p c.requires.one in
+    passes _ _ _ 21 (rw own at c.in-21.is) refl refl refl c.start_scan.ensures
 
 pub returns-in-24 : goal.returns-in-24
-returns-in-24 c = passes _ _ _ 24 c.in-24.is refl refl refl c.push.ensures
+returns-in-24 c =
+    let own = read_row c.args.rows.now c.args.p c.requires.one in
+    passes _ _ _ 24 (rw own at c.in-24.is) refl refl refl c.push.ensures
 
 pub returns-in-30 : goal.returns-in-30
-returns-in-30 c = passes _ _ _ 30 c.in-30.is refl refl refl c.leave.ensures
+returns-in-30 c =
+    let own = read_row c.args.rows.now c.args.p c.requires.one in
+    passes _ _ _ 30 (rw own at c.in-30.is) refl refl refl c.leave.ensures
 
 pub returns-in-40 : goal.returns-in-40
-returns-in-40 c = passes _ _ _ 40 c.in-40.is refl refl refl c.rest.ensures
+returns-in-40 c =
+    let own = read_row c.args.rows.now c.args.p c.requires.one in
+    passes _ _ _ 40 (rw own at c.in-40.is) refl refl refl c.rest.ensures
 
 -- ---- where GO is not allowed
 
 pub returns-in_default : goal.returns-in_default
 returns-in_default c =
     let x = c.args.rows.now in
+    let own = read_row x c.args.p c.requires.one in
+    let left : Left (row x c.args.p).location = rw own at c.in_default.in_default-own.rest in
     takes_early (settings_of c.args.memory) Refusal.NotAllowed
-    (sym (refused_there x GO c.args.p 0 (left_not (row x c.args.p) c.in_default.in_default-own.rest c.if-l-r.false)))
+    (sym (refused_there x GO c.args.p 0 (left_not (row x c.args.p) left (rw own at c.if-l-r.false))))

@@ -1,7 +1,6 @@
 -- `going::reconsider_under` meets its contract. Assumes nothing.
 use mathlib.Core.Path.{◌≡◌, refl, sym, ◌∙◌}
 use mathlib.Core.Bool.{true}
-use Rattle.machine.specs.Refusals.{number}
 use Rattle.machine.specs.Tables.{row}
 use Rattle.machine.specs.Words.{GO}
 use Rattle.machine.specs.Steps.{allowed, argument_fits}

@@ -1,10 +1,15 @@
 -- `moving::come` meets its contract. Assumes nothing.
 use mathlib.Core.Path.{sym}
 use Rattle.machine.specs.Shared.{cell_at}
+use Rattle.steps.proofs.ReadLaws.{read_row}
 use Rattle.steps.proofs.MoveLaws.{moved_come}
 use Rattle.steps.proofs.moving.come.Goals as goal
 
 pub returns : goal.returns
 unfolding cell_at
 returns c =
-    record { told_is = c.with_event.ensures; becomes = sym (moved_come c.args.rows.now c.args.p 0) }
+    let x = c.args.rows.now in
+    record {
+      told_is = c.with_event.ensures;
+      becomes = rw (read_row x c.args.p c.requires.one) (sym (moved_come x c.args.p 0));
+    }
