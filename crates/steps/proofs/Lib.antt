@@ -1,4 +1,5 @@
 -- Laws of the moves, of their events and of what is told of them, of a kind taken, and of the step.
+pub mod ReadLaws
 pub mod MoveLaws
 pub mod EventLaws
 pub mod ToldLaws

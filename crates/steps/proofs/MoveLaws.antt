@@ -1,62 +1,16 @@
--- The moves of a table in the forms that the code has. Assumes nothing.
+-- Where GO is allowed, in the words of the code; and what each kind makes of a table. Assumes nothing.
 use Prim.Native.Nat.{ℕ}
-use mathlib.Core.Path.{◌≡◌, refl, sym, ap, ◌∙◌}
+use mathlib.Core.Path.{◌≡◌, refl}
 use mathlib.Core.Bool.{true, false, ◌&&◌, or-true}
 use mathlib.Core.List.{List, [], ◌∷◌}
 use lib.Dec.{eqb}
-use lib.ListN.{length, set}
+use lib.ListN.{set}
 use borrow.Author.Tests.{ne_eqb}
-use Rattle.machine.specs.Rows.{with_location, with_act}
-use Rattle.machine.specs.Tables.{Table, row, one_of, competitors}
+use Rattle.machine.specs.Rows.{with_location}
+use Rattle.machine.specs.Tables.{Table, row, one_of}
 use Rattle.machine.specs.Words.{STAY, COME, FLICKER, GO, LOOK, CANCEL}
-use Rattle.machine.specs.Steps.{entered, started, reconsidered, pushed, turned, looked, flickered, gone, moved, allowed}
+use Rattle.machine.specs.Steps.{looked, flickered, gone, moved, allowed}
 use Rattle.machine.specs.declared.Row.{Row}
-use Rattle.machine.proofs.Forms.{gone_20, gone_21, gone_23, gone_24, gone_40}
-use Rattle.cells.specs.View.{rows_of, Becomes}
-use Rattle.cells.proofs.ViewLaws.{rows_length}
-
--- the same table by another name
-pub becomes_as : {x y : List (List ℕ)} {u v : Table} → Becomes x u y → u ≡ v → Becomes x v y
-becomes_as b e = record { rows_are = b.rows_are ∙ e; size_is = b.size_is }
-
--- ---- GO, from what the code has: r the row of p, c who competes, v the turn cell, s the row that is put
-
-module _ (x : List (List ℕ)) (p : ℕ) (r s : Row) (own : r ≡ row (rows_of x) p) where
-  pub put_entered : (c : ℕ) → (row (rows_of x) p).location ≡ 20 → c ≡ competitors (rows_of x)
-      → s ≡ entered (length x) p c r
-      → set (rows_of x) p s ≡ gone (rows_of x) p
-  put_entered c e k h =
-      let t = rows_of x in
-      let n = ap (λ (m : ℕ). entered m p c r) (sym (rows_length x)) in
-      let d = ap (λ (m : ℕ). entered (length t) p m r) k in
-      ap (set t p) (h ∙ n ∙ d ∙ ap (entered (length t) p (competitors t)) own) ∙ sym (gone_20 t p e)
-
-  pub put_started : (row (rows_of x) p).location ≡ 21 → s ≡ started r → set (rows_of x) p s ≡ gone (rows_of x) p
-  put_started e h = let t = rows_of x in ap (set t p) (h ∙ ap started own) ∙ sym (gone_21 t p e)
-
-  pub put_reconsidered : (v : ℕ) → (row (rows_of x) p).location ≡ 23 → v ≡ (row (rows_of x) r.level).turn
-      → s ≡ reconsidered p v r
-      → set (rows_of x) p s ≡ gone (rows_of x) p
-  put_reconsidered v e k h =
-      let t = rows_of x in
-      let d = ap (λ (m : ℕ). reconsidered p m r) k in
-      ap (set t p) (h ∙ d ∙ ap (λ (q : Row). reconsidered p (row t q.level).turn q) own) ∙ sym (gone_23 t p e)
-
-  pub put_pushed : (c : ℕ) → (row (rows_of x) p).location ≡ 24 → c ≡ competitors (rows_of x) → s ≡ pushed (length x) p c r
-      → turned r.level p (set (rows_of x) p s) ≡ gone (rows_of x) p
-  put_pushed c e k h =
-      let t = rows_of x in
-      let n = ap (λ (m : ℕ). pushed m p c r) (sym (rows_length x)) in
-      let d = ap (λ (m : ℕ). pushed (length t) p m r) k in
-      ap (λ (q : Row). turned r.level p (set t p q)) (h ∙ n ∙ d ∙ ap (pushed (length t) p (competitors t)) own)
-      ∙ ap (λ (q : Row). turned q.level p (set t p (pushed (length t) p (competitors t) (row t p)))) own
-      ∙ sym (gone_24 t p e)
-
-  pub put_left : (row (rows_of x) p).location ≡ 40 → s ≡ with_location 10 (with_act 0 r)
-      → set (rows_of x) p s ≡ gone (rows_of x) p
-  put_left e h =
-      let t = rows_of x in
-      ap (set t p) (h ∙ ap (λ (q : Row). with_location 10 (with_act 0 q)) own) ∙ sym (gone_40 t p e)
 
 -- ---- where GO is allowed
 

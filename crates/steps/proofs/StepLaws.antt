@@ -1,33 +1,34 @@
--- The step of cells: words and tables that are refused, and what is taken of a word that names a process.
+-- The step of a table: words and tables that are refused, and what is taken of a word that names a process.
 --
 -- Assumes nothing.
-use Prim.Native.Nat.{ℕ, ◌^◌, ◌≤◌, ◌<◌}
+use Prim.Native.Nat.{ℕ, ◌≤◌, ◌<◌}
 use mathlib.Core.Path.{◌≡◌, refl, sym, ap, subst, ◌∙◌}
-use mathlib.Core.Bool.{true, false, cond}
-use mathlib.Core.List.{List}
+use mathlib.Core.Bool.{Bool, true, false, cond, ◌&&◌, and-eq-true_iff, true≢false}
 use native.Mathlib.Omega.{arith}
 use lib.Dec.{eqb}
 use lib.ListN.{length}
 use borrow.Author.Tests.{eq-eqb, ne_eqb, eqb-true, lt-ltb, le-ltb}
+use Rattle.std.specs.Prelude.{Result, Ok, Err}
+use Rattle.machine.specs.Refusals.{bad_settings, number}
 use Rattle.machine.specs.Tables.{Table, row, table_refusal}
-use Rattle.machine.specs.Words.{kind_of, process_of, argument_of, formed}
+use Rattle.machine.specs.Words.{STAY, COME, FLICKER, GO, LOOK, CANCEL, is_kind, kind_of, spare_clear}
+use Rattle.machine.specs.Words.{process_of, argument_of, formed}
 use Rattle.machine.specs.Steps.{moved, word_refusal, refusal_of, after_word, told_of, refusal_at}
-use Rattle.machine.specs.Settings.{weakest, settings_fit, before15, refusal_under, after_under, answer_under}
+use Rattle.machine.specs.Settings.{settings_fit, settings_of, fitting, before15, refusal_under, after_under, answer_under}
 use Rattle.machine.specs.declared.Settings.{Settings}
+use Rattle.machine.specs.declared.Memory.{Memory}
 use Rattle.machine.specs.declared.Told.{Told}
-use Rattle.machine.specs.declared.Stepped.{Stepped}
+use Rattle.machine.specs.declared.Refusal.{Refusal}
 use Rattle.counting.proofs.TestLaws.{split}
 use Rattle.machine.proofs.SoundRows.{sound-row, sound_few}
 use Rattle.machine.proofs.Accepted.{accepted_word, accepted-moved}
-use Rattle.machine.proofs.SettingLaws.{weakest_free, before15_other, forbidden, under_fit, accepted_under}
-use Rattle.machine.proofs.SettingTheorems.{weakest_step, refused_under}
-use Rattle.cells.specs.View.{rows_of}
-use Rattle.cells.proofs.ViewLaws.{rows_length}
-use Rattle.steps.specs.Moves.{kind_told, refusal_by, Ready, Takes, TakesUnder}
-use Rattle.steps.specs.Stepping.{Steps, StepsUnder}
-use Rattle.steps.proofs.MoveLaws.{becomes_as}
+use Rattle.machine.proofs.SettingLaws.{before15_other, forbidden, under_table, under_unfit, under_fit, accepted_under}
+use Rattle.machine.proofs.SettingTheorems.{refused_under}
+use Rattle.steps.specs.Moves.{kind_told, refusal_by, Ready, TakesUnder}
+use Rattle.steps.specs.Stepping.{StepsUnder}
+use Rattle.steps.proofs.TakeLaws.{number_some, last_kind}
 use Rattle.steps.proofs.ToldLaws.{word_told}
-use Rattle.steps.proofs.SettingLaws.{takes_free}
+use Rattle.steps.proofs.SettingLaws.{memory_fits}
 
 -- ---- the refusal and the answer
 
@@ -59,10 +60,36 @@ module _ (t : Table) (w : ℕ) where
       → refusal_of t w ≡ refusal_at t (kind_of w) (process_of w) (argument_of w)
   refusal-of z f k = refusal_word z ∙ refused-at f k
 
+-- ---- the kinds
+
+-- what one comparison says of a word
+pub kind_is : (w k : ℕ) → (formed w && eqb (kind_of w) k) ≡ true → (formed w ≡ true) × (kind_of w ≡ k)
+kind_is w k h = let both = (and-eq-true_iff (formed w) (eqb (kind_of w) k)).0 h in (both.0, eqb-true _ _ both.1)
+
+kind_not : (w k : ℕ) → formed w ≡ true → (formed w && eqb (kind_of w) k) ≡ false → kind_of w ≡ k → ⊥
+kind_not w k f h i = true≢false (sym ((and-eq-true_iff (formed w) (eqb (kind_of w) k)).1 (f, eq-eqb _ _ i)) ∙ h)
+
+-- a kind that is none of the others
+pub kind_last : (w : ℕ)
+    → formed w ≡ true
+    → (formed w && eqb (kind_of w) LOOK) ≡ false
+    → (formed w && eqb (kind_of w) GO) ≡ false
+    → (formed w && eqb (kind_of w) STAY) ≡ false
+    → (formed w && eqb (kind_of w) FLICKER) ≡ false
+    → (formed w && eqb (kind_of w) COME) ≡ false
+    → (formed w ≡ true) × (kind_of w ≡ CANCEL)
+kind_last w f l g s k c =
+    let known = ((and-eq-true_iff (is_kind (kind_of w)) (spare_clear w)).0 f).0 in (
+      f,
+      last_kind (kind_of w) known (kind_not w LOOK f l) (kind_not w GO f g) (kind_not w STAY f s)
+          (kind_not w FLICKER f k)
+          (kind_not w COME f c),
+    )
+
 -- ---- under settings
 
 module _ (m : Settings) (t : Table) (w : ℕ) where
-  answer_refused : (refusal_under m t w ≡ 0 → ⊥) → answer_under m t w ≡ Stepped.Refused (refusal_under m t w)
+  answer_refused : (refusal_under m t w ≡ 0 → ⊥) → answer_under m t w ≡ Err (refusal_under m t w)
   unfolding answer_under
   answer_refused ne = rw (ne_eqb (refusal_under m t w) 0 ne) refl
 
@@ -73,121 +100,128 @@ module _ (m : Settings) (t : Table) (w : ℕ) where
       let other = before15_other (forbidden m t w) (refusal_of t w) (λ y. n (e ∙ y)) (λ y. f (e ∙ y)) in
       e ∙ sym (under_fit m t w z fit ∙ other)
 
--- ---- the step of cells
-
--- the same said of numbers that are the parts of a word
-pub as_parts : (P : ℕ → ℕ → ℕ → Type 0) (k p a i j l : ℕ) → k ≡ i → p ≡ j → a ≡ l → P i j l → P k p a
-as_parts P k p a i j l d e f h =
-    subst (λ (m : ℕ). P m p a) (sym d) (subst (λ (m : ℕ). P i m a) (sym e) (subst (P i j) (sym f) h))
+-- ---- the step
 
 -- what a sound table gives of each process
-pub ready : (x : List (List ℕ)) → table_refusal (rows_of x) ≡ 0 → (p : ℕ) → p < length x → Ready x p
+pub ready : (x : Table) → table_refusal x ≡ 0 → (p : ℕ) → p < length x → Ready x p
 ready x z p k =
-    let n = rows_length x in
-    let own = sound-row (rows_of x) z p (subst (λ (m : ℕ). p < m) (sym n) k) in
+    let own = sound-row x z p k in
+    record { one = k; few = sound_few x z; low = own.level_low; listed = own.lis_low }
+
+pub refused_steps : (m : Settings) (x : Table) (w : ℕ) (e : Refusal)
+    → number e ≡ refusal_under m x w
+    → StepsUnder m x w x (Err e)
+refused_steps m x w e why =
+    let ne : refusal_under m x w ≡ 0 → ⊥ = λ z. number_some e (why ∙ z) in
     record {
-      one = k;
-      few = subst (λ (m : ℕ). m ≤ 16) n (sound_few (rows_of x) z);
-      low = subst (λ (m : ℕ). (row (rows_of x) p).level < m) n own.level_low;
-      listed = subst (λ (m : ℕ). (row (rows_of x) p).lis < 2 ^ m) n own.lis_low;
+      answer_is = ap (λ (i : ℕ). Err i) why ∙ sym (answer_refused m x w ne);
+      becomes = sym (refused_under m x w ne).0;
     }
 
-module _ (m : Settings) (x : List (List ℕ)) (w : ℕ) where
-  pub refused_steps : (v : ℕ) → v ≡ refusal_under m (rows_of x) w → (v ≡ 0 → ⊥) → StepsUnder m x w x (Stepped.Refused v)
-  refused_steps v e n =
-      let ne : refusal_under m (rows_of x) w ≡ 0 → ⊥ = λ z. n (e ∙ z) in
-      record {
-        answer_is = ap (λ (i : ℕ). Stepped.Refused i) e ∙ sym (answer_refused m (rows_of x) w ne);
-        becomes = record { rows_are = sym (refused_under m (rows_of x) w ne).0; size_is = refl };
-      }
+-- a table that is not sound
+pub table-steps : (m : Settings) (x : Table) (w : ℕ) (e : Refusal)
+    → number e ≡ table_refusal x
+    → StepsUnder m x w x (Err e)
+table-steps m x w e why =
+    let ne : table_refusal x ≡ 0 → ⊥ = λ z. number_some e (why ∙ z) in
+    refused_steps m x w e (why ∙ sym (under_table m x w ne ∙ refusal_table x w ne))
 
-  module _ (z : table_refusal (rows_of x) ≡ 0) (fit : settings_fit m ≡ true) where
-    -- a word of no kind
-    pub kind-steps : formed w ≡ false → StepsUnder m x w x (Stepped.Refused 8)
-    kind-steps f =
-        let why = refusal_word (rows_of x) w z ∙ refused-kind (rows_of x) w f in
-        refused_steps 8 (under_early m (rows_of x) w 8 (sym why) (omega arith) (omega arith) z fit) (omega arith)
+-- a sound table, and settings that do not fit
+pub settings-steps : (m : Settings) (x : Table) (w : ℕ) (e : Refusal)
+    → table_refusal x ≡ 0
+    → Err (number e) ≡ fitting m
+    → StepsUnder m x w x (Err e)
+settings-steps m x w e z why = go (settings_fit m) refl
+  where
+    go : (b : Bool) → settings_fit m ≡ b → StepsUnder m x w x (Err e)
+    go true h =
+        let no : Err (number e) ≡ Ok m = why ∙ ap (λ (b : Bool). cond b (Ok m) (Err bad_settings)) h in absurd (cc)
+    go false h =
+        let is : Err (number e) ≡ Err bad_settings =
+        why ∙ ap (λ (b : Bool). cond b (Ok m) (Err bad_settings)) h in
+        let unfit = under_unfit m x w z h in refused_steps m x w e (cc)
 
+-- .. of a sound table under settings that fit
+module _ (memory : Memory) (x : Table) (w : ℕ) (z : table_refusal x ≡ 0) where
+  abbrev m : Settings
+  m = settings_of memory
+
+  fit : settings_fit m ≡ true
+  fit = memory_fits memory
+
+  -- a word of no kind
+  pub kind-steps : formed w ≡ false → StepsUnder m x w x (Err Refusal.BadKind)
+  kind-steps f =
+      let why = refusal_word x w z ∙ refused-kind x w f in
+      refused_steps m x w Refusal.BadKind (under_early m x w 8 (sym why) (omega arith) (omega arith) z fit)
+
+  module _ (f : formed w ≡ true) where
     -- a process that is not there
-    pub process-steps : formed w ≡ true → length x ≤ process_of w → StepsUnder m x w x (Stepped.Refused 9)
-    process-steps f k =
-        let l = subst (λ (i : ℕ). i ≤ process_of w) (sym (rows_length x)) k in
-        let why = refusal_word (rows_of x) w z ∙ refused-process (rows_of x) w f l in
-        refused_steps 9 (under_early m (rows_of x) w 9 (sym why) (omega arith) (omega arith) z fit) (omega arith)
+    pub process-steps : length x ≤ process_of w → StepsUnder m x w x (Err Refusal.NoProcess)
+    process-steps k =
+        let why = refusal_word x w z ∙ refused-process x w f k in
+        refused_steps m x w Refusal.NoProcess (under_early m x w 9 (sym why) (omega arith) (omega arith) z fit)
 
-    module _ (f : formed w ≡ true) (k : process_of w < length x) where
+    module _ (k : process_of w < length x) where
       abbrev refusal : ℕ
-      refusal = refusal_by m (rows_of x) (kind_of w) (process_of w) (argument_of w)
+      refusal = refusal_by m x (kind_of w) (process_of w) (argument_of w)
 
-      inside : process_of w < length (rows_of x)
-      inside = subst (λ (i : ℕ). process_of w < i) (sym (rows_length x)) k
-
-      refusal_is : refusal_under m (rows_of x) w ≡ refusal
-      refusal_is =
-          under_fit m (rows_of x) w z fit
-          ∙ ap (before15 (forbidden m (rows_of x) w)) (refusal-of (rows_of x) w z f inside)
+      refusal_is : refusal_under m x w ≡ refusal
+      refusal_is = under_fit m x w z fit ∙ ap (before15 (forbidden m x w)) (refusal-of x w z f k)
 
       abbrev tells : Told
-      tells = kind_told (kind_of w) (process_of w) (argument_of w) (row (rows_of x) (process_of w))
+      tells = kind_told (kind_of w) (process_of w) (argument_of w) (row x (process_of w))
 
-      accepted_so : refusal ≡ 0 → refusal_of (rows_of x) w ≡ 0
-      accepted_so e = (accepted_under m (rows_of x) w (refusal_is ∙ e)).0.not_refused
+      accepted_so : refusal ≡ 0 → refusal_of x w ≡ 0
+      accepted_so e = (accepted_under m x w (refusal_is ∙ e)).0.not_refused
 
-      told : refusal ≡ 0 → told_of (rows_of x) w ≡ tells
-      told e = word_told (rows_of x) w z (accepted_word (rows_of x) w (accepted_so e))
+      told : refusal ≡ 0 → told_of x w ≡ tells
+      told e = word_told x w z (accepted_word x w (accepted_so e))
 
-      answer_taken : answer_under m (rows_of x) w
-          ≡ cond (eqb refusal 0) (Stepped.Moved tells) (Stepped.Refused refusal)
+      answer_taken : answer_under m x w ≡ cond (eqb refusal 0) (Ok tells) (Err refusal)
       unfolding answer_under
       answer_taken =
-          ap (λ (i : ℕ). cond (eqb i 0) (Stepped.Moved (told_of (rows_of x) w)) (Stepped.Refused i)) refusal_is
+          ap (λ (i : ℕ). cond (eqb i 0) (Ok (told_of x w)) (Err i)) refusal_is
           ∙ split (λ b. (eqb refusal 0 ≡ b)
-          → cond b (Stepped.Moved (told_of (rows_of x) w)) (Stepped.Refused refusal)
-          ≡ cond b (Stepped.Moved tells) (Stepped.Refused refusal))
+          → cond b (Ok (told_of x w)) (Err refusal)
+          ≡ cond b (Ok tells) (Err refusal))
           (eqb refusal 0)
-          (λ _ h. ap (λ (g : Told). Stepped.Moved g) (told (eqb-true refusal 0 h)))
+          (λ _ h. ap (λ (g : Told). Ok g) (told (eqb-true refusal 0 h)))
           (λ _ h. refl)
           refl
 
-      table_taken : after_under m (rows_of x) w
-          ≡ cond (eqb refusal 0) (moved (rows_of x) (kind_of w) (process_of w) (argument_of w)) (rows_of x)
+      table_taken : after_under m x w
+          ≡ cond (eqb refusal 0) (moved x (kind_of w) (process_of w) (argument_of w)) x
       unfolding after_under
       table_taken =
-          ap (λ (i : ℕ). cond (eqb i 0) (after_word (rows_of x) w) (rows_of x)) refusal_is
+          ap (λ (i : ℕ). cond (eqb i 0) (after_word x w) x) refusal_is
           ∙ split (λ b. (eqb refusal 0 ≡ b)
-          → cond b (after_word (rows_of x) w) (rows_of x)
-          ≡ cond b (moved (rows_of x) (kind_of w) (process_of w) (argument_of w)) (rows_of x))
+          → cond b (after_word x w) x
+          ≡ cond b (moved x (kind_of w) (process_of w) (argument_of w)) x)
           (eqb refusal 0)
-          (λ _ h. accepted-moved (rows_of x) w (accepted_so (eqb-true refusal 0 h)))
+          (λ _ h. accepted-moved x w (accepted_so (eqb-true refusal 0 h)))
           (λ _ h. refl)
           refl
 
       -- a word that names a process is its kind, taken
-      pub taken_under : (y : List (List ℕ)) (s : Stepped)
-          → TakesUnder m x (kind_of w) (process_of w) (argument_of w) y s
+      pub taken_under : (kind p a : ℕ) {y : Table} {s : Result Told Refusal}
+          → kind_of w ≡ kind
+          → p ≡ process_of w
+          → a ≡ argument_of w
+          → TakesUnder m x kind p a y s
           → StepsUnder m x w y s
-      taken_under y s h =
-          record {
-            answer_is = h.answer_is ∙ sym answer_taken;
-            becomes = becomes_as h.becomes (sym table_taken);
-          }
+      taken_under kind p a {y} {s} i j l h =
+          let same = subst (λ (v : ℕ). TakesUnder m x v (process_of w) (argument_of w) y s) (sym i)
+          (subst (λ (v : ℕ). TakesUnder m x kind v (argument_of w) y s) j
+          (subst (λ (v : ℕ). TakesUnder m x kind p v y s) l h)) in
+          record { answer_is = same.answer_is ∙ sym answer_taken; becomes = same.becomes ∙ sym table_taken }
 
--- under 0 and 0 it is the step without settings
-pub weakest_steps : (x : List (List ℕ)) (w : ℕ) (y : List (List ℕ)) (s : Stepped)
-    → StepsUnder weakest x w y s
-    → Steps x w y s
-weakest_steps x w y s h =
-    let same = weakest_step (rows_of x) w in
-    record { answer_is = h.answer_is ∙ same.answer_same; becomes = becomes_as h.becomes same.table_same }
-
--- a word that names a process is its kind, taken without settings
-pub taken_steps : (x : List (List ℕ)) (w : ℕ)
-    → table_refusal (rows_of x) ≡ 0
-    → formed w ≡ true
-    → process_of w < length x
-    → (y : List (List ℕ)) (s : Stepped)
-    → Takes x (kind_of w) (process_of w) (argument_of w) y s
-    → Steps x w y s
-taken_steps x w z f k y s h =
-    weakest_steps x w y s
-    (taken_under weakest x w z refl f k y s (takes_free weakest (weakest_free (rows_of x) (kind_of w) (process_of w)) h))
+  -- by the words of the code: p and a are what it has read of the word
+  pub taken_so : (k p a : ℕ) {y : Table} {s : Result Told Refusal}
+      → (formed w ≡ true) × (kind_of w ≡ k)
+      → p ≡ process_of w
+      → a ≡ argument_of w
+      → p < length x
+      → TakesUnder m x k p a y s
+      → StepsUnder m x w y s
+  taken_so k p a is i j l h = taken_under is.0 (subst (λ (v : ℕ). v < length x) i l) k p a is.1 i j h

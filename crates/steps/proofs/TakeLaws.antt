@@ -1,30 +1,29 @@
--- A kind with an argument at cells: refused and nothing moved, or taken. Assumes nothing.
+-- A kind with an argument at a table: refused and nothing moved, or taken. Assumes nothing.
 use Prim.Native.Nat.{ℕ, ◌≤◌}
 use mathlib.Core.Path.{◌≡◌, refl, sym, ap, ◌∙◌, subst}
 use mathlib.Core.Bool.{Bool, true, false, cond, ◌&&◌, not, and-eq-true_iff, true≢false}
-use mathlib.Core.List.{List}
 use native.Mathlib.Omega.{arith}
 use lib.Dec.{eqb}
 use lib.ListN.{length}
 use borrow.Author.Tests.{eqb-true, eq-eqb, ne_eqb}
+use Rattle.std.specs.Prelude.{Result, Ok, Err}
 use Rattle.counting.proofs.SetLaws.{member_below}
-use Rattle.machine.specs.Refusals.{accepted, not_allowed, bad_argument, passes_full}
+use Rattle.counting.proofs.TestLaws.{cond_zero, cond_le}
+use Rattle.machine.specs.Refusals.{accepted, not_allowed, bad_argument, passes_full, number}
 use Rattle.machine.specs.Tables.{Table, row, competitors}
-use Rattle.machine.specs.Words.{STAY, COME, FLICKER, GO, LOOK, CANCEL, is_kind, kind_of, spare_clear, formed}
+use Rattle.machine.specs.Words.{STAY, COME, FLICKER, GO, LOOK, CANCEL, is_kind}
 use Rattle.machine.specs.Steps.{moved, allowed, argument_fits, raisable, overflows, refusal_at}
 use Rattle.machine.specs.declared.Settings.{Settings}
 use Rattle.machine.specs.declared.Told.{Told}
-use Rattle.machine.specs.declared.Stepped.{Stepped}
-use Rattle.counting.proofs.TestLaws.{cond_zero, cond_le}
+use Rattle.machine.specs.declared.Refusal.{Refusal}
+use Rattle.machine.specs.declared.Refusal.TheVariants.{NoHeader, WrongLength, Malformed, OutOfRange, LevelMisfit}
+use Rattle.machine.specs.declared.Refusal.TheVariants.{WrongSize, UnsoundRow, BadKind, NoProcess, NotAllowed}
+use Rattle.machine.specs.declared.Refusal.TheVariants.{BadArgument, TooManyWords, TooFewLent, BadBytes, PassesFull}
+use Rattle.machine.specs.declared.Refusal.TheVariants.{PlainFlicker, SecondWriter, BadSettings}
 use Rattle.machine.proofs.KindLaws.{by_kind}
-use Rattle.cells.specs.View.{rows_of}
 use Rattle.steps.specs.Moves.{kind_told, row_refusal, Ready, Free, Sees, Moves, Goes, TakesBy, Takes, TakesUnder}
-use Rattle.steps.proofs.MoveLaws.{becomes_as}
 
 -- ---- the kinds
-
-pub formed_kind : (w : ℕ) → formed w ≡ true → is_kind (kind_of w) ≡ true
-formed_kind w f = ((and-eq-true_iff (is_kind (kind_of w)) (spare_clear w)).0 f).0
 
 -- a kind that is none of the others
 pub last_kind : (k : ℕ)
@@ -47,6 +46,27 @@ last_kind =
 
 -- ---- what refuses, in the code's order
 
+-- a refusal is no 0
+pub number_some : (e : Refusal) → number e ≡ 0 → ⊥
+number_some NoHeader z = omega arith
+number_some WrongLength z = omega arith
+number_some Malformed z = omega arith
+number_some OutOfRange z = omega arith
+number_some LevelMisfit z = omega arith
+number_some WrongSize z = omega arith
+number_some UnsoundRow z = omega arith
+number_some BadKind z = omega arith
+number_some NoProcess z = omega arith
+number_some NotAllowed z = omega arith
+number_some BadArgument z = omega arith
+number_some TooManyWords z = omega arith
+number_some TooFewLent z = omega arith
+number_some BadBytes z = omega arith
+number_some PassesFull z = omega arith
+number_some PlainFlicker z = omega arith
+number_some SecondWriter z = omega arith
+number_some BadSettings z = omega arith
+
 module _ (t : Table) (k p a : ℕ) where
   pub refused_there : allowed k (row t p) ≡ false → row_refusal t k p a ≡ 10
   refused_there h = rw h refl
@@ -67,6 +87,14 @@ module _ (t : Table) (k p a : ℕ) where
   pub argument_fits_lem : row_refusal t k p a ≡ 0 → argument_fits (length t) k (row t p) a ≡ true
   argument_fits_lem z =
       (cond_zero (argument_fits (length t) k (row t p) a) 10 0 (cond_zero (allowed k (row t p)) 9 second z).1).0
+
+  -- 11, where something refuses and the kind is allowed
+  pub refused_allowed : allowed k (row t p) ≡ true → (row_refusal t k p a ≡ 0 → ⊥) → row_refusal t k p a ≡ 11
+  refused_allowed h ne = go (argument_fits (length t) k (row t p) a) refl
+    where
+      go : (b : Bool) → argument_fits (length t) k (row t p) a ≡ b → row_refusal t k p a ≡ 11
+      go true e = absurd (ne (refused_not h e))
+      go false e = refused_argument h e
 
   -- 15 is asked for last
   pub refused_early : (row_refusal t k p a ≡ 0 → ⊥) → refusal_at t k p a ≡ row_refusal t k p a
@@ -97,62 +125,58 @@ module _ (t : Table) (k p a : ℕ) where
   pub row_refuses : (allowed k (row t p) && argument_fits (length t) k (row t p) a) ≡ false → row_refusal t k p a ≡ 0 → ⊥
   row_refuses h z = true≢false (sym (rw (allowed_there z, argument_fits_lem z) refl) ∙ h)
 
--- ---- what is not refused, from the number v that the check found, may be done
+-- ---- what is not refused may be done
 
-pub may_move : {x : List (List ℕ)} {p v : ℕ} (k a : ℕ) → Ready x p → v ≡ row_refusal (rows_of x) k p a → v ≡ 0
-    → Free x k p
-may_move {x} {p} k a ready why z = record { ready = ready; may = allowed_there (rows_of x) k p a (sym why ∙ z) }
+pub may_move : {x : Table} {p : ℕ} (k a : ℕ) → Ready x p → row_refusal x k p a ≡ 0 → Free x k p
+may_move {x} {p} k a ready z = record { ready = ready; may = allowed_there x k p a z }
 
 -- LOOK is at a member of lis, which is a process
-pub may_look : {x : List (List ℕ)} {p a v : ℕ} → Ready x p → v ≡ row_refusal (rows_of x) LOOK p a → v ≡ 0 → Sees x p a
+pub may_look : {x : Table} {p a : ℕ} → Ready x p → row_refusal x LOOK p a ≡ 0 → Sees x p a
 unfolding argument_fits
-may_look {x} {p} {a} ready why z =
-    let member = argument_fits_lem (rows_of x) LOOK p a (sym why ∙ z) in
-    record { ready = ready; seen = member_below (row (rows_of x) p).lis (length x) a ready.listed member }
+may_look {x} {p} {a} ready z =
+    let member = argument_fits_lem x LOOK p a z in
+    record { ready = ready; seen = member_below (row x p).lis (length x) a ready.listed member }
 
 -- ---- refused, or moved
 
-module _ (n : ℕ) (x : List (List ℕ)) (k p a : ℕ) where
-  abbrev answers : Bool → Stepped
-  answers b = cond b (Stepped.Moved (kind_told k p a (row (rows_of x) p))) (Stepped.Refused n)
+module _ (n : ℕ) (x : Table) (k p a : ℕ) where
+  abbrev answers : Bool → Result Told ℕ
+  answers b = cond b (Ok (kind_told k p a (row x p))) (Err n)
 
   abbrev tables : Bool → Table
-  tables b = cond b (moved (rows_of x) k p a) (rows_of x)
+  tables b = cond b (moved x k p a) x
 
--- refused with v
-pub refused_with : {x : List (List ℕ)} {k p a n : ℕ} (v : ℕ)
-    → v ≡ n
-    → (v ≡ 0 → ⊥)
-    → TakesBy n x k p a x (Stepped.Refused v)
-refused_with {x} {k} {p} {a} {n} v why some =
-    let ne = ne_eqb n 0 (λ z. some (why ∙ z)) in
+-- by a refusal of that number
+pub refused_with : {x : Table} {k p a n : ℕ} (e : Refusal) → number e ≡ n → TakesBy n x k p a x (Err e)
+refused_with {x} {k} {p} {a} {n} e why =
+    let ne = ne_eqb n 0 (λ z. number_some e (why ∙ z)) in
     record {
-      answer_is = ap (λ (m : ℕ). Stepped.Refused m) why ∙ sym (ap (answers n x k p a) ne);
-      becomes = record { rows_are = sym (ap (tables n x k p a) ne); size_is = refl };
+      answer_is = ap (λ (m : ℕ). Err m) why ∙ sym (ap (answers n x k p a) ne);
+      becomes = sym (ap (tables n x k p a) ne);
     }
 
-module _ {x : List (List ℕ)} {k p a v : ℕ} (why : v ≡ row_refusal (rows_of x) k p a) where
-  pub takes_refused : (v ≡ 0 → ⊥) → Takes x k p a x (Stepped.Refused v)
-  takes_refused n = refused_with v (why ∙ sym (refused_early (rows_of x) k p a (λ z. n (why ∙ z)))) n
+module _ {x : Table} {k p a : ℕ} where
+  pub takes_refused : (e : Refusal) → number e ≡ row_refusal x k p a → Takes x k p a x (Err e)
+  takes_refused e why =
+      refused_with e (why ∙ sym (refused_early x k p a (λ z. number_some e (why ∙ z))))
 
-  pub takes_full : v ≡ 0 → overflows (rows_of x) k p ≡ true → Takes x k p a x (Stepped.Refused 15)
+  pub takes_full : row_refusal x k p a ≡ 0 → overflows x k p ≡ true → Takes x k p a x (Err Refusal.PassesFull)
   takes_full z full =
-      refused_with 15
-      (sym (refused_late (rows_of x) k p a (sym why ∙ z) ∙ ap (λ (b : Bool). cond b passes_full accepted) full))
-      (omega arith)
+      refused_with Refusal.PassesFull
+      (sym (refused_late x k p a z ∙ ap (λ (b : Bool). cond b passes_full accepted) full))
 
-  pub takes_moved : {y : List (List ℕ)} {s : Told}
-      → v ≡ 0
-      → overflows (rows_of x) k p ≡ false
+  pub takes_moved : {y : Table} {s : Told}
+      → row_refusal x k p a ≡ 0
+      → overflows x k p ≡ false
       → Moves x k p a y s
-      → Takes x k p a y (Stepped.Moved s)
+      → Takes x k p a y (Ok s)
   takes_moved z fits m =
-      let n = refusal_at (rows_of x) k p a in
+      let n = refusal_at x k p a in
       let eq = eq-eqb n 0
-      (refused_late (rows_of x) k p a (sym why ∙ z) ∙ ap (λ (b : Bool). cond b passes_full accepted) fits) in
+      (refused_late x k p a z ∙ ap (λ (b : Bool). cond b passes_full accepted) fits) in
       record {
-        answer_is = ap (λ (g : Told). Stepped.Moved g) m.told_is ∙ sym (ap (answers n x k p a) eq);
-        becomes = becomes_as m.becomes (sym (ap (tables n x k p a) eq));
+        answer_is = ap (λ (g : Told). Ok g) m.told_is ∙ sym (ap (answers n x k p a) eq);
+        becomes = m.becomes ∙ sym (ap (tables n x k p a) eq);
       }
 
 -- ---- which kinds add to counts
@@ -163,47 +187,45 @@ unfolding overflows
 others_fit t k p ne = rw (ne_eqb k GO ne)
 
 -- GO where it is allowed, away from 20
-pub goes_on : {x y : List (List ℕ)} {p : ℕ} {s : Told} (l : ℕ)
-    → (row (rows_of x) p).location ≡ l
+pub goes_on : {x y : Table} {p : ℕ} {s : Told} (l : ℕ)
+    → (row x p).location ≡ l
     → eqb l 20 ≡ false
-    → allowed GO (row (rows_of x) p) ≡ true
+    → allowed GO (row x p) ≡ true
     → Goes x p y s
-    → Takes x GO p 0 y (Stepped.Moved s)
+    → Takes x GO p 0 y (Ok s)
 unfolding argument_fits overflows
 goes_on {x} {p = p} l there away may m =
-    let t = rows_of x in
-    takes_moved (sym (refused_not t GO p 0 may refl)) refl
-    (ap (λ (b : Bool). b && not (raisable (competitors t) (row t p).passes)) (ap (λ (v : ℕ). eqb v 20) there ∙ away))
+    takes_moved (refused_not x GO p 0 may refl)
+    (ap (λ (b : Bool). b && not (raisable (competitors x) (row x p).passes)) (ap (λ (v : ℕ). eqb v 20) there ∙ away))
     m
 
 -- GO at 20, by whether the counts have room
-module _ (x : List (List ℕ)) (p : ℕ) (there : (row (rows_of x) p).location ≡ 20) where
-  enters-may : row_refusal (rows_of x) GO p 0 ≡ 0
+module _ (x : Table) (p : ℕ) (there : (row x p).location ≡ 20) where
+  enters-may : row_refusal x GO p 0 ≡ 0
   unfolding allowed argument_fits
   enters-may = rw there refl
 
   enters_counts : (b : Bool)
-      → raisable (competitors (rows_of x)) (row (rows_of x) p).passes ≡ b
-      → overflows (rows_of x) GO p ≡ not b
+      → raisable (competitors x) (row x p).passes ≡ b
+      → overflows x GO p ≡ not b
   unfolding overflows
   enters_counts b e = rw (there, e) refl
 
-  pub enters_full : raisable (competitors (rows_of x)) (row (rows_of x) p).passes ≡ false
-      → Takes x GO p 0 x (Stepped.Refused 15)
-  enters_full e = takes_full (sym enters-may) refl (enters_counts false e)
+  pub enters_full : raisable (competitors x) (row x p).passes ≡ false → Takes x GO p 0 x (Err Refusal.PassesFull)
+  enters_full e = takes_full enters-may (enters_counts false e)
 
-  pub enters_moved : {y : List (List ℕ)} {s : Told}
-      → raisable (competitors (rows_of x)) (row (rows_of x) p).passes ≡ true
+  pub enters_moved : {y : Table} {s : Told}
+      → raisable (competitors x) (row x p).passes ≡ true
       → Goes x p y s
-      → Takes x GO p 0 y (Stepped.Moved s)
-  enters_moved e m = takes_moved (sym enters-may) refl (enters_counts true e) m
+      → Takes x GO p 0 y (Ok s)
+  enters_moved e m = takes_moved enters-may (enters_counts true e) m
 
 -- GO is taken with no other argument than 0
 pub go_argument : (t : Table) (p a : ℕ) → row_refusal t GO p a ≡ 0 → a ≡ 0
 unfolding argument_fits
 go_argument t p a z = eqb-true a 0 (argument_fits_lem t GO p a z)
 
-pub go_zero : {x y : List (List ℕ)} {p a : ℕ} {s : Stepped} (m : Settings)
+pub go_zero : {x y : Table} {p a : ℕ} {s : Result Told Refusal} (m : Settings)
     → a ≡ 0
     → TakesUnder m x GO p 0 y s
     → TakesUnder m x GO p a y s

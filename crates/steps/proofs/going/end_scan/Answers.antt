@@ -2,14 +2,13 @@
 use mathlib.Core.Path.{refl, sym}
 use Rattle.machine.specs.Shared.{cell_at}
 use Rattle.machine.proofs.Forms.{gone_22}
-use Rattle.cells.specs.View.{rows_of}
-use Rattle.steps.proofs.MoveLaws.{becomes_as}
+use Rattle.steps.proofs.ReadLaws.{read_row}
 use Rattle.steps.proofs.ToldLaws.{goes_at}
 use Rattle.steps.proofs.going.end_scan.Goals as goal
 
 pub returns : goal.returns
 unfolding cell_at
 returns c =
+    let x = c.args.rows.now in
     goes_at 22 c.requires.there refl
-    (becomes_as c.go_to.ensures
-    (sym (gone_22 (rows_of c.args.cells.now) c.args.p c.requires.there)))
+    (rw (read_row x c.args.p c.requires.ready.one) (sym (gone_22 x c.args.p c.requires.there)))

@@ -1,33 +1,25 @@
 -- `going::push` meets its contract: GO at 24, the turn cell after the row. Assumes nothing.
+use Prim.Native.Nat.{◌<◌}
 use mathlib.Core.Path.{ap, ◌∙◌}
-use native.Mathlib.Omega.{arith}
+use lib.ListN.{length, set, length-set}
+use Rattle.machine.specs.Tables.{row}
 use Rattle.machine.specs.Shared.{turn_written, cell_at}
 use Rattle.machine.specs.Steps.{turned, quiet, with_cell}
 use Rattle.machine.specs.declared.Row.{Row}
-use Rattle.steps.proofs.MoveLaws.{put_pushed}
+use Rattle.machine.proofs.Forms.{gone_24}
+use Rattle.steps.proofs.ReadLaws.{read_row}
 use Rattle.steps.proofs.ToldLaws.{goes_at}
 use Rattle.steps.proofs.going.push.Goals as goal
 
-pub turn_to-requires : goal.turn_to-requires
-turn_to-requires c =
-    let l = ap (λ (q : Row). q.level) c.row_at-r.ensures in
-    let s = c.put_row.ensures.size_is in
-    let h = c.requires.ready.low in
-    omega arith
-
 pub returns : goal.returns
-unfolding cell_at
+unfolding cell_at turned
 returns c =
-    let competing = c.competitors-c.ensures in
-    let put = c.put_row.ensures in
-    let turn = c.turn_to.ensures in
-    let cell = ap (λ (q : Row). with_cell (turn_written q.level) quiet) c.row_at-r.ensures in
-    goes_at 24 c.requires.there (c.turn_written.ensures ∙ cell)
-    (record {
-      rows_are =
-          turn.rows_are
-          ∙ ap (turned c.row_at-r.result.level c.args.p) put.rows_are
-          ∙ put_pushed c.args.cells.now c.args.p _ _ c.row_at-r.ensures _ c.requires.there competing
-          c.pushed.ensures;
-      size_is = turn.size_is ∙ put.size_is;
-    })
+    let x = c.args.rows.now in
+    let p = c.args.p in
+    let own = read_row x p c.requires.ready.one in
+    let low : (row x p).level < length (set x p c.pushed.result) = simp length-set c.requires.ready.low in
+    let turn = read_row (set x p c.pushed.result) (row x p).level low in
+    let pushes = gone_24 x p c.requires.there in
+    goes_at 24 c.requires.there
+    (c.turn_written.ensures ∙ ap (λ (r : Row). with_cell (turn_written r.level) quiet) own)
+    (cc)

@@ -1,33 +1,18 @@
 -- `stepping::step` meets its contract. Assumes nothing.
-use mathlib.Core.Path.{◌≡◌, sym, ◌∙◌}
-use native.Mathlib.Omega.{arith}
-use borrow.Author.Tests.{not-true, not-false}
-use Rattle.machine.specs.Tables.{table_refusal}
-use Rattle.machine.proofs.SettingLaws.{under_table, under_unfit}
-use Rattle.cells.specs.View.{rows_of}
-use Rattle.steps.proofs.StepLaws.{refusal_table, refused_steps}
+use mathlib.Core.Path.{◌≡◌, sym}
+use borrow.Author.Rules.{rules}
+use Rattle.std.specs.Prelude.{Err}
+use Rattle.steps.proofs.StepLaws.{table-steps, settings-steps}
 use Rattle.steps.proofs.stepping.step.Goals as goal
 
-pub returns-then-unsound-ne0 : goal.returns-then-unsound-ne0
-returns-then-unsound-ne0 c =
+pub returns-in_err-check : goal.returns-in_err-check
+returns-in_err-check c =
     let a = c.args in
-    let t = rows_of a.cells.now in
-    let ne : table_refusal t ≡ 0 → ⊥ = λ z. c.if-unsound-ne0.true (c.check-unsound.ensures ∙ z) in
-    refused_steps a.settings a.cells.now a.word _
-    (c.check-unsound.ensures ∙ sym (under_table a.settings t a.word ne ∙ refusal_table t a.word ne))
-    c.if-unsound-ne0.true
+    let is : c.from_residual.result ≡ Err c.in_err-check.field-0.0 = search rules in
+    rw is (table-steps a.settings a.rows.now a.word _ c.in_err-check.ensures)
 
-pub returns-then-not-settings_fit : goal.returns-then-not-settings_fit
-returns-then-not-settings_fit c =
+pub returns-in_err-memory : goal.returns-in_err-memory
+returns-in_err-memory c =
     let a = c.args in
-    let sound = sym c.check-unsound.ensures ∙ c.if-unsound-ne0.false in
-    let unfit = sym c.settings_fit.ensures ∙ not-true _ c.if-not-settings_fit.true-raw in
-    refused_steps a.settings a.cells.now a.word 18
-    (sym (under_unfit a.settings (rows_of a.cells.now) a.word sound unfit)) (omega arith)
-
-pub advance_under-requires : goal.advance_under-requires
-advance_under-requires c =
-    record {
-      cells_value = sym c.check-unsound.ensures ∙ c.if-unsound-ne0.false;
-      settings_value = sym c.settings_fit.ensures ∙ not-false _ c.if-not-settings_fit.false-raw;
-    }
+    let is : c.from_residual-in_err-memory.result ≡ Err c.in_err-memory.field-0.0 = search rules in
+    rw is (settings-steps a.settings a.rows.now a.word _ (sym c.in_ok-check.ensures) c.in_err-memory.ensures)
