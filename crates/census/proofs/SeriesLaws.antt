@@ -1,17 +1,17 @@
 -- A series to which every row of a table was added holds the table's figures.
 --
 --   series_zero, series_next      the series of no rows, and of one row more
---   small_as                      bounds of equal series and numbers
+--   counts_are                    a series by its counts
 --   series_same, count_same       a row that is in no count
---   none_critical                 a row at a level above 0
---   below_small, held_small       a row can be added to the series of the rows before it
+--   below_fits, held_fits         a row can be added to the series of the rows before it
+--   .._next, .._away, .._out      the counts with the row: at level 0, at a level above, and where it does not compete
 --   below-figures, held-figures   the figures of the series of all rows
 --   all_compete                   the last count of the first series is that of all who wait or are at 30
 --
 -- Assumes nothing.
 use Prim.Native.Nat.{ℕ, zero, suc, ◌+◌, ◌≤◌, ◌<◌}
-use mathlib.Core.Path.{◌≡◌, refl, ap, sym, ◌∙◌}
-use mathlib.Core.Bool.{Bool, false, cond, ◌&&◌}
+use mathlib.Core.Path.{◌≡◌, refl, ap, ap₂, sym, ◌∙◌}
+use mathlib.Core.Bool.{Bool, true, false, cond, ◌&&◌}
 use mathlib.Core.List.{List, ◌∷◌}
 use native.Mathlib.Omega.{arith}
 use native.Mathlib.Numerals.{add-one}
@@ -19,7 +19,7 @@ use lib.Dec.{leb}
 use lib.ListN.{length, get_or, replicate}
 use borrow.Author.Tests.{eqb-true, lt-ltb, lt-leb}
 use Rattle.counting.specs.Sums.{bit, sum, count}
-use Rattle.counting.proofs.CountLaws.{count_next, count_suc_out, count_le, count_cong, count_none}
+use Rattle.counting.proofs.CountLaws.{bit_le_one, count_next, count_suc_out, count_le, count_cong, count_none}
 use Rattle.counting.proofs.TestLaws.{fails}
 use Rattle.counting.specs.Ranges.{up_to}
 use Rattle.machine.specs.Tables.{Table, row, table_refusal, competes}
@@ -28,12 +28,16 @@ use Rattle.machine.specs.declared.Row.{Row}
 use Rattle.machine.proofs.SoundRows.{sound_few, sound-row}
 use Rattle.machine.proofs.CensusTheorems.{competing_parts}
 use Rattle.census.specs.Series.{below_from, held_from, Small, more_at, one_over, figure_at, figures_in}
-use Rattle.counting.proofs.RangeLaws.{up_to_cong, up_to_at}
-use Rattle.census.proofs.ThresholdLaws.{below_none, below_reached, below_from_le}
-use Rattle.census.proofs.ThresholdLaws.{held_none, held_reached, held_from_le}
+use Rattle.counting.proofs.RangeLaws.{up_to_cong, up_to_at, up_to_all}
+use Rattle.std.proofs.lemmas.List.{get_or_default}
+use Rattle.machine.specs.Rows.{blank}
+use Rattle.census.proofs.ThresholdLaws.{below_none, below_reached, below_from_le, below_from_is, below_from_out}
+use Rattle.census.proofs.ThresholdLaws.{held_none, held_reached, held_from_le, held_from_none, held_from_out}
+use Rattle.census.proofs.ThresholdLaws.{out_critical}
 
-pub small_as : (a b : List ℕ) (v w : ℕ) → a ≡ b → v ≡ w → Small b w → Small a v
-small_as a b v w e f h = rw (e, f) h
+-- sixteen counts, each of which is known
+pub counts_are : (g : ℕ → ℕ) (a : List ℕ) → length a ≡ 16 → ((k : ℕ) → k < 16 → get_or a k 0 ≡ g k) → a ≡ up_to g 16
+counts_are g a e at = sym (up_to_all a 16 e) ∙ up_to_cong (λ k. get_or a k 0) g 16 at
 
 pub count_same : (P : ℕ → Bool) (q : ℕ) → P q ≡ false → count P (q + 1) ≡ count P q
 count_same P q e = ap (count P) (add-one q) ∙ count_suc_out P q e
@@ -85,7 +89,11 @@ module _ (threshold : Row → ℕ) (t : Table) where
           up_to_at (reached_by n) 16 i (omega arith)
           ∙ count_cong (reaches i) (λ q. P (suc i) (row t q)) n (λ q h. same (row t q) i (omega arith))
 
--- ---- the two series of a census
+-- ---- the two series of a census, and who is at 30
+
+-- how many of the first q processes are at 30
+abbrev pub critical_by : Table → ℕ → ℕ
+critical_by t q = count (λ i. is_critical (row t i)) q
 
 module _ (t : Table) where
   pub below-figures : figures_in (length t) (series_of below_from t (length t)) ≡ figures below t
@@ -94,22 +102,80 @@ module _ (t : Table) where
   pub held-figures : figures_in (length t) (series_of held_from t (length t)) ≡ figures held t
   held-figures = series_figures held_from t is_held held_none held_reached
 
-module _ (t : Table) (s : table_refusal t ≡ 0) (q : ℕ) (l : q < length t) where
+-- ---- row q looked at, as the code reads it: the counts of the rows before it, and with it
+
+module _ (t : Table) (s : table_refusal t ≡ 0) (q : ℕ) (l : q < length t) (d : Row) where
+  abbrev at : Row
+  at = get_or t q d
+
+  is : at ≡ row t q
+  is = get_or_default t q d blank l
+
+  competes_is : (b : Bool) → competes at ≡ b → competes (row t q) ≡ b
+  competes_is b c = ap competes (sym is) ∙ c
+
+  level_is : competes at ≡ true → at.level ≡ below_from (row t q)
+  level_is c = ap (λ (r : Row). r.level) is ∙ below_from_is (row t q) (competes_is true c)
+
   q_le : q ≤ 16
   q_le = omega (arith, l, sound_few t s)
 
   level_le : (row t q).level ≤ 16
   level_le = omega (arith, sound_few t s, (sound-row t s q l).level_low)
 
-  pub none_critical : ((row t q).level ≡ 0 → ⊥) → is_critical (row t q) ≡ false
-  none_critical n =
-      fails (is_critical (row t q)) (λ e. n ((sound-row t s q l).level_none (eqb-true (row t q).location 30 e)))
+  pub below_fits : (a : List ℕ) → a ≡ series_of below_from t q → competes at ≡ true → Small a at.level
+  below_fits a e c =
+      rw (e, level_is c) (series_small below_from t q (below_from (row t q)) q_le (below_from_le (row t q) level_le))
 
-  pub below_small : Small (series_of below_from t q) (below_from (row t q))
-  below_small = series_small below_from t q (below_from (row t q)) q_le (below_from_le (row t q) level_le)
+  pub held_fits : (a : List ℕ) (v : ℕ) → a ≡ series_of held_from t q → v ≡ held_from at → Small a v
+  held_fits a v e f =
+      rw (e, f, is) (series_small held_from t q (held_from (row t q)) q_le (held_from_le (row t q) level_le))
 
-  pub held_small : Small (series_of held_from t q) (held_from (row t q))
-  held_small = series_small held_from t q (held_from (row t q)) q_le (held_from_le (row t q) level_le)
+  pub below_next : (a b : List ℕ) → a ≡ series_of below_from t q → competes at ≡ true → b ≡ one_over a at.level
+      → b ≡ series_of below_from t (q + 1)
+  below_next a b e c f = f ∙ ap₂ one_over e (level_is c) ∙ series_next below_from t q
+
+  pub held_next : (a b : List ℕ) (v : ℕ) → a ≡ series_of held_from t q → v ≡ held_from at → b ≡ one_over a v
+      → b ≡ series_of held_from t (q + 1)
+  held_next a b v e h f = f ∙ ap₂ one_over e (h ∙ ap held_from is) ∙ series_next held_from t q
+
+  -- at level 0
+  pub held_none_next : (a b : List ℕ) → a ≡ series_of held_from t q → competes at ≡ true → at.level ≡ 0
+      → b ≡ one_over a 0 → b ≡ series_of held_from t (q + 1)
+  held_none_next a b e c z f = held_next a b 0 e (held_from_none at c z) f
+
+  pub critical_fits : (n : ℕ) → n ≡ critical_by t q → n + bit (is_critical at) < 65536
+  critical_fits n e =
+      omega (arith, e, count_le (λ i. is_critical (row t i)) q, bit_le_one (is_critical at), q_le)
+
+  pub critical_next : (n m : ℕ) → n ≡ critical_by t q → m ≡ n + bit (is_critical at) → m ≡ critical_by t (q + 1)
+  critical_next n m e f =
+      f
+      ∙ ap₂ (λ (a b : ℕ). a + b) e (ap (λ (r : Row). bit (is_critical r)) is)
+      ∙ sym (count_next (λ i. is_critical (row t i)) q)
+
+  -- at a level above 0
+  pub critical_away : (n m : ℕ) → n ≡ critical_by t q → (at.level ≡ 0 → ⊥) → m ≡ n → m ≡ critical_by t (q + 1)
+  critical_away n m e z f = f ∙ e ∙ sym (count_same (λ i. is_critical (row t i)) q none)
+    where
+      none : is_critical (row t q) ≡ false
+      none =
+          fails (is_critical (row t q))
+          (λ h. z
+          (ap (λ (r : Row). r.level) is ∙ (sound-row t s q l).level_none (eqb-true (row t q).location 30 h)))
+
+  -- where it does not compete
+  pub critical_out : (n m : ℕ) → n ≡ critical_by t q → competes at ≡ false → m ≡ n → m ≡ critical_by t (q + 1)
+  critical_out n m e c f =
+      f ∙ e ∙ sym (count_same (λ i. is_critical (row t i)) q (out_critical (row t q) (competes_is false c)))
+
+  pub below_out : (a b : List ℕ) → a ≡ series_of below_from t q → competes at ≡ false → b ≡ a
+      → b ≡ series_of below_from t (q + 1)
+  below_out a b e c f = f ∙ e ∙ series_same below_from t q (below_from_out (row t q) (competes_is false c))
+
+  pub held_out : (a b : List ℕ) → a ≡ series_of held_from t q → competes at ≡ false → b ≡ a
+      → b ≡ series_of held_from t (q + 1)
+  held_out a b e c f = f ∙ e ∙ series_same held_from t q (held_from_out (row t q) (competes_is false c))
 
 -- no level is above 15, so that count 15 leaves out none who competes
 pub all_compete : (t : Table) → table_refusal t ≡ 0

@@ -2,53 +2,44 @@
 // k: a process counts in every figure past its threshold (specs/Series.antt).
 #![tactic(auto)]
 
-ghost use Rattle.std.specs.Prelude.{◌≡◌, ◌≤◌, leb, length};
+ghost use Rattle.std.specs.Prelude.{◌≡◌, ◌≤◌, true, leb, length};
 ghost use Rattle.counting.specs.Sums.{bit};
-ghost use Rattle.machine.specs.Tables.{table_refusal};
+ghost use Rattle.machine.specs.Tables.{table_refusal, competes};
 ghost use Rattle.machine.specs.Census.{count_rows, critical, census_of};
-ghost use Rattle.cells.specs.View.{rows_of};
 ghost use Rattle.census.specs.Series.{is_at, held_from};
 ghost use Rattle.census.specs.Series.{Near, Small, one_over, figures_in};
 
-use cells::access::row_at;
-use cells::checks::check;
 use machine::{Census, Row};
+use tables::check;
 
 // ---- processes at some locations
 
 // How many processes are at the locations from `low` to `high`.
-pub fn count_at(cells: &[[u16; 24]], low: u16, high: u16) -> u16
-    requires { length cells.now ≤ 16 }
-    ensures { result ≡ count_rows (is_at low high) (rows_of cells.now) }
+pub fn count_at(rows: &[Row], low: u16, high: u16) -> u16
+    requires { length rows.now ≤ 16 }
+    ensures { result ≡ count_rows (is_at low high) rows.now }
 {
-    let n = cells.len();
-    let mut s: u16 = 0;
-    let mut q = 0;
-    while q < n {
-        let l = row_at(cells, q).location;
-        s += ((low <= l) & (l <= high)) as u16;
-        q += 1;
-    }
-    s
+    rows.iter()
+        .filter(|r| (low <= r.location) & (r.location <= high))
+        .count() as u16
 }
 
 // How many processes are in the critical section, at 30.
-pub fn critical(cells: &[[u16; 24]]) -> u16
-    requires { length cells.now ≤ 16 }
-    ensures { result ≡ critical (rows_of cells.now) }
+pub fn critical(rows: &[Row]) -> u16
+    requires { length rows.now ≤ 16 }
+    ensures { result ≡ critical rows.now }
 {
-    count_at(cells, 30, 30)
+    count_at(rows, 30, 30)
 }
 
 // ---- the thresholds of a process
 
-// The threshold for `held`: the lesser of the level and, elsewhere than at 24, the size of ahead.
-fn held_from(r: Row) -> u16
-    ensures { result ≡ held_from r }
+// The threshold for `held` of a process that competes: the lesser of the level and, elsewhere than at
+// 24, the size of ahead.
+fn held_from(r: &Row) -> u16
+    requires { competes r.now ≡ true }
+    ensures { result ≡ held_from r.now }
 {
-    if !rows::sound::competes(r) {
-        return 16;
-    }
     let members = sets::size(r.ahead);
     if (r.location != 24) & (members < r.level) {
         members
@@ -68,94 +59,81 @@ fn reaches(i: u16, from: u16) -> u16
     (i + 16 - from) / 16
 }
 
-// A series with one process more, whose threshold is `from`.
-fn one_more(a: [u16; 16], from: u16) -> [u16; 16]
-    requires { Small a from }
-    ensures { result ≡ one_over a from }
+// One process more, whose threshold is `from`.
+fn add(series: &mut [u16; 16], from: u16)
+    requires { Small series.old from }
+    ensures { series.new ≡ one_over series.old from }
 {
-    let mut b = [0u16; 16];
-    let mut i = 0;
-    while i < 16 {
-        b[i] = a[i] + reaches(i as u16, from);
-        i += 1;
+    for (i, count) in series.iter_mut().enumerate() {
+        *count += reaches(i as u16, from);
     }
-    b
 }
 
 // The figures of a series in a table of n processes: figure 0 and those past n are 0.
-fn figures_in(n: u16, a: [u16; 16]) -> [u16; 17]
-    requires { Small a n }
-    ensures { result ≡ figures_in n a }
+fn figures_in(n: u16, series: &[u16; 16]) -> [u16; 17]
+    requires { Small series.now n }
+    ensures { result ≡ figures_in n series.now }
 {
-    let mut b = [0u16; 17];
-    let mut i = 0;
-    while i < 16 {
-        b[i + 1] = a[i] * reaches(n, i as u16 + 1);
-        i += 1;
+    let mut figures = [0u16; 17];
+    for i in 0..16 {
+        figures[i + 1] = series[i] * reaches(n, i as u16 + 1);
     }
-    b
+    figures
 }
 
 // ---- the census
 
 // The census of a sound table. Who does not compete is in no figure, and at 30 the level is 0. Who
 // competes waits or is at 30, and the last count of the first series is that of all who compete.
-fn counted(cells: &[[u16; 24]]) -> Census
-    requires { table_refusal (rows_of cells.now) ≡ 0 }
-    ensures { result ≡ census_of (rows_of cells.now) }
+fn counted(rows: &[Row]) -> Census
+    requires { table_refusal rows.now ≡ 0 }
+    ensures { result ≡ census_of rows.now }
 {
-    let n = cells.len();
+    let n = rows.len() as u16;
     let mut at_30: u16 = 0;
     let mut below = [0u16; 16];
     let mut held = [0u16; 16];
-    let mut q = 0;
-    while q < n {
-        let r = row_at(cells, q);
+    for r in rows {
         if rows::sound::competes(r) {
-            let b = one_more(below, r.level);
-            below = b;
+            add(&mut below, r.level);
             if r.level == 0 {
                 at_30 += (r.location == 30) as u16;
-                let h = one_more(held, 0);
-                held = h;
+                add(&mut held, 0);
             } else {
-                let h = one_more(held, held_from(r));
-                held = h;
+                add(&mut held, held_from(r));
             }
         }
-        q += 1;
     }
     Census {
         refusal: 0,
         critical: at_30,
         waiting: below[15] - at_30,
-        below: figures_in(n as u16, below),
-        held: figures_in(n as u16, held),
+        below: figures_in(n, &below),
+        held: figures_in(n, &held),
     }
 }
 
 // The census of a table of any size and content: its figures, or the number of the refusal, 6 or 7,
 // and no figures.
-pub fn census(cells: &[[u16; 24]]) -> Census
-    ensures { result ≡ census_of (rows_of cells.now) }
+pub fn census(rows: &[Row]) -> Census
+    ensures { result ≡ census_of rows.now }
 {
-    let refusal = check(cells);
-    if refusal != 0 {
-        return Census {
-            refusal: refusal,
+    match check(rows) {
+        Ok(()) => counted(rows),
+        Err(refusal) => Census {
+            refusal: refusal.into(),
             critical: 0,
             waiting: 0,
             below: [0u16; 17],
             held: [0u16; 17],
-        };
+        },
     }
-    counted(cells)
 }
 
 // The census for C (include/zaguypo.h). Its waiting figure counts 21 to 24; up to version 1.1.0 it
 // counted 20 to 24.
-pub fn zaguypo_census(rows: &[[u16; 24]]) -> Census
-    ensures { result ≡ census_of (rows_of rows.now) }
+pub fn zaguypo_census(rows: &[Row]) -> Census
+    ensures { result ≡ census_of rows.now }
 {
     census(rows)
 }

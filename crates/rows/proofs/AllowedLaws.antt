@@ -3,7 +3,6 @@
 --   lis_fits k e l   what the code asks of lis beside the mask; e is true where lis is empty
 --   allowed_with    the two are `allowed`
 --   allowed_plain   .. where lis does not matter
---   only_stay       a kind that is none of the others
 --   looks_not, looks_so   LOOK with an argument
 --
 -- Assumes nothing.
@@ -18,7 +17,7 @@ use Rattle.counting.specs.Sets.{has}
 use Rattle.counting.proofs.SetLaws.{has_zero}
 use Rattle.counting.proofs.TestLaws.{cond_same, every, same_at}
 use Rattle.machine.specs.Rows.{blank, with_location, with_lis}
-use Rattle.machine.specs.Words.{STAY, COME, FLICKER, GO, LOOK, CANCEL, is_kind}
+use Rattle.machine.specs.Words.{GO, LOOK, is_kind}
 use Rattle.machine.specs.Steps.{allowed}
 use Rattle.machine.specs.declared.Row.{Row}
 use Rattle.machine.proofs.KindLaws.{by_kind}
@@ -81,43 +80,22 @@ computed_right k e l kind = go (dec_lt l 41)
     go (yes h) = same_at (computed k e) (rule k e) 41 (agrees e k kind) l h
     go (no h) = rw (over_none l (omega (arith, h)), allowed_over k (stands e l) (omega (arith, h)))
 
-module _ (k j m : ℕ) (r : Row) (e : k ≡ j) (kind : is_kind j ≡ true) (f : m ≡ mask_of (allowed_at j)) where
+module _ (k m : ℕ) (r : Row) (kind : is_kind k ≡ true) (f : m ≡ mask_of (allowed_at k)) where
   abbrev lis_test : Bool
-  lis_test = lis_fits j (eqb r.lis 0) r.location
+  lis_test = lis_fits k (eqb r.lis 0) r.location
 
   pub allowed_with : (marks m r.location && lis_test) ≡ allowed k r
   allowed_with =
       ap (λ (m : ℕ). marks m r.location && lis_test) f
-      ∙ ap (λ (b : Bool). b && lis_test) (mask_marks (allowed_at j) r.location)
-      ∙ computed_right j (eqb r.lis 0) r.location kind
-      ∙ sym (allowed_stands j r)
-      ∙ sym (ap (λ (x : ℕ). allowed x r) e)
+      ∙ ap (λ (b : Bool). b && lis_test) (mask_marks (allowed_at k) r.location)
+      ∙ computed_right k (eqb r.lis 0) r.location kind
+      ∙ sym (allowed_stands k r)
 
   pub allowed_plain : lis_test ≡ true → marks m r.location ≡ allowed k r
   allowed_plain t =
       sym (and-true (marks m r.location))
       ∙ ap (λ (b : Bool). marks m r.location && b) (sym t)
       ∙ allowed_with
-
--- a kind that is none of the others
-pub only_stay : (k : ℕ)
-    → is_kind k ≡ true
-    → (k ≡ LOOK → ⊥)
-    → (k ≡ GO → ⊥)
-    → (k ≡ FLICKER → ⊥)
-    → (k ≡ CANCEL → ⊥)
-    → (k ≡ COME → ⊥)
-    → k ≡ STAY
-only_stay =
-    by_kind
-    (λ k.
-    (k ≡ LOOK → ⊥) → (k ≡ GO → ⊥) → (k ≡ FLICKER → ⊥) → (k ≡ CANCEL → ⊥) → (k ≡ COME → ⊥) → k ≡ STAY)
-    (λ _ _ _ _ _. refl)
-    (λ _ _ _ _ n. absurd (n refl))
-    (λ _ _ n _ _. absurd (n refl))
-    (λ _ n _ _ _. absurd (n refl))
-    (λ n _ _ _ _. absurd (n refl))
-    (λ _ _ _ n _. absurd (n refl))
 
 -- ---- LOOK with an argument
 
@@ -131,7 +109,7 @@ member_some s a = go (ℕ_discrete s 0)
 
 module _ (m : ℕ) (r : Row) (a : ℕ) (f : m ≡ mask_of (allowed_at LOOK)) where
   look_is : (b : Bool) → marks m r.location ≡ b → allowed LOOK r ≡ (b && not (eqb r.lis 0))
-  look_is b e = sym (allowed_with LOOK LOOK m r refl refl f) ∙ ap (λ (b : Bool). b && not (eqb r.lis 0)) e
+  look_is b e = sym (allowed_with LOOK m r refl f) ∙ ap (λ (b : Bool). b && not (eqb r.lis 0)) e
 
   pub looks_not : marks m r.location ≡ false → (allowed LOOK r && has r.lis a) ≡ false
   looks_not e = ap (λ (b : Bool). b && has r.lis a) (look_is false e)

@@ -4,11 +4,11 @@
 --   mark_exact     no bit is lost where a location is put into a mask
 --   mask_set       a mask is the set of the locations that have P
 --   mask_marks     .. and marks them
---   says_rule      a list of sets of kinds that says at every code what `allowed` says may be read for it
+--   says_kind      a list of sets of kinds that says at every code what `allowed` says may be read for it
 --   fits_right     the masks of the levels
 --
 -- Assumes nothing.
-use Prim.Native.Nat.{ℕ, ◌*◌, ◌/◌, ◌%◌, ◌^◌, ◌≤◌, ◌<◌}
+use Prim.Native.Nat.{ℕ, ◌+◌, ◌*◌, ◌/◌, ◌%◌, ◌^◌, ◌≤◌, ◌<◌}
 use mathlib.Core.Path.{◌≡◌, refl, sym, ap, ◌∙◌}
 use mathlib.Core.Bool.{Bool, true, false, cond, ◌&&◌, beq}
 use mathlib.Core.List.{List}
@@ -17,6 +17,7 @@ use native.Mathlib.Nat.{mod-eq_of_lt}
 use native.Mathlib.Omega.{arith}
 use lib.Dec.{eqb, ltb}
 use lib.ListN.{get_or}
+use denote.Enum.Declared.{tag_of}
 use mir.Val.{bool_byte}
 use borrow.Author.Tests.{ltb-true, lt-ltb, le-ltb, ne_eqb}
 use Rattle.counting.specs.Sums.{sum}
@@ -25,6 +26,10 @@ use Rattle.counting.proofs.SetLaws.{has-set_of, has_over, set_of_lt}
 use Rattle.counting.proofs.BitLaws.{one_shl}
 use Rattle.counting.proofs.TestLaws.{split, every, every_at, same_at}
 use Rattle.machine.specs.Tables.{one_of, locations, level_fits}
+use Rattle.machine.specs.Words.{STAY, COME, FLICKER, GO, LOOK, CANCEL, kind_number}
+use Rattle.machine.specs.declared.Kind.{Kind}
+use Rattle.machine.specs.declared.Kind.TheVariants.{Stay, Come, Flicker, Go, Look, Cancel}
+use Rattle.machine.specs.contracts.Kind.{the_type}
 use Rattle.rows.specs.Masks.{mask_of, allowed_at, Mark}
 
 -- ---- past the last location
@@ -97,7 +102,7 @@ unfolding every
 right kinds = every (λ i. every (λ k. beq (says kinds i k) (rule i k)) 16) 8
 
 -- one that does may be read for the rule
-pub says_rule : (kinds : List ℕ) (i k : ℕ) → i < 8 → k < 16
+says_rule : (kinds : List ℕ) (i k : ℕ) → i < 8 → k < 16
     → eqb (get_or kinds i 0 / 2 ^ k % 2) 1 ≡ cond (right kinds) (rule i k) (says kinds i k)
 unfolding right
 says_rule kinds i k h j =
@@ -106,6 +111,17 @@ says_rule kinds i k h j =
     same_at (says kinds i) (rule i) 16
     (every_at (λ i. every (λ k. beq (says kinds i k) (rule i k)) 16) 8 t i h) k j)
     (λ t. refl)
+
+-- .. as the code reads it, by the place of a kind among the six
+pub says_kind : (kinds : List ℕ) (i : ℕ) (k : Kind) → i < 8
+    → eqb (get_or kinds i 0 / 2 ^ (tag_of the_type k + 1) % 2) 1
+    ≡ cond (right kinds) (rule i (kind_number k)) (says kinds i (kind_number k))
+says_kind kinds i Stay h = says_rule kinds i STAY h (omega arith)
+says_kind kinds i Come h = says_rule kinds i COME h (omega arith)
+says_kind kinds i Flicker h = says_rule kinds i FLICKER h (omega arith)
+says_kind kinds i Go h = says_rule kinds i GO h (omega arith)
+says_kind kinds i Look h = says_rule kinds i LOOK h (omega arith)
+says_kind kinds i Cancel h = says_rule kinds i CANCEL h (omega arith)
 
 -- ---- the level that goes with a location
 

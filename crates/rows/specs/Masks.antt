@@ -3,10 +3,9 @@
 --   mask_of P       ==   the mask of the locations that have P.
 --   allowed_at k l  <=>  kind k is allowed at location l, with lis empty or with another.
 --   Mark i b m      <=>  m is the mark of the location of code i where b is true, else 0.
---   Coded i k       <=>  i is a code and k a number of four bits.
 --
 -- Assumes nothing.
-use Rattle.std.specs.Prelude.{ℕ, ◌+◌, ◌*◌, ◌^◌, ◌≤◌, ◌<◌, ◌≡◌, Bool, ◌||◌, get_or}
+use Rattle.std.specs.Prelude.{ℕ, ◌+◌, ◌*◌, ◌^◌, ◌≤◌, ◌≡◌, Bool, ◌||◌, get_or}
 use Rattle.counting.specs.Sums.{bit}
 use Rattle.machine.specs.Rows.{blank, with_location, with_lis}
 use Rattle.machine.specs.Tables.{locations}
@@ -31,7 +30,3 @@ allowed_at k l = allowed k (with_location l (with_lis 0 blank)) || allowed k (wi
 pub record Mark (i : ℕ) (b : Bool) (m : ℕ) : Type 0 where
   pub is : m ≡ mark_of i b
   pub low : m ≤ 2 ^ get_or locations i 0
-
-pub record Coded (i k : ℕ) : Type 0 where
-  pub code : i < 8
-  pub kind : k < 16

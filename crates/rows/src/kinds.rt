@@ -24,6 +24,7 @@ pub fn allowed(kind: Kind, r: &Row) -> bool
 }
 
 // Whether `a` is an argument of a kind of word at a row.
+#[tactic(auto, unfolding(machine::specs::Steps::argument_fits))]
 pub fn argument_fits(n: u16, kind: Kind, r: &Row, a: u16) -> bool
     ensures { result ≡ argument_fits n (kind_number kind) r.now a }
 {

@@ -24,6 +24,7 @@ pub fn flicker_act(a: u16, r: Row) -> Row
 }
 
 // LOOK at q, whose act is given: q leaves lis, and est too where its act is 0.
+#[tactic(auto, unfolding(machine::specs::Steps::looked))]
 pub fn looked(q: u16, act: u16, r: Row) -> Row
     requires { q < 16 }
     ensures { result ≡ looked q act r }
@@ -38,6 +39,7 @@ pub fn looked(q: u16, act: u16, r: Row) -> Row
 
 // GO at 20: act 1, level n - 1, est all but p, ahead those that compete, each of them passed once more,
 // to 21.
+#[tactic(auto, unfolding(machine::specs::Steps::entered))]
 pub fn entered(n: u16, p: u16, c: u16, r: Row) -> Row
     requires among { Among n p }
     requires passes_value { raisable c r.passes ≡ true }
@@ -55,6 +57,7 @@ pub fn entered(n: u16, p: u16, c: u16, r: Row) -> Row
 }
 
 // GO at 21: to 22 with lis as est, or at level 0 to 30.
+#[tactic(auto, unfolding(machine::specs::Steps::started))]
 pub fn started(r: Row) -> Row
     ensures { result ≡ started r }
 {
@@ -71,6 +74,7 @@ pub fn started(r: Row) -> Row
 
 // GO at 23: level falls to the size of est where that is less; else to 24 where bb is 0; else
 // level falls by one where turn[level] is not p, and at 0 stays.
+#[tactic(auto, unfolding(machine::specs::Steps::reconsidered))]
 pub fn reconsidered(p: u16, v: u16, r: Row) -> Row
     ensures { result ≡ reconsidered p v r }
 {
@@ -106,6 +110,7 @@ pub fn asks_turn(r: &Row) -> bool
 }
 
 // GO at 24, but for the turn cell: bb 1, est all but p, ahead those that compete less p, to 21.
+#[tactic(auto, unfolding(machine::specs::Steps::pushed))]
 pub fn pushed(n: u16, p: u16, c: u16, r: Row) -> Row
     requires { Among n p }
     ensures { result ≡ pushed n p c r }
@@ -131,6 +136,7 @@ pub fn left(r: Row) -> Row
 }
 
 // GO at 30 of p, each row: p leaves ahead, and the passes over p are forgotten.
+#[tactic(auto, unfolding(machine::specs::Steps::forgets))]
 pub fn forgotten(p: u16, r: Row) -> Row
     requires { p < 16 }
     ensures { result ≡ forgets p r }

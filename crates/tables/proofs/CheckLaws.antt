@@ -1,17 +1,19 @@
 -- The check of a table row by row, and the refusals that it ends in. Assumes nothing.
-use Prim.Native.Nat.{ℕ, ◌+◌, ◌≤◌, ◌<◌}
+use Prim.Native.Nat.{ℕ, ◌+◌, ◌<◌}
 use mathlib.Core.Path.{◌≡◌, refl, sym, ap, ◌∙◌}
-use mathlib.Core.Bool.{Bool, true, false, ◌&&◌, and_assoc, and-true, and-false}
+use mathlib.Core.Bool.{Bool, true, false, cond, not, ◌&&◌, ◌||◌, and_assoc, and-true, and-false}
 use mathlib.Core.List.{List}
 use native.Mathlib.Numerals.{add-one}
-use lib.ListN.{length, drop, replicate}
+use lib.ListN.{length, get_or, drop, replicate}
+use lib.Dec.{ltb}
 use lib.Seq.{drop-cons, drop-length}
-use borrow.Author.Tests.{le-leb, lt-leb}
-use Rattle.machine.specs.Rows.{blank}
-use Rattle.machine.specs.Tables.{Table, row, sound_passes, sound_row, sound_from, table_refusal}
+use Rattle.machine.specs.Refusals.{accepted, unsound_row}
+use Rattle.machine.specs.Tables.{Table, sound_passes, sound_row, sound_from, table_refusal}
+use Rattle.machine.specs.declared.Row.{Row}
 use Rattle.rows.specs.Bounds.{RowFits}
 use Rattle.rows.specs.Passes.{clear_past, Clear, Joined}
 use Rattle.rows.proofs.PassLaws.{passes_sound, own_first, clear_none, clear_joined}
+use Rattle.tables.proofs.SizeLaws.{size_in, size_out}
 
 -- every row before row q fits, and `joined` are their passes: whether the table is sound is up to these and to the rows
 -- from row q on
@@ -24,19 +26,19 @@ module _ (t : Table) where
   sound_start n = sym (ap (λ (b : Bool). b && sound_from n 0 t) (clear_none n))
 
   -- row q looked at: what the code has found out of it, and its passes
-  module _ (n q : ℕ) (l : q < length t) (b : Bool) (fits : RowFits n q (row t q) b) where
+  module _ (n q : ℕ) (l : q < length t) (d : Row) (b : Bool) (fits : RowFits n q (get_or t q d) b) where
     abbrev rest_from : ℕ → Bool
     rest_from k = sound_from n k (drop k t)
 
-    at_row : rest_from q ≡ (sound_row n q (row t q) && rest_from (q + 1))
+    at_row : rest_from q ≡ (sound_row n q (get_or t q d) && rest_from (q + 1))
     unfolding sound_from
-    at_row = rw (drop-cons t q blank l, add-one q) refl
+    at_row = rw (drop-cons t q d l, add-one q) refl
 
     -- it fits: its passes are joined to the others
-    pub sound_suc : (joined next : List ℕ) → SoundSo t n q joined → b ≡ true → Joined joined (row t q).passes next
+    pub sound_suc : (joined next : List ℕ) → SoundSo t n q joined → b ≡ true → Joined joined (get_or t q d).passes next
         → SoundSo t n (q + 1) next
     sound_suc joined next h e j =
-        let own = (row t q).passes in
+        let own = (get_or t q d).passes in
         let clear : Clear n own (clear_past n own) = record { told = refl; sixteen = j.sixteen; low = j.low } in
         let sound = fits.is (clear_past n own) (passes_sound n q own (clear_past n own) clear) in
         let row_is = sym sound ∙ ap (λ (x : Bool). x && clear_past n own) e in
@@ -48,7 +50,7 @@ module _ (t : Table) where
     -- it does not
     pub sound_not : (joined : List ℕ) → SoundSo t n q joined → b ≡ false → sound_from n 0 t ≡ false
     sound_not joined h e =
-        let own = (row t q).passes in
+        let own = (get_or t q d).passes in
         let sound = fits.is (sound_passes n q own) (own_first n q own) in
         let row_is = sym sound ∙ ap (λ (x : Bool). x && sound_passes n q own) e in
         h
@@ -56,25 +58,22 @@ module _ (t : Table) where
         ∙ and-false (clear_past n joined)
 
   -- after the last row
-  pub sound_all : (n : ℕ) (joined : List ℕ) → SoundSo t n (length t) joined → sound_from n 0 t ≡ clear_past n joined
+  pub sound_all : (n q : ℕ) (joined : List ℕ) → q ≡ length t → SoundSo t n q joined
+      → sound_from n 0 t ≡ clear_past n joined
   unfolding sound_from
-  sound_all n joined h =
-      h
-      ∙ ap (λ (x : Bool). clear_past n joined && x) (ap (sound_from n (length t)) (drop-length t))
-      ∙ and-true (clear_past n joined)
+  sound_all n q joined end h =
+      h ∙ rw (end, drop-length t) (and-true (clear_past n joined))
 
-  pub refused_few : length t < 2 → table_refusal t ≡ 6
+  pub refused_size : (ltb (length t) 2 || ltb 16 (length t)) ≡ true → table_refusal t ≡ 6
   unfolding table_refusal
-  refused_few k = rw (lt-leb 2 (length t) k) refl
+  refused_size h = rw (size_out (length t) h) refl
 
-  pub refused_many : 2 ≤ length t → 16 < length t → table_refusal t ≡ 6
+  -- the size fits
+  pub judged : (b : Bool) → (ltb (length t) 2 || ltb 16 (length t)) ≡ false → sound_from (length t) 0 t ≡ b
+      → table_refusal t ≡ cond b accepted unsound_row
   unfolding table_refusal
-  refused_many j k = rw (le-leb 2 (length t) j, lt-leb (length t) 16 k) refl
-
-  pub refused_row : 2 ≤ length t → length t ≤ 16 → sound_from (length t) 0 t ≡ false → table_refusal t ≡ 7
-  unfolding table_refusal
-  refused_row j k h = rw (le-leb 2 (length t) j, le-leb (length t) 16 k, h) refl
-
-  pub refused_none : 2 ≤ length t → length t ≤ 16 → sound_from (length t) 0 t ≡ true → table_refusal t ≡ 0
-  unfolding table_refusal
-  refused_none j k h = rw (le-leb 2 (length t) j, le-leb (length t) 16 k, h) refl
+  judged b h e = rw (size_in (length t) h, e) (either b)
+    where
+      either : (b : Bool) → cond (not b) unsound_row accepted ≡ cond b accepted unsound_row
+      either true = refl
+      either false = refl

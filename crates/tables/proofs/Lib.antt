@@ -1,4 +1,6 @@
--- Laws of the view of cells as a table.
-pub mod ViewLaws
+-- Laws of the checks, of fresh tables, of writers, and of refusals.
+pub mod SizeLaws
 pub mod CheckLaws
 pub mod FreshLaws
+pub mod WriterLaws
+pub mod RefusalLaws

@@ -26,7 +26,8 @@ pub fn check(rows: &[Row]) -> Result<(), Refusal>
         if !rows::sound::row_fits(n as u16, full, q as u16, r) {
             return Err(Refusal::UnsoundRow);
         }
-        passes = rows::passes::joined(passes, r.passes);
+        let more = rows::passes::joined(passes, r.passes);
+        passes = more;
     }
     if !rows::passes::rest_clear(n as u16, passes) {
         return Err(Refusal::UnsoundRow);

@@ -1,17 +1,11 @@
 -- `census` meets its contract. Assumes nothing.
-use mathlib.Core.Path.{refl, sym, ◌∙◌}
-use Rattle.cells.specs.View.{rows_of}
+use mathlib.Core.Path.{refl, ◌∙◌}
 use Rattle.census.proofs.CensusLaws.{census_refused}
+use Rattle.tables.proofs.RefusalLaws.{number_some}
 use Rattle.census.proofs.census.Goals as goal
 
-pub returns-then-refusal-ne0 : goal.returns-then-refusal-ne0
-returns-then-refusal-ne0 c =
-    let x = c.args.cells.now in
-    let e = c.check-refusal.ensures in
-    rw (census_refused (rows_of x) (λ z. c.if-refusal-ne0.true (e ∙ z)), e) refl
-
-pub counted-requires : goal.counted-requires
-counted-requires c = sym c.check-refusal.ensures ∙ c.if-refusal-ne0.false
-
-pub returns : goal.returns
-returns c = c.counted.ensures
+pub returns-in-Err : goal.returns-in-Err
+returns-in-Err c =
+    let e = c.in-Err.ensures in
+    let f = census_refused c.args.rows.now (λ z. number_some c.in-Err.refusal (e ∙ z)) in
+    rw (f, c.into.ensures, e) refl

@@ -1,67 +1,38 @@
--- `kinds::allowed` meets its contract: LOOK, GO, and the kinds of which the location says all. Assumes nothing.
+-- `kinds::allowed` meets its contract: for each kind a mask of locations, and for GO and LOOK a test of lis. Assumes
+-- nothing.
 use mathlib.Core.Path.{refl, ap, ◌∙◌}
 use mathlib.Core.Bool.{Bool, ◌&&◌, ◌||◌, not}
 use lib.Dec.{eqb}
 use Rattle.machine.specs.Words.{STAY, COME, FLICKER, GO, LOOK, CANCEL}
-use Rattle.rows.proofs.AllowedLaws.{allowed_with, allowed_plain, only_stay}
+use Rattle.rows.proofs.AllowedLaws.{allowed_with, allowed_plain}
 use Rattle.rows.proofs.kinds.allowed.Goals as goal
 
-pub returns-then-kind-eq-LOOK : goal.returns-then-kind-eq-LOOK
-returns-then-kind-eq-LOOK c =
-    let m = c.before in
-    let p = m.before in
-    let s = p.before.before in
-    let r = s.args.r in
-    ap (λ (b : Bool). b && not (eqb r.lis 0)) m.marked.ensures
-    ∙ allowed_with s.args.kind LOOK p.places.result r p.if-kind-eq-LOOK.true refl p.places.ensures
+pub returns-in-Stay : goal.returns-in-Stay
+returns-in-Stay c =
+    rw c.in-Stay.is (c.marked.ensures ∙ allowed_plain STAY c.places.result c.args.r.now refl c.places.ensures refl)
 
-pub returns-then-kind-eq-GO : goal.returns-then-kind-eq-GO
-returns-then-kind-eq-GO c =
-    let m = c.before.before in
-    let p = m.before in
-    let s = p.before.before.before in
-    let r = s.args.r in
-    ap (λ (b : Bool). b && (not (eqb r.location 22) || eqb r.lis 0)) m.marked-then-kind-eq-GO.ensures
-    ∙ allowed_with s.args.kind GO p.places-then-kind-eq-GO.result r p.if-kind-eq-GO.true refl p.places-then-kind-eq-GO.ensures
+pub returns-in-Come : goal.returns-in-Come
+returns-in-Come c =
+    rw c.in-Come.is (c.marked-in-Come.ensures ∙ allowed_plain COME c.places-in-Come.result c.args.r.now refl c.places-in-Come.ensures refl)
 
-pub returns-then-kind-eq-FLICKER : goal.returns-then-kind-eq-FLICKER
-returns-then-kind-eq-FLICKER c =
-    let p = c.before in
-    let e = p.before in
-    let s = e.before.before.before in
-    c.marked-then-kind-eq-FLICKER.ensures
-    ∙ allowed_plain s.args.kind FLICKER p.places-then-kind-eq-FLICKER.result s.args.r e.if-kind-eq-FLICKER.true refl p.places-then-kind-eq-FLICKER.ensures
-    refl
+pub returns-in-Flicker : goal.returns-in-Flicker
+returns-in-Flicker c =
+    rw c.in-Flicker.is (c.marked-in-Flicker.ensures ∙ allowed_plain FLICKER c.places-in-Flicker.result c.args.r.now refl c.places-in-Flicker.ensures refl)
 
-pub returns-then-kind-eq-CANCEL : goal.returns-then-kind-eq-CANCEL
-returns-then-kind-eq-CANCEL c =
-    let p = c.before in
-    let e = p.before in
-    let s = e.before.before.before.before in
-    c.marked-then-kind-eq-CANCEL.ensures
-    ∙ allowed_plain s.args.kind CANCEL p.places-then-kind-eq-CANCEL.result s.args.r e.if-kind-eq-CANCEL.true refl p.places-then-kind-eq-CANCEL.ensures
-    refl
+pub returns-in-Cancel : goal.returns-in-Cancel
+returns-in-Cancel c =
+    rw c.in-Cancel.is (c.marked-in-Cancel.ensures ∙ allowed_plain CANCEL c.places-in-Cancel.result c.args.r.now refl c.places-in-Cancel.ensures refl)
 
-pub returns-then-kind-eq-COME : goal.returns-then-kind-eq-COME
-returns-then-kind-eq-COME c =
-    let p = c.before in
-    let e = p.before in
-    let s = e.before.before.before.before.before in
-    c.marked-then-kind-eq-COME.ensures
-    ∙ allowed_plain s.args.kind COME p.places-then-kind-eq-COME.result s.args.r e.if-kind-eq-COME.true refl p.places-then-kind-eq-COME.ensures
-    refl
+pub returns-in-Go : goal.returns-in-Go
+returns-in-Go c =
+    let r = c.args.r.now in
+    rw c.in-Go.is
+    (ap (λ (b : Bool). b && (not (eqb r.location 22) || eqb r.lis 0)) c.marked-in-Go.ensures
+    ∙ allowed_with GO c.places-in-Go.result r refl c.places-in-Go.ensures)
 
-pub returns : goal.returns
-returns c =
-    let p = c.before in
-    let e5 = p.before in
-    let e4 = e5.before in
-    let e3 = e4.before in
-    let e2 = e3.before in
-    let e1 = e2.before in
-    let s = e1.before in
-    let k = s.args.kind in
-    c.marked-2.ensures
-    ∙ allowed_plain k STAY p.places-2.result s.args.r
-    (only_stay k s.requires e1.if-kind-eq-LOOK.false e2.if-kind-eq-GO.false e3.if-kind-eq-FLICKER.false e4.if-kind-eq-CANCEL.false e5.if-kind-eq-COME.false)
-    refl p.places-2.ensures refl
+pub returns-in-Look : goal.returns-in-Look
+returns-in-Look c =
+    let r = c.args.r.now in
+    rw c.in-Look.is
+    (ap (λ (b : Bool). b && not (eqb r.lis 0)) c.marked-in-Look.ensures
+    ∙ allowed_with LOOK c.places-in-Look.result r refl c.places-in-Look.ensures)
