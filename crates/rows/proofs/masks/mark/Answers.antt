@@ -7,7 +7,7 @@ pub overflow_cast-result-2 : goal.overflow_cast-result-2
 overflow_cast-result-2 c = omega (arith, location_low c.args.code c.requires)
 
 pub overflow_shl-result : goal.overflow_shl-result
-overflow_shl-result c = location_low c.args.code c.requires
+overflow_shl-result c = omega (arith, location_low c.args.code c.requires)
 
 pub returns : goal.returns
 returns c = mark_exact c.args.code c.args.on c.requires
