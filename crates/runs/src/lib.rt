@@ -9,7 +9,7 @@ ghost use Rattle.runs.specs.Bounds.{Room, Checked, Runnable, RunsOn};
 
 use machine::{Event, Memory, Ran, Refusal, Row, Settings, SharedCell, Tally};
 use octets::Words;
-use steps::system::System;
+use steps::system::{System, fitting};
 
 // What a run hands back: how many words it took, the refusal or 0, the shared cell of the last of
 // them, and the tally.
@@ -34,9 +34,9 @@ fn counted(event: Event, tally: Tally) -> Tally
 
 // At most 8,192 words, in order, up to the first that is refused. The lent tally, which is zero at the
 // start, counts each accepted word.
-pub fn run_words<W: Words>(system: &mut System, words: &W, tally: &mut Tally) -> Ran
-    requires { Runnable words.now tally.old }
-    ensures { RunsOn system.old words.now system.new tally.new result }
+pub fn run_words<W: Words>(system: &mut System, words: W, tally: &mut Tally) -> Ran
+    requires { Runnable (W.list words) tally.old }
+    ensures { RunsOn system.old (W.list words) system.new tally.new result }
 {
     let mut cell = SharedCell::NONE;
     for i in 0..words.count() {
@@ -66,8 +66,7 @@ pub fn run_words<W: Words>(system: &mut System, words: &W, tally: &mut Tally) ->
 fn check_run(rows: &[Row], words: &[u32], settings: Settings) -> Result<Memory, Refusal>
     ensures { Checked settings words.now rows.now result }
 {
-    tables::check(rows)?;
-    let memory = Memory::try_from(settings)?;
+    let memory = fitting(rows, settings)?;
     if machine::RUN_LIMIT < words.len() {
         return Err(Refusal::TooManyWords);
     }
@@ -82,7 +81,7 @@ fn run_counted(rows: &mut [Row], words: &[u32], tally: &mut Tally, settings: Set
 {
     *tally = Tally::ZERO;
     match check_run(rows, words, settings) {
-        Ok(memory) => run_words(&mut System::new(rows, memory), &words, tally),
+        Ok(memory) => run_words(&mut System::new(rows, memory), words, tally),
         Err(refusal) => Ran {
             taken: 0,
             refusal: u16::from(refusal) as u32,
