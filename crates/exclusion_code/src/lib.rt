@@ -3,25 +3,19 @@
 
 ghost use Rattle.exclusion_code.specs.Lists.{Listed};
 
-use cells::checks::check;
-use machine::Settings;
-use steps::stepping::advance_under;
+use machine::{Row, Settings};
+use steps::system::{System, fitting};
 
 // Hands every word of a list to the step under settings, in order, going on past refused words. The
 // table and the settings are checked once: a sound table stays sound, and an unsound one refuses every
 // word, as settings do that do not fit.
-pub fn step_all(cells: &mut [[u16; 24]], words: &[u32], settings: Settings)
-    ensures { Listed settings cells.old words.now cells.new }
+pub fn step_all(rows: &mut [Row], words: &[u32], settings: Settings)
+    ensures { Listed settings rows.old words.now rows.new }
 {
-    if check(cells) != 0 {
-        return;
-    }
-    if !rows::settings::settings_fit(settings) {
-        return;
-    }
-    let mut i = 0;
-    while i < words.len() {
-        advance_under(cells, words[i], settings);
-        i += 1;
+    if let Ok(memory) = fitting(rows, settings) {
+        let mut system = System::new(rows, memory);
+        for &word in words {
+            let _ = system.advance(word);
+        }
     }
 }
