@@ -99,7 +99,7 @@ run_past m t h c ws i e =
 -- ---- a word that the step answered, from place i of a list
 
 module _ (m : Settings) (t u : Table) (h : Tally) (c : SharedCell) (ws : List ℕ) (i w : ℕ) (l : i < length ws)
-  (at : w ≡ get_or ws i 0) where
+    (at : w ≡ get_or ws i 0) where
   -- it was accepted, and g is the tally after it
   pub takes : (d : Told) (g : Tally) → StepsUnder m t w u (Ok d) → g ≡ counted d.event h
       → run_from m t h c (drop i ws) ≡ run_from m u g d.cell (drop (i + 1) ws)
@@ -156,9 +156,8 @@ ends_so y o h c v e =
 pub as_run : {y z : Table} {r : Ran} {h : Tally} (o u : Outcome) → y ≡ z → z ≡ o.table → r ≡ ran_of o → h ≡ o.tally
     → o ≡ u
     → (y ≡ u.table) × (r ≡ ran_of u) × (h ≡ u.tally)
-as_run o u same table ran tally e =
-    (
-      same ∙ table ∙ ap (λ (k : Outcome). k.table) e,
-      ran ∙ ap ran_of e,
-      tally ∙ ap (λ (k : Outcome). k.tally) e,
-    )
+as_run o u same table ran tally e = (
+  same ∙ table ∙ ap (λ (k : Outcome). k.table) e,
+  ran ∙ ap ran_of e,
+  tally ∙ ap (λ (k : Outcome). k.tally) e,
+)

@@ -1,5 +1,5 @@
 -- `run_counted` meets its contract. Assumes nothing.
-use mathlib.Core.Path.{◌≡◌, sym, ap₂, ◌∙◌}
+use mathlib.Core.Path.{sym, ap₂, ◌∙◌}
 use borrow.Author.Rules.{rules}
 use Rattle.machine.specs.Tables.{Table}
 use Rattle.machine.specs.Shared.{no_cell}
@@ -17,6 +17,6 @@ returns-in-Ok c =
     let ws = a.words.now in
     let s = c.run_words.ensures in
     let same = ap₂ (λ (k : Memory) (t : Table). run_from (settings_of k) t zero_tally no_cell ws) c.new.ensures.memory
-      c.new.ensures.table in
+    c.new.ensures.table in
     as_run (outcome c.new.result ws) (run_of a.settings a.rows.now ws) (search rules) s.becomes s.ran_is s.tally_is
     (same ∙ sym (taken_by a.settings ws a.rows.now c.in-Ok.memory c.in-Ok.ensures))

@@ -1,6 +1,6 @@
 -- `run_words` meets its contract: what is left of the run is what the loop still takes. Assumes nothing.
 use Prim.Native.Nat.{ℕ, ◌+◌, ◌<◌}
-use mathlib.Core.Path.{◌≡◌, refl, sym, ap, subst, ◌∙◌}
+use mathlib.Core.Path.{sym, ap, subst, ◌∙◌}
 use native.Mathlib.Omega.{arith}
 use lib.ListN.{length, drop}
 use Rattle.machine.specs.Refusals.{number}
@@ -8,7 +8,6 @@ use Rattle.machine.specs.Settings.{settings_of}
 use Rattle.machine.specs.Runs.{counted, run_from}
 use Rattle.machine.specs.declared.Event.{Event}
 use Rattle.machine.specs.declared.Memory.{Memory}
-use Rattle.machine.specs.declared.Ran.{Ran}
 use Rattle.machine.specs.declared.Tally.{Tally}
 use Rattle.machine.proofs.RunLaws.{counted_words}
 use Rattle.runs.specs.Bounds.{outcome}
@@ -33,7 +32,7 @@ returns-in-Err g c =
     let m = settings_of at.system.memory in
     let l : at.i < length ws = omega (arith, v.end_is, c.loop-i-test.true) in
     let left = v.left
-      ∙ stops m at.system.rows.now _ at.tally at.cell ws at.i _ l c.word.ensures c.in-Err.refusal s.step in
+    ∙ stops m at.system.rows.now _ at.tally at.cell ws at.i _ l c.word.ensures c.in-Err.refusal s.step in
     let e = ends_so _ (outcome c.args.system.now ws) at.tally at.cell (number c.in-Err.refusal) left in
     record {
       same_rows = s.same_rows ∙ v.same_rows;
@@ -52,7 +51,7 @@ loop-i-preserved g c =
     let m = settings_of at.system.memory in
     let l : at.i < length ws = omega (arith, v.end_is, c.loop-i-test.true) in
     let next = takes m at.system.rows.now c.advance.new.self.rows.now at.tally at.cell ws at.i _ l c.word.ensures
-      c.in-Ok.told c.counted.result s.step c.counted.ensures in
+    c.in-Ok.told c.counted.result s.step c.counted.ensures in
     let same =
     ap (λ (k : Memory). run_from (settings_of k) c.advance.new.self.rows.now c.counted.result c.in-Ok.told.cell (drop (at.i + 1) ws))
     (sym s.memory) in
