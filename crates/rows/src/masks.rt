@@ -1,6 +1,6 @@
 // Sets of locations as masks: bit l stands for location l. They are made from machine::LOCATIONS and
-// machine::ALLOWED at constant codes: an array that is indexed by a variable would be built anew at
-// every word. Of a constant kind the compiler computes them.
+// machine::ALLOWED by loops over the eight codes, which the compiler unrolls: of a constant kind or level
+// it computes the mask. A test of a row is then one shift, and no array is indexed by a variable.
 ghost use Rattle.std.specs.Prelude.{◌≡◌, ◌&&◌, eqb, ltb, ◌/◌, ◌%◌, ◌^◌, ◌<◌};
 ghost use Rattle.machine.specs.Tables.{level_fits};
 ghost use Rattle.machine.specs.Words.{kind_number};
@@ -16,6 +16,7 @@ pub(crate) fn marked(mask: u64, l: u16) -> bool
 }
 
 // The location of a code as a mask, or the empty one.
+#[tactic(auto, using(crate::proofs::MaskLaws::location_low, crate::proofs::MaskLaws::mark_exact))]
 fn mark(code: usize, on: bool) -> u64
     requires { code < 8 }
     ensures { result ≡ mark_of code on }
