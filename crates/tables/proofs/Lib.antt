@@ -1,6 +1,5 @@
--- Laws of the checks, of fresh tables, of writers, and of refusals.
+-- Laws of the checks, of fresh tables, and of refusals.
 pub mod SizeLaws
 pub mod CheckLaws
 pub mod FreshLaws
-pub mod WriterLaws
 pub mod RefusalLaws

