@@ -1,5 +1,4 @@
 -- Laws of the checks, of fresh tables, and of refusals.
-pub mod SizeLaws
+pub mod RefusalLaws
 pub mod CheckLaws
 pub mod FreshLaws
-pub mod RefusalLaws
