@@ -1,5 +1,4 @@
 -- Laws of rounds in the code, and the bound on the silence beside it.
-pub mod LimitLaws
 pub mod WordLaws
 pub mod MoveLaws
 pub mod RoundLaws

@@ -3,38 +3,36 @@
 --   on_next, on_end, on_stop                    one word more, the last one, and one that is refused
 --   goes_round                                  so much of a round
 --   none_yet, one_more, whole                   who is at 30 of those that have moved
---   from_turn, from_cut, from_stop              one round more, one that is broken, and none, by the loop's test
---   rounds-ended, rounds_stopped, rounds_as     what the answer says of them
+--   from_turn, from_cut, from_occupied, from_limit    one round more, one that is broken, and none
+--   ends                                        what the answer says of them
 --   some_is, none_is                            what the code asks of the number at 30
 --
 -- Assumes nothing.
 use Prim.Native.Nat.{ℕ, zero, suc, ◌+◌, ◌-◌, ◌≤◌, ◌<◌}
 use mathlib.Core.Path.{◌≡◌, refl, sym, ap, ap₂, ◌∙◌, subst}
-use mathlib.Core.Bool.{Bool, true, false, ◌&&◌, ◌||◌, not}
-use mathlib.Core.List.{List}
+use mathlib.Core.Bool.{Bool, true, false, ◌||◌, not}
 use native.Mathlib.Numerals.{add-one}
 use native.Mathlib.Omega.{arith}
 use lib.Dec.{eqb, ltb}
 use lib.ListN.{length}
-use mir.Val.{bool_byte}
-use borrow.Author.Tests.{ltb-true, ltb-false, ne_eqb, lt-ltb}
+use borrow.Author.Tests.{ltb-false, ne_eqb, lt-ltb}
+use Rattle.std.specs.Prelude.{Result, IfOk}
 use Rattle.counting.specs.Sums.{bit, count}
 use Rattle.counting.proofs.CountLaws.{count_zero}
+use Rattle.machine.specs.Refusals.{refusal_in}
 use Rattle.machine.specs.Tables.{Table, row, table_refusal}
 use Rattle.machine.specs.Steps.{refusal_of, after_word}
 use Rattle.machine.specs.Census.{is_critical, critical}
-use Rattle.machine.specs.Rounds.{round_word, Went, round_on, occupied, Rounded, rounded, unrounded, broken}
-use Rattle.machine.specs.Rounds.{rounds_from, rounds_of}
+use Rattle.machine.specs.Rounds.{round_word, Went, round_on, occupied, Rounded, rounded, broken}
+use Rattle.machine.specs.Rounds.{rounds_from}
 use Rattle.machine.proofs.Accepted.{refused_same}
 use Rattle.machine.proofs.RoundLaws.{Move, process_moves_on}
 use Rattle.machine.proofs.BrokenRounds.{on_none, on_word, on_refused}
 use Rattle.machine.proofs.Arriving.{critical_next}
 use Rattle.machine.proofs.RoundAnswers.{from_used, from_here, from_next, from_broken}
+use Rattle.machine.specs.declared.Refusal.{Refusal}
 use Rattle.machine.specs.declared.RoundsAnswer.{RoundsAnswer}
-use Rattle.cells.specs.View.{rows_of}
-use Rattle.cells.proofs.ViewLaws.{rows_length}
 use Rattle.rounds.specs.Promises.{GoesRound, Rounds}
-use Rattle.rounds.specs.declared.Done.{Done}
 
 -- ---- a round
 
@@ -74,18 +72,15 @@ on_stop t u n p w l ne e h =
     ∙ ap (λ (v : Table). record { refusal = refusal_of t (round_word t p); table = v })
     (sym (e ∙ refused_same t (round_word t p) ne))
 
--- the words of a round of the cells x led to y
-pub goes_round : (x y : List (List ℕ)) (a : Done) (v : ℕ)
-    → length y ≡ length x
-    → round_on (rows_of x) 0 (length x) ≡ record { refusal = v; table = rows_of y }
-    → a.refusal ≡ v
-    → (a.refusal ≡ 0 → a.occupied ≡ ltb 0 (critical (rows_of y)))
+-- the words of a round of the table x led to y
+pub goes_round : {x y : Table} (a : Result Bool Refusal)
+    → round_on x 0 (length x) ≡ record { refusal = refusal_in a; table = y }
+    → IfOk a (λ b. b ≡ ltb 0 (critical y))
     → GoesRound x y a
-goes_round x y a v l e h told =
-    let all = ap (round_on (rows_of x) 0) (rows_length x) ∙ e in
+goes_round a e told =
     record {
-      refusal_is = h ∙ sym (ap (λ (w : Went). w.refusal) all);
-      becomes = record { rows_are = sym (ap (λ (w : Went). w.table) all); size_is = l };
+      refusal_is = sym (ap (λ (w : Went). w.refusal) e);
+      becomes = sym (ap (λ (w : Went). w.table) e);
       told = told;
     }
 
@@ -126,9 +121,15 @@ whole t p e = ap (seen t) e
 -- ---- rounds
 
 -- somebody is at 30
-from_occupied : (b r : ℕ) (t : Table) → (critical t ≡ 0 → ⊥) → rounds_from b r t ≡ rounded r t
+pub from_occupied : (b r : ℕ) (t : Table) → (critical t ≡ 0 → ⊥) → rounds_from b r t ≡ rounded r t
 from_occupied zero r t n = from_used r t
 from_occupied (suc b) r t n = from_here b r t n
+
+-- none is left
+pub from_limit : (n r : ℕ) (t : Table) → r ≡ n → rounds_from (n - r) r t ≡ rounded n t
+from_limit n r t e =
+    let i : n - r ≡ 0 = omega arith in
+    ap (λ (b : ℕ). rounds_from b r t) i ∙ from_used r t ∙ ap (λ (k : ℕ). rounded k t) e
 
 -- one round of the n that are allowed
 pub from_turn : (n r : ℕ) (t u : Table)
@@ -157,51 +158,13 @@ from_cut n r t u v l z e ne h =
     ∙ from_broken (n - (r + 1)) r t z (λ k. ne (e ∙ k))
     ∙ ap₂ (λ (k : ℕ) (w : Table). broken k r w) (sym e) (sym h)
 
--- the loop's test fails, where the flag says whether somebody is at 30
-pub from_stop : (n r : ℕ) (t : Table) (flag : Bool)
-    → r ≤ n
-    → flag ≡ ltb 0 (critical t)
-    → (not flag && ltb r n) ≡ false
-    → rounds_from (n - r) r t ≡ rounded r t
-from_stop n r t true l e h = from_occupied (n - r) r t (λ z. absurd (omega (arith, ltb-true 0 (critical t) (sym e))))
-from_stop n r t false l e h =
-    let i : n - r ≡ 0 = omega (arith, ltb-false r n h) in ap (λ (b : ℕ). rounds_from b r t) i ∙ from_used r t
-
--- a flag as a number
-flag_is : (t : Table) (flag : Bool) → flag ≡ ltb 0 (critical t) → bool_byte flag ≡ occupied t
-flag_is t flag e = ap bool_byte e ∙ go (ltb 0 (critical t))
-  where
-    go : (b : Bool) → bool_byte b ≡ bit b
-    go true = refl
-    go false = refl
-
--- the rounds o of the cells x ended in y after r of them, by the refusal v or by none, and the flag tells whether
--- somebody is at 30 there
-pub rounds-ended : (x y : List (List ℕ)) (o : Rounded) (v r : ℕ) (flag : Bool)
-    → length y ≡ length x
-    → o ≡ broken v r (rows_of y)
-    → flag ≡ ltb 0 (critical (rows_of y))
-    → Rounds x o y (record { refusal = v; rounds = r; occupied = bool_byte flag })
-rounds-ended x y o v r flag l e h =
+-- the outcome o by another name
+pub ends : {x y : Table} {o k : Rounded} {a : RoundsAnswer} → o ≡ k → a ≡ k.answer → y ≡ k.table → Rounds x o y a
+ends e h g =
     record {
-      becomes = record { rows_are = sym (ap (λ (k : Rounded). k.table) e); size_is = l };
-      answer_is = ap (λ (k : ℕ). record { refusal = v; rounds = r; occupied = k }) (flag_is (rows_of y) flag h)
-          ∙ sym (ap (λ (k : Rounded). k.answer) e);
+      becomes = g ∙ sym (ap (λ (k : Rounded). k.table) e);
+      answer_is = h ∙ sym (ap (λ (k : Rounded). k.answer) e);
     }
-
--- a table that is refused with v
-pub rounds_stopped : (x : List (List ℕ)) (v : ℕ)
-    → rounds_of (rows_of x) ≡ unrounded v (rows_of x)
-    → Rounds x (rounds_of (rows_of x)) x (unrounded v (rows_of x)).answer
-rounds_stopped x v e =
-    record {
-      becomes = record { rows_are = sym (ap (λ (k : Rounded). k.table) e); size_is = refl };
-      answer_is = sym (ap (λ (k : Rounded). k.answer) e);
-    }
-
--- an outcome by another name
-pub rounds_as : {x y : List (List ℕ)} {o p : Rounded} {a : RoundsAnswer} → o ≡ p → Rounds x o y a → Rounds x p y a
-rounds_as {x} {y} {o} {p} {a} e h = subst (λ (k : Rounded). Rounds x k y a) e h
 
 -- ---- the number at 30
 

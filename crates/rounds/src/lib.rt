@@ -42,6 +42,7 @@ fn move_on(rows: &mut [Row], p: u16) -> Result<bool, Refusal>
 
 // One round: each process in number order is given its word, up to the first that is refused. Answers
 // whether some process is at 30: that is so after a whole round just where the word of one led there.
+#[tactic(auto, using(machine::proofs::SoundRows::sound_few))]
 fn round(rows: &mut [Row]) -> Result<bool, Refusal>
     requires { table_refusal rows.old ≡ 0 }
     ensures { GoesRound rows.old rows.new result }
@@ -63,6 +64,7 @@ fn round_limit(n: u16) -> u16
 
 // Rounds at a table that is known to be sound, which is not checked again. A round that a refused
 // word ends is not counted, and who is at 30 is asked again then.
+#[tactic(auto, using(machine::proofs::SoundRows::sound_few))]
 fn run_rounds(rows: &mut [Row]) -> RoundsAnswer
     requires { table_refusal rows.old ≡ 0 }
     ensures { Rounds rows.old (rounds_from (round_limit (length rows.old)) 0 rows.old) rows.new result }
@@ -96,6 +98,7 @@ fn answer(refusal: u16, rounds: u16, occupied: bool) -> RoundsAnswer
 // Rounds at a table of any size and content, until some process is at 30 after a round, the limit
 // is used up, or a word meets 15. 6 or 7 for the table, and no row is changed; no round where
 // nobody is at 20 to 24.
+#[tactic(auto, using(machine::proofs::SoundRows::sound_few))]
 pub fn rounds(rows: &mut [Row]) -> RoundsAnswer
     ensures { Rounds rows.old (rounds_of rows.old) rows.new result }
 {
