@@ -3,11 +3,12 @@
 #![tactic(auto)]
 
 ghost use Rattle.std.specs.Prelude.{◌≡◌};
+ghost use Rattle.machine.specs.Refusals.{refusal_in};
 ghost use Rattle.machine.specs.Runs.{counted, run_of};
 ghost use Rattle.runs.specs.Outcomes.{Runs, RunsTo};
 ghost use Rattle.runs.specs.Bounds.{Room, Checked, Runnable, RunsOn};
 
-use machine::{Event, Memory, Ran, Refusal, Row, Settings, SharedCell, Tally};
+use machine::{Event, Memory, Ran, Refusal, Row, Settings, SharedCell, Tally, refusal_number};
 use octets::Words;
 use steps::system::{System, fitting};
 
@@ -32,6 +33,17 @@ fn counted(event: Event, tally: Tally) -> Tally
     }
 }
 
+// The answer of a run that took so many words, the last of which used the cell.
+fn answer(taken: u32, ended: Result<(), Refusal>, cell: SharedCell) -> Ran
+    ensures { result ≡ record { taken = taken; refusal = refusal_in ended; cell = cell } }
+{
+    Ran {
+        taken,
+        refusal: refusal_number(ended) as u32,
+        cell,
+    }
+}
+
 // At most 8,192 words, in order, up to the first that is refused. The lent tally, which is zero at the
 // start, counts each accepted word.
 pub fn run_words<W: Words>(system: &mut System, words: W, tally: &mut Tally) -> Ran
@@ -45,20 +57,10 @@ pub fn run_words<W: Words>(system: &mut System, words: W, tally: &mut Tally) -> 
                 *tally = counted(told.event, *tally);
                 cell = told.cell;
             }
-            Err(refusal) => {
-                return Ran {
-                    taken: tally.words,
-                    refusal: u16::from(refusal) as u32,
-                    cell,
-                };
-            }
+            Err(refusal) => return answer(tally.words, Err(refusal), cell),
         }
     }
-    Ran {
-        taken: tally.words,
-        refusal: 0,
-        cell,
-    }
+    answer(tally.words, Ok(()), cell)
 }
 
 // What refuses a run before any word is taken: 6 or 7 for the table, then 18 for the settings, then 12
@@ -82,11 +84,7 @@ fn run_counted(rows: &mut [Row], words: &[u32], tally: &mut Tally, settings: Set
     *tally = Tally::ZERO;
     match check_run(rows, words, settings) {
         Ok(memory) => run_words(&mut System::new(rows, memory), words, tally),
-        Err(refusal) => Ran {
-            taken: 0,
-            refusal: u16::from(refusal) as u32,
-            cell: SharedCell::NONE,
-        },
+        Err(refusal) => answer(0, Err(refusal), SharedCell::NONE),
     }
 }
 

@@ -38,7 +38,7 @@ returns-in-Err g c =
       same_rows = s.same_rows ∙ v.same_rows;
       same_memory = s.memory ∙ v.same_memory;
       becomes = e.becomes;
-      ran_is = ap (λ (k : ℕ). record { taken = at.tally.words; refusal = k; cell = at.cell }) c.from.ensures ∙ e.ran_is;
+      ran_is = c.answer.ensures ∙ e.ran_is;
       tally_is = e.tally_is;
     }
 
@@ -77,6 +77,6 @@ returns g c =
       same_rows = v.same_rows;
       same_memory = v.same_memory;
       becomes = e.becomes;
-      ran_is = e.ran_is;
+      ran_is = c.answer-2.ensures ∙ e.ran_is;
       tally_is = e.tally_is;
     }
