@@ -2,10 +2,11 @@
 --
 --   over_none      past 40 nothing is a location
 --   mark_exact     no bit is lost where a location is put into a mask
+--   none_marked, next_marked  a mask that is filled from the first code on
 --   mask_set       a mask is the set of the locations that have P
 --   mask_marks     .. and marks them
 --   says_kind      a list of sets of kinds that says at every code what `allowed` says may be read for it
---   fits_right     the masks of the levels
+--   fits_above     every level above 0 is as level 1
 --
 -- Assumes nothing.
 use Prim.Native.Nat.{ℕ, ◌+◌, ◌*◌, ◌/◌, ◌%◌, ◌^◌, ◌≤◌, ◌<◌}
@@ -137,15 +138,6 @@ says_kind kinds i Look h = says_rule kinds i LOOK h (omega arith)
 says_kind kinds i Cancel h = says_rule kinds i CANCEL h (omega arith)
 
 -- ---- the level that goes with a location
-
-pub fits_right : (l v w m : ℕ)
-    → level_fits l v ≡ level_fits l w
-    → m ≡ mask_of (λ l. level_fits l v)
-    → marks m l ≡ located (λ l. level_fits l w) l
-fits_right l v w m e f =
-    ap (λ (m : ℕ). marks m l) f
-    ∙ mask_marks (λ l. level_fits l v) l
-    ∙ ap (λ (b : Bool). one_of l locations && b) e
 
 -- every level above 0 is as level 1
 pub fits_above : (l v : ℕ) → 0 < v → level_fits l 1 ≡ level_fits l v
