@@ -1,5 +1,5 @@
 // Whether a row is within its ranges, and whether its process competes (machine/specs/Tables.antt).
-ghost use Rattle.std.specs.Prelude.{◌≡◌, ◌&&◌, ◌≤◌, ◌<◌};
+ghost use Rattle.std.specs.Prelude.{◌≡◌, ◌&&◌, ◌≤◌, get_or};
 ghost use Rattle.machine.specs.Tables.{one_of, locations, level_fits, competes};
 ghost use Rattle.rows.specs.Bounds.{Full, RowFits};
 
@@ -26,11 +26,17 @@ pub fn location_fits(l: u16, v: u16) -> bool
     marked(fitting(1), l)
 }
 
+// The count of passes of process q over itself; 0 for a q of 16 or more.
+fn own_passes(q: u16, r: &Row) -> u16
+    ensures { result ≡ get_or r.now.passes q 0 }
+{
+    if q < 16 { r.passes[q as usize] } else { 0 }
+}
+
 // Whether row q of a table of n processes is within its ranges, but for its passes over processes
 // that are not there. `full` is the set of all n.
 pub fn row_fits(n: u16, full: u16, q: u16, r: &Row) -> bool
-    requires full { Full n full }
-    requires q_in { q < n }
+    requires { Full n full }
     ensures { RowFits n q r.now result }
 {
     ((r.act | r.bb) < 2)
@@ -39,7 +45,7 @@ pub fn row_fits(n: u16, full: u16, q: u16, r: &Row) -> bool
         & (r.turn < n)
         & ((q != 0) | (r.turn == 0))
         & location_fits(r.location, r.level)
-        & (r.passes[q as usize] == 0)
+        & (own_passes(q, r) == 0)
 }
 
 // Whether a process competes, at locations 21 to 30.

@@ -13,7 +13,7 @@ use machine::{Kind, Memory, Refusal, Row, Settings, Told};
 // kinds come first, each by one comparison of the word. Not all six do: five cases in a row become a
 // jump through a table, which is slower.
 #[inline(always)]
-pub(crate) fn advance(rows: &mut [Row], word: u32, memory: Memory) -> Result<Told, Refusal>
+pub fn advance_under(rows: &mut [Row], word: u32, memory: Memory) -> Result<Told, Refusal>
     requires { table_refusal rows.old ≡ 0 }
     ensures { StepsUnder (settings_of memory) rows.old word rows.new result }
 {
@@ -52,5 +52,5 @@ pub fn step(rows: &mut [Row], word: u32, settings: Settings) -> Result<Told, Ref
     ensures { StepsUnder settings rows.old word rows.new result }
 {
     let memory = fitting(rows, settings)?;
-    advance(rows, word, memory)
+    advance_under(rows, word, memory)
 }

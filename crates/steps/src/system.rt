@@ -5,7 +5,7 @@ ghost use Rattle.machine.specs.Tables.{table_refusal};
 ghost use Rattle.machine.specs.Settings.{settings_in};
 ghost use Rattle.steps.specs.Stepping.{checked};
 
-use crate::stepping::advance;
+use crate::stepping::advance_under;
 use machine::{Memory, Refusal, Row, Settings, Told};
 
 // The memory of the settings at a table that is sound; or what refuses every word there, the table or
@@ -54,6 +54,6 @@ impl<'a> System<'a> {
         ensures memory { self.new.memory ≡ self.old.memory }
         ensures step { StepsUnder (settings_of self.old.memory) self.old.rows.now word self.new.rows.now result }
     {
-        advance(self.rows, word, self.memory)
+        advance_under(self.rows, word, self.memory)
     }
 }

@@ -10,6 +10,6 @@ invariant_of-self c =
     let s = c.args.self.now in
     record {
       sound =
-          ap table_refusal c.advance.ensures.becomes
+          ap table_refusal c.advance_under.ensures.becomes
           ∙ under_keeps_sound (settings_of s.memory) s.rows.now c.args.word s.sound;
     }

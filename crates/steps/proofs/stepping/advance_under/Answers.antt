@@ -1,11 +1,11 @@
--- `stepping::advance` meets its contract: a word that names a process is its kind, taken. Assumes nothing.
+-- `stepping::advance_under` meets its contract: a word that names a process is its kind, taken. Assumes nothing.
 use mathlib.Core.Path.{sym, ◌∙◌}
 use native.Mathlib.Omega.{arith}
 use Rattle.machine.specs.Words.{STAY, COME, FLICKER, GO, LOOK, CANCEL}
 use Rattle.machine.proofs.SettingLaws.{others_free}
 use Rattle.steps.proofs.SettingLaws.{takes_free}
 use Rattle.steps.proofs.StepLaws.{kind-steps, process-steps, ready, taken_so, kind_is, kind_last}
-use Rattle.steps.proofs.stepping.advance.Goals as goal
+use Rattle.steps.proofs.stepping.advance_under.Goals as goal
 
 -- ---- no such process, or no kind
 
