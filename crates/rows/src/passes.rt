@@ -28,7 +28,7 @@ pub fn rest_clear(n: u16, a: [u16; 16]) -> bool
     for i in 0..16 {
         any |= a[i] * ((i as u16 + 16 - n) / 16);
     }
-    any < 1
+    any == 0
 }
 
 // Whether no count passes 65,535 with one more over each process in the set c.
@@ -40,7 +40,7 @@ pub fn raisable(c: u16, a: [u16; 16]) -> bool
     for i in 0..16 {
         any |= (a[i] / COUNT_LIMIT) * ((c >> i) % 2);
     }
-    any < 1
+    any == 0
 }
 
 // The counts with one more over each process in the set c.
