@@ -3,7 +3,8 @@
 --   lis_fits k e l   what the code asks of lis beside the mask; e is true where lis is empty
 --   allowed_with    the two are `allowed`
 --   allowed_plain   .. where lis does not matter
---   looks_not, looks_so   LOOK with an argument
+--   kind_tests      .. for each kind
+--   look_tests      LOOK with an argument
 --
 -- Assumes nothing.
 use Prim.Native.Nat.{ℕ, ◌≤◌, ◌<◌}
@@ -17,7 +18,7 @@ use Rattle.counting.specs.Sets.{has}
 use Rattle.counting.proofs.SetLaws.{has_zero}
 use Rattle.counting.proofs.TestLaws.{cond_same, every, same_at}
 use Rattle.machine.specs.Rows.{blank, with_location, with_lis}
-use Rattle.machine.specs.Words.{GO, LOOK, is_kind}
+use Rattle.machine.specs.Words.{STAY, COME, FLICKER, GO, LOOK, CANCEL, is_kind}
 use Rattle.machine.specs.Steps.{allowed}
 use Rattle.machine.specs.declared.Row.{Row}
 use Rattle.machine.proofs.KindLaws.{by_kind}
@@ -84,18 +85,40 @@ module _ (k m : ℕ) (r : Row) (kind : is_kind k ≡ true) (f : m ≡ mask_of (a
   abbrev lis_test : Bool
   lis_test = lis_fits k (eqb r.lis 0) r.location
 
-  pub allowed_with : (marks m r.location && lis_test) ≡ allowed k r
+  allowed_with : (marks m r.location && lis_test) ≡ allowed k r
   allowed_with =
       ap (λ (m : ℕ). marks m r.location && lis_test) f
       ∙ ap (λ (b : Bool). b && lis_test) (mask_marks (allowed_at k) r.location)
       ∙ computed_right k (eqb r.lis 0) r.location kind
       ∙ sym (allowed_stands k r)
 
-  pub allowed_plain : lis_test ≡ true → marks m r.location ≡ allowed k r
+  allowed_plain : lis_test ≡ true → marks m r.location ≡ allowed k r
   allowed_plain t =
       sym (and-true (marks m r.location))
       ∙ ap (λ (b : Bool). marks m r.location && b) (sym t)
       ∙ allowed_with
+
+-- .. for each kind
+pub stay_allowed : (m : ℕ) (r : Row) → m ≡ mask_of (allowed_at STAY) → marks m r.location ≡ allowed STAY r
+stay_allowed m r f = allowed_plain STAY m r refl f refl
+
+pub come_allowed : (m : ℕ) (r : Row) → m ≡ mask_of (allowed_at COME) → marks m r.location ≡ allowed COME r
+come_allowed m r f = allowed_plain COME m r refl f refl
+
+pub flicker_allowed : (m : ℕ) (r : Row) → m ≡ mask_of (allowed_at FLICKER) → marks m r.location ≡ allowed FLICKER r
+flicker_allowed m r f = allowed_plain FLICKER m r refl f refl
+
+pub cancel_allowed : (m : ℕ) (r : Row) → m ≡ mask_of (allowed_at CANCEL) → marks m r.location ≡ allowed CANCEL r
+cancel_allowed m r f = allowed_plain CANCEL m r refl f refl
+
+pub go_allowed : (m : ℕ) (r : Row) → m ≡ mask_of (allowed_at GO)
+    → (marks m r.location && (not (eqb r.location 22) || eqb r.lis 0)) ≡ allowed GO r
+go_allowed m r f = allowed_with GO m r refl f
+
+pub look_allowed : (m : ℕ) (r : Row) → m ≡ mask_of (allowed_at LOOK) → (marks m r.location && not (eqb r.lis 0)) ≡ allowed LOOK r
+look_allowed m r f = allowed_with LOOK m r refl f
+
+pub ruleset kind_tests = (stay_allowed, come_allowed, flicker_allowed, go_allowed, look_allowed, cancel_allowed)
 
 -- ---- LOOK with an argument
 
@@ -116,3 +139,5 @@ module _ (m : ℕ) (r : Row) (a : ℕ) (f : m ≡ mask_of (allowed_at LOOK)) whe
 
   pub looks_so : marks m r.location ≡ true → (allowed LOOK r && has r.lis a) ≡ has r.lis a
   looks_so e = ap (λ (b : Bool). b && has r.lis a) (look_is true e) ∙ member_some r.lis a
+
+pub ruleset look_tests = (looks_not, looks_so)

@@ -1,12 +1,12 @@
 -- Masks of locations.
 --
 --   over_none      past 40 nothing is a location
---   mark_exact     no bit is lost where a location is put into a mask
---   none_marked, next_marked  a mask that is filled from the first code on
+--   marking        no bit is lost where a location is put into a mask
+--   filling        a mask is filled from the first code on
 --   mask_set       a mask is the set of the locations that have P
 --   mask_marks     .. and marks them
 --   says_kind      a list of sets of kinds that says at every code what `allowed` says may be read for it
---   fits_above     every level above 0 is as level 1
+--   level_tests    .. and marks a location just where a level goes with it
 --
 -- Assumes nothing.
 use Prim.Native.Nat.{ℕ, ◌+◌, ◌*◌, ◌/◌, ◌%◌, ◌^◌, ◌≤◌, ◌<◌}
@@ -78,6 +78,10 @@ pub next_marked : (P : ℕ → Bool) (i : ℕ) → marks_to P (i + 1) ≡ marks_
 unfolding marks_to
 next_marked P i = sum_next (λ i. mark_of i (P (get_or locations i 0))) i
 
+pub ruleset marking = (location_low, mark_exact)
+
+pub ruleset filling = (none_marked, next_marked, mark_low)
+
 -- the locations that have P
 abbrev pub located : (ℕ → Bool) → ℕ → Bool
 located P l = one_of l locations && P l
@@ -142,3 +146,5 @@ says_kind kinds i Cancel h = says_rule kinds i CANCEL h (omega arith)
 -- every level above 0 is as level 1
 pub fits_above : (l v : ℕ) → 0 < v → level_fits l 1 ≡ level_fits l v
 fits_above l v h = sym (simp (lt-ltb 0 v h, ne_eqb v 0 (λ e. omega arith)))
+
+pub ruleset level_tests = (mask_marks, fits_above)

@@ -1,8 +1,7 @@
 -- Laws of what the code computes of counts of passes.
 --
---   none_yet, one_more    a loop that joins numbers finds whether all are 0
---   digit, raisable_by    the loop over counts at their limit finds whether there is room
---   raised_by         counts with a bit of the set added are `raised`
+--   joining           a loop that joins numbers finds whether all are 0, and so whether there is room
+--   raising           counts with a bit of the set added are `raised`
 --   passes_sound      the tests of a row's counts are `sound_passes`
 --   own_first         sound counts have none over their own process
 --   clear_none, clear_joined  none is past n among zeros; among joined counts where none is among both
@@ -97,6 +96,8 @@ raisable_by c a b low e =
     (λ i l.
     ap (λ (d : ℕ). ltb (get_or a i 0 / 65535 * d) 1) (digit c i) ∙ room_at (get_or a i 0) (has c i) (low i l))
 
+pub ruleset joining = (none_yet, one_more, reaches, raisable_by)
+
 -- ---- one more over each process in a set
 
 pub raised_by : (c : ℕ) (a b : List ℕ)
@@ -108,6 +109,8 @@ raised_by c a b e h =
     sym (up_to_all b 16 e)
     ∙ up_to_cong (λ i. get_or b i 0) (count_after c a) 16
     (λ i l. h i l ∙ ap (λ (d : ℕ). get_or a i 0 + d) (digit c i))
+
+pub ruleset raising = (digit, raised_by)
 
 -- ---- counts in range
 

@@ -9,6 +9,7 @@ use machine::{Kind, Row};
 
 // Whether a kind of word is allowed at a row. At 22 both GO and LOOK are, and lis decides; of the
 // other kinds the location says all. Each has a case, with a mask that is a constant.
+#[tactic(auto, using(crate::proofs::AllowedLaws::kind_tests))]
 pub fn allowed(kind: Kind, r: &Row) -> bool
     ensures { result ≡ allowed (kind_number kind) r.now }
 {
@@ -38,7 +39,7 @@ pub fn argument_fits(n: u16, kind: Kind, r: &Row, a: u16) -> bool
 
 // Whether LOOK at `a` is allowed at a row and `a` fits: a lis that has a member is not empty. Most
 // words pass, and which of the two a word fails is not asked here.
-#[tactic(auto, using(crate::proofs::AllowedLaws::looks_so, crate::proofs::AllowedLaws::looks_not))]
+#[tactic(auto, using(crate::proofs::AllowedLaws::look_tests))]
 pub fn looks(r: &Row, a: u16) -> bool
     ensures { result ≡ (allowed LOOK r.now && has r.now.lis a) }
 {

@@ -16,7 +16,7 @@ pub(crate) fn marked(mask: u64, l: u16) -> bool
 }
 
 // The location of a code as a mask, or the empty one.
-#[tactic(auto, using(crate::proofs::MaskLaws::location_low, crate::proofs::MaskLaws::mark_exact))]
+#[tactic(auto, using(crate::proofs::MaskLaws::marking))]
 fn mark(code: usize, on: bool) -> u64
     requires { code < 8 }
     ensures { result ≡ mark_of code on }
@@ -25,7 +25,7 @@ fn mark(code: usize, on: bool) -> u64
 }
 
 // The locations at which a kind of word is allowed, whatever lis is.
-#[tactic(auto, using(crate::proofs::MaskLaws::none_marked, crate::proofs::MaskLaws::next_marked, crate::proofs::MaskLaws::mark_low))]
+#[tactic(auto, using(crate::proofs::MaskLaws::filling))]
 pub(crate) fn places(kind: Kind) -> u64
     ensures { result ≡ mask_of (allowed_at (kind_number kind)) }
 {
@@ -37,7 +37,7 @@ pub(crate) fn places(kind: Kind) -> u64
 }
 
 // The locations that a level goes with.
-#[tactic(auto, using(crate::proofs::MaskLaws::none_marked, crate::proofs::MaskLaws::next_marked, crate::proofs::MaskLaws::mark_low))]
+#[tactic(auto, using(crate::proofs::MaskLaws::filling))]
 pub(crate) fn fitting(level: u16) -> u64
     ensures { result ≡ mask_of (λ l. level_fits l level) }
 {

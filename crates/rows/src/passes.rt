@@ -19,7 +19,7 @@ pub fn joined(a: [u16; 16], b: [u16; 16]) -> [u16; 16]
 }
 
 // Whether the counts over processes that are not below n are 0.
-#[tactic(auto, using(crate::proofs::PassLaws::none_yet, crate::proofs::PassLaws::one_more, crate::proofs::PassLaws::reaches))]
+#[tactic(auto, using(crate::proofs::PassLaws::joining))]
 pub fn rest_clear(n: u16, a: [u16; 16]) -> bool
     requires { n ≤ 16 }
     ensures { Clear n a result }
@@ -28,11 +28,11 @@ pub fn rest_clear(n: u16, a: [u16; 16]) -> bool
     for i in 0..16 {
         any |= a[i] * ((i as u16 + 16 - n) / 16);
     }
-    any < 1
+    any == 0
 }
 
 // Whether no count passes 65,535 with one more over each process in the set c.
-#[tactic(auto, using(crate::proofs::PassLaws::none_yet, crate::proofs::PassLaws::one_more, crate::proofs::PassLaws::raisable_by))]
+#[tactic(auto, using(crate::proofs::PassLaws::joining))]
 pub fn raisable(c: u16, a: [u16; 16]) -> bool
     ensures { result ≡ raisable c a }
 {
@@ -40,11 +40,11 @@ pub fn raisable(c: u16, a: [u16; 16]) -> bool
     for i in 0..16 {
         any |= (a[i] / COUNT_LIMIT) * ((c >> i) % 2);
     }
-    any < 1
+    any == 0
 }
 
 // The counts with one more over each process in the set c.
-#[tactic(auto, using(crate::proofs::PassLaws::digit, crate::proofs::PassLaws::raised_by, machine::proofs::PassLaws::raisable_at))]
+#[tactic(auto, using(crate::proofs::PassLaws::raising, machine::proofs::PassLaws::raisable_at))]
 pub(crate) fn raised(c: u16, a: [u16; 16]) -> [u16; 16]
     requires { raisable c a ≡ true }
     ensures { result ≡ raised c a }
