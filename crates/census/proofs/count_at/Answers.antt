@@ -1,19 +1,29 @@
--- `count_at` meets its contract. Assumes nothing.
-use Prim.Native.Nat.{ℕ}
-use Rattle.std.proofs.Common.{rules, ◌∙◌}
-use Rattle.std.proofs.lemmas.Iterator.{YieldsList-from_slice, YieldsList-from_map}
-use Rattle.std.proofs.lemmas.Iterator.Consumers.{sum_by_from_yields_List}
-use Rattle.counting.specs.Sums.{bit}
-use Rattle.machine.specs.declared.Row.{Row}
+-- `count_at` meets its contract: how many of the rows passed are there, at each turn of the loop. Assumes nothing.
+use mathlib.Core.Path.{◌≡◌, refl, ap, sym, ◌∙◌}
+use native.Mathlib.Omega.{arith}
+use lib.ListN.{length}
+use Rattle.counting.specs.Sums.{count}
+use Rattle.counting.proofs.CountLaws.{count_zero}
+use Rattle.machine.specs.Tables.{row}
 use Rattle.census.specs.Series.{is_at}
-use Rattle.census.proofs.RowLaws.{sum_count}
+use Rattle.census.proofs.SeriesLaws.{count_fits, count_more}
 use Rattle.census.proofs.count_at.Goals as goal
+
+pub loop-r-init : goal.loop-r-init
+loop-r-init c = sym (count_zero _)
+
+pub overflow_add-s : goal.overflow_add-s
+overflow_add-s c =
+    let l = c.loop-r in
+    record { fits = count_fits (is_at c.args.low c.args.high) c.args.rows.now l.r-index (omega arith) (omega arith) _ l.s l.invariant }
+
+pub loop-r-preserved : goal.loop-r-preserved
+loop-r-preserved c =
+    let l = c.loop-r in
+    count_more (is_at c.args.low c.args.high) c.args.rows.now l.r-index (omega arith) _ l.s _ l.invariant refl
 
 pub returns : goal.returns
 returns c =
     let t = c.args.rows.now in
-    let P = is_at c.args.low c.args.high in
-    let h : Row → ℕ = λ r. bit (P r) in
-    sum_by_from_yields_List h t c.map.result c.sum.result c.sum.ensures.ran
-    (YieldsList-from_map _ h (YieldsList-from_slice t cc) c.map.ensures.closure (λ x r q k. search rules))
-    ∙ sum_count P t
+    let e : c.loop-r.r-index ≡ length t = omega arith in
+    c.loop-r.invariant ∙ ap (count (λ i. is_at c.args.low c.args.high (row t i))) e

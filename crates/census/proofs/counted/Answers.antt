@@ -6,12 +6,12 @@ use native.Mathlib.Omega.{arith}
 use lib.ListN.{length, get_or}
 use borrow.Author.Rules.{rules}
 use Rattle.counting.proofs.CountLaws.{count_zero}
-use Rattle.machine.specs.Census.{critical, waiting}
+use Rattle.machine.specs.Census.{is_critical, critical, waiting}
 use Rattle.machine.proofs.SoundRows.{sound_few}
 use Rattle.census.specs.Series.{below_from, held_from, figures_in}
 use Rattle.census.proofs.SeriesLaws.{series_of, critical_by, series_zero, series_small, below_fits, held_fits}
-use Rattle.census.proofs.SeriesLaws.{critical_next, critical_away, critical_out, below_next, below_out}
-use Rattle.census.proofs.SeriesLaws.{held_next, held_none_next, held_out, critical_fits}
+use Rattle.census.proofs.SeriesLaws.{count_more, critical_away, critical_out, below_next, below_out}
+use Rattle.census.proofs.SeriesLaws.{held_next, held_none_next, held_out, count_fits}
 use Rattle.census.proofs.SeriesLaws.{below-figures, held-figures, all_compete}
 use Rattle.census.proofs.CensusLaws.{census_counted}
 use Rattle.census.proofs.counted.Goals as goal
@@ -35,8 +35,11 @@ add-requires c =
 
 pub overflow_add-at_30 : goal.overflow_add-at_30
 overflow_add-at_30 c =
+    let t = c.args.rows.now in
     let l = c.loop-r in
-    record { fits = critical_fits c.args.rows.now c.requires l.r-index (omega arith) _ l.at_30 l.invariant.0 }
+    record {
+      fits = count_fits is_critical t l.r-index (omega arith) (sound_few t c.requires) _ l.at_30 l.invariant.0;
+    }
 
 pub add-requires-then-r-eq0 : goal.add-requires-then-r-eq0
 add-requires-then-r-eq0 c =
@@ -58,7 +61,7 @@ loop-r-preserved c =
     elim c.if-competes.branch [
       | then-competes+then-r-eq0 w ↦
           let so = sym c.competes.ensures ∙ w.if-competes.true in (
-            critical_next t c.requires l.r-index (omega arith) _ l.at_30 _ v.0 w.at_30-is,
+            count_more is_critical t l.r-index (omega arith) _ l.at_30 _ v.0 w.at_30-is,
             below_next t c.requires l.r-index (omega arith) _ l.below _ v.1 so (w.below-is ∙ w.add.ensures),
             held_none_next t c.requires l.r-index (omega arith) _ l.held _ v.2 so w.if-r-eq0.true
                 (w.held-is ∙ w.add-then-r-eq0.ensures),
