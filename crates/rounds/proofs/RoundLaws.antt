@@ -1,11 +1,12 @@
 -- Rounds move by move and round by round, and what the answer says of them.
 --
---   on_next, on_end, on_stop                    one word more, the last one, and one that is refused
---   goes_round                                  so much of a round
---   none_yet, one_more, whole                   who is at 30 of those that have moved
---   from_turn, from_cut, from_occupied, from_limit    one round more, one that is broken, and none
---   ends                                        what the answer says of them
---   some_is, none_is                            what the code asks of the number at 30
+--   on_next, on_end, on_stop      one word more, the last one, and one that is refused
+--   goes_round                    so much of a round
+--   none_yet, one_more, whole     who is at 30 of those that have moved
+--   from_occupied, from_limit     no round more: somebody is at 30, or the limit is used up
+--   from_turn, from_cut           one round more, and one that is broken
+--   ends                          what the answer says of them
+--   some_is, none_is              what the code asks of the number at 30
 --
 -- Assumes nothing.
 use Prim.Native.Nat.{ℕ, zero, suc, ◌+◌, ◌-◌, ◌≤◌, ◌<◌}
@@ -23,8 +24,7 @@ use Rattle.machine.specs.Refusals.{refusal_in}
 use Rattle.machine.specs.Tables.{Table, row, table_refusal}
 use Rattle.machine.specs.Steps.{refusal_of, after_word}
 use Rattle.machine.specs.Census.{is_critical, critical}
-use Rattle.machine.specs.Rounds.{round_word, Went, round_on, Rounded, rounded, broken}
-use Rattle.machine.specs.Rounds.{rounds_from}
+use Rattle.machine.specs.Rounds.{round_word, Went, round_on, Rounded, rounded, broken, rounds_from}
 use Rattle.machine.proofs.Accepted.{refused_same}
 use Rattle.machine.proofs.RoundLaws.{Move, process_moves_on}
 use Rattle.machine.proofs.BrokenRounds.{on_none, on_word, on_refused}

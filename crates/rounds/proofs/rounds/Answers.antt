@@ -18,8 +18,7 @@ returns-then-count_at-eq0 c =
     let x = c.args.rows.now in
     let at-30 = some_is c.critical.ensures in
     ends (rounds_none x (sym c.in_default.ensures) (sym c.count_at.ensures ∙ c.if-count_at-eq0.true))
-    (rw at-30 at c.answer-then-count_at-eq0.ensures)
-    refl
+    (rw at-30 at c.answer-then-count_at-eq0.ensures) refl
 
 pub returns : goal.returns
 returns c =

@@ -13,9 +13,7 @@ returns-then-occupied c =
     let at = c.loop-r in
     let v = at.invariant in
     let there = sym c.if-occupied.true ∙ v.seen in
-    ends (v.goes_on ∙ from_occupied _ at.r at.rows there)
-    (rw (sym there) c.answer.ensures)
-    refl
+    ends (v.goes_on ∙ from_occupied _ at.r at.rows there) (rw (sym there) c.answer.ensures) refl
 
 -- a word of the round is refused
 pub returns-in-Err : goal.returns-in-Err
@@ -27,10 +25,9 @@ returns-in-Err c =
     let m = c.in-Err.ensures in
     let nobody = none_is _ (sym v.seen ∙ c.if-occupied.false) in
     let at-30 = some_is c.critical.ensures in
-    let cut = from_cut _ at.r at.rows c.loop-r-test.true nobody (why ∙ m.refusal_is) (λ z. number_some e (sym why ∙ z)) m.becomes in
-    ends (v.goes_on ∙ cut)
-    (rw at-30 at c.answer-in-Err.ensures)
-    refl
+    let cut = from_cut _ at.r at.rows c.loop-r-test.true nobody (why ∙ m.refusal_is)
+    (λ z. number_some e (sym why ∙ z)) m.becomes in
+    ends (v.goes_on ∙ cut) (rw at-30 at c.answer-in-Err.ensures) refl
 
 pub loop-r-preserved : goal.loop-r-preserved
 loop-r-preserved c =
@@ -51,5 +48,4 @@ returns c =
     let v = at.invariant in
     let n = c.round_limit-limit.result in
     ends (v.goes_on ∙ from_limit n at.r at.rows (omega (arith, at.auto.r-end, c.loop-r-test.false)))
-    (rw v.seen at c.answer-2.ensures)
-    refl
+    (rw v.seen at c.answer-2.ensures) refl
