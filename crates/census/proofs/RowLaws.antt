@@ -1,11 +1,12 @@
 -- The rows that have a property, counted in order and by their numbers. Assumes nothing.
 use Prim.Native.Nat.{ℕ, zero, suc, ◌+◌}
-use mathlib.Core.Path.{◌≡◌, sym, ap, ◌∙◌}
-use mathlib.Core.Bool.{Bool, true, false, cond}
+use mathlib.Core.Path.{◌≡◌, ◌∙◌}
+use mathlib.Core.Bool.{Bool}
 use mathlib.Core.List.{[], ◌∷◌}
 use native.Mathlib.Omega.{arith}
 use lib.ListN.{length}
-use Rattle.std.specs.List.{filter}
+use Rattle.std.specs.List.{fold, sum_by}
+use native.Mathlib.Nat.{zero-add}
 use Rattle.counting.specs.Sums.{bit, count}
 use Rattle.counting.proofs.CountLaws.{count_zero, count_suc}
 use Rattle.machine.specs.Tables.{Table, row}
@@ -18,13 +19,10 @@ count_first P zero = omega (arith, count_suc P 0, count_zero P, count_zero (λ q
 count_first P (suc n) =
     omega (arith, count_suc P (suc n), count_first P n, count_suc (λ q. P (suc q)) n)
 
-kept : (b : Bool) (r : Row) (t : Table) → length (cond b (r ∷ t) t) ≡ bit b + length t
-kept true r t = omega arith
-kept false r t = omega arith
+sum_from : (P : Row → Bool) (a : ℕ) (t : Table) → fold (λ s r. s + bit (P r)) a t ≡ a + count_rows P t
+sum_from P a [] = omega (arith, count_zero (λ q. P (row [] q)))
+sum_from P a (r ∷ t) =
+    sum_from P (a + bit (P r)) t ∙ omega (arith, count_first (λ q. P (row (r ∷ t) q)) (length t))
 
-pub filter_count : (P : Row → Bool) (t : Table) → length (filter P t) ≡ count_rows P t
-filter_count P [] = sym (count_zero _)
-filter_count P (r ∷ t) =
-    kept (P r) r (filter P t)
-    ∙ ap (λ (n : ℕ). bit (P r) + n) (filter_count P t)
-    ∙ sym (count_first (λ q. P (row (r ∷ t) q)) (length t))
+pub sum_count : (P : Row → Bool) (t : Table) → sum_by (λ r. bit (P r)) t ≡ count_rows P t
+sum_count P t = sum_from P 0 t ∙ zero-add (count_rows P t)

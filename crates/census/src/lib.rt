@@ -20,8 +20,8 @@ pub fn count_at(rows: &[Row], low: u16, high: u16) -> u16
     ensures { result ≡ count_rows (is_at low high) rows.now }
 {
     rows.iter()
-        .filter(|r| (low <= r.location) & (r.location <= high))
-        .count() as u16
+        .map(|r| ((low <= r.location) & (r.location <= high)) as u16)
+        .sum()
 }
 
 // How many processes are in the critical section, at 30.

@@ -1,4 +1,4 @@
--- What a list of words does to cells (MANUAL, "Lists of words"; demand 3).
+-- What a list of words does to a table (MANUAL, "Lists of words"; demand 3).
 --
 --   Listed m x ws y  <=>  the list ws, given to the step under the settings m word by word and going on past refused
 --                         words, made y of the table x; and from a fresh table at most k processes are held at k, for
@@ -12,7 +12,7 @@ use Rattle.machine.specs.Census.{held, critical}
 use Rattle.machine.specs.declared.Settings.{Settings}
 
 pub record Listed (m : Settings) (x : Table) (ws : List ℕ) (y : Table) : Type 0 where
-  -- the table is the one that the words name, and has as many rows
+  -- the table is the one that the words name
   pub becomes : y ≡ list_under m x ws
   -- the counts
   pub held_most : fresh x ≡ true → (k : ℕ) → held k y ≤ k

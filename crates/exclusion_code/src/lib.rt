@@ -3,8 +3,8 @@
 
 ghost use Rattle.exclusion_code.specs.Lists.{Listed};
 
-use machine::{Memory, Row, Settings};
-use steps::system::System;
+use machine::{Row, Settings};
+use steps::system::{System, fitting};
 
 // Hands every word of a list to the step under settings, in order, going on past refused words. The
 // table and the settings are checked once: a sound table stays sound, and an unsound one refuses every
@@ -12,14 +12,10 @@ use steps::system::System;
 pub fn step_all(rows: &mut [Row], words: &[u32], settings: Settings)
     ensures { Listed settings rows.old words.now rows.new }
 {
-    if tables::check(rows).is_err() {
-        return;
-    }
-    let Ok(memory) = Memory::try_from(settings) else {
-        return;
-    };
-    let mut system = System::new(rows, memory);
-    for &word in words {
-        let _told = system.advance(word);
+    if let Ok(memory) = fitting(rows, settings) {
+        let mut system = System::new(rows, memory);
+        for &word in words {
+            let _ = system.advance(word);
+        }
     }
 }

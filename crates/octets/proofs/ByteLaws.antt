@@ -7,8 +7,11 @@ use lib.ListN.{length, get_or, take, drop}
 use lib.Pow.{recompose, mod-pow-add}
 use Rattle.machine.specs.Bytes.{words_in, bytes_of}
 use Rattle.counting.specs.Placing.{placed}
-use Rattle.octets.specs.Words.{word_of}
 use Rattle.counting.proofs.PlacingLaws.{take_first}
+
+-- the word of four bytes, lowest first
+abbrev pub word_of : ℕ → ℕ → ℕ → ℕ → ℕ
+word_of a b c d = a + b * 2 ^ 8 + c * 2 ^ 16 + d * 2 ^ 24
 
 -- four times i, as the bytes are counted
 unfoldable pub fours : ℕ → ℕ

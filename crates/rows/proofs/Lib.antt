@@ -1,6 +1,5 @@
 -- Laws of what the code computes of a row.
 pub mod MaskLaws
 pub mod AllowedLaws
-pub mod CodeLaws
 pub mod SoundLaws
 pub mod PassLaws

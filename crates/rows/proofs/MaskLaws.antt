@@ -2,10 +2,11 @@
 --
 --   over_none      past 40 nothing is a location
 --   mark_exact     no bit is lost where a location is put into a mask
+--   none_marked, next_marked  a mask that is filled from the first code on
 --   mask_set       a mask is the set of the locations that have P
 --   mask_marks     .. and marks them
 --   says_kind      a list of sets of kinds that says at every code what `allowed` says may be read for it
---   fits_right     the masks of the levels
+--   fits_above     every level above 0 is as level 1
 --
 -- Assumes nothing.
 use Prim.Native.Nat.{ℕ, ◌+◌, ◌*◌, ◌/◌, ◌%◌, ◌^◌, ◌≤◌, ◌<◌}
@@ -18,10 +19,12 @@ use native.Mathlib.Omega.{arith}
 use lib.Dec.{eqb, ltb}
 use lib.ListN.{get_or}
 use denote.Enum.Declared.{tag_of}
+use lib.Pow.{pow_mono}
 use mir.Val.{bool_byte}
 use borrow.Author.Tests.{ltb-true, lt-ltb, le-ltb, ne_eqb}
 use Rattle.counting.specs.Sums.{sum}
 use Rattle.counting.specs.Sets.{has, set_of}
+use Rattle.counting.proofs.SumLaws.{sum_next}
 use Rattle.counting.proofs.SetLaws.{has-set_of, has_over, set_of_lt}
 use Rattle.counting.proofs.BitLaws.{one_shl}
 use Rattle.counting.proofs.TestLaws.{split, every, every_at, same_at}
@@ -30,7 +33,7 @@ use Rattle.machine.specs.Words.{STAY, COME, FLICKER, GO, LOOK, CANCEL, kind_numb
 use Rattle.machine.specs.declared.Kind.{Kind}
 use Rattle.machine.specs.declared.Kind.TheVariants.{Stay, Come, Flicker, Go, Look, Cancel}
 use Rattle.machine.specs.contracts.Kind.{the_type}
-use Rattle.rows.specs.Masks.{mask_of, allowed_at, Mark}
+use Rattle.rows.specs.Masks.{mark_of, marks_to, mask_of, allowed_at}
 
 -- ---- past the last location
 
@@ -53,23 +56,34 @@ module _ (l : ℕ) (h : 41 ≤ l) where
 
 -- ---- masks
 
-pub location_low : (i : ℕ) → i < 8 → get_or locations i 0 < 64
+pub location_low : (i : ℕ) → i < 8 → get_or locations i 0 < 41
 unfolding every
-location_low i h = ltb-true (get_or locations i 0) 64 (every_at (λ i. ltb (get_or locations i 0) 64) 8 refl i h)
+location_low i h = ltb-true (get_or locations i 0) 41 (every_at (λ i. ltb (get_or locations i 0) 41) 8 refl i h)
 
 -- no bit is lost where a location is put into a mask
-pub mark_exact : (i : ℕ) (b : Bool) → i < 8 → Mark i b (bool_byte b * 2 ^ get_or locations i 0 % 2 ^ 64)
-mark_exact i true h =
-    let e = one_shl 64 (get_or locations i 0) (location_low i h) in
-    record { is = omega arith; low = omega arith }
-mark_exact i false h = record { is = omega arith; low = omega arith }
+pub mark_exact : (i : ℕ) (b : Bool) → i < 8 → bool_byte b * 2 ^ get_or locations i 0 % 2 ^ 64 ≡ mark_of i b
+mark_exact i true h = let e = one_shl 64 (get_or locations i 0) (omega (arith, location_low i h)) in omega arith
+mark_exact i false h = omega arith
+
+pub mark_low : (i : ℕ) (b : Bool) → i < 8 → mark_of i b ≤ 2 ^ 40
+mark_low i true h = let l = location_low i h in omega (arith, pow_mono {i = get_or locations i 0} {j = 40} (omega arith))
+mark_low i false h = omega arith
+
+-- a mask that is filled from the first code on
+pub none_marked : (P : ℕ → Bool) → marks_to P 0 ≡ 0
+unfolding marks_to sum
+none_marked P = refl
+
+pub next_marked : (P : ℕ → Bool) (i : ℕ) → marks_to P (i + 1) ≡ marks_to P i + mark_of i (P (get_or locations i 0))
+unfolding marks_to
+next_marked P i = sum_next (λ i. mark_of i (P (get_or locations i 0))) i
 
 -- the locations that have P
 abbrev pub located : (ℕ → Bool) → ℕ → Bool
 located P l = one_of l locations && P l
 
 pub mask_set : (P : ℕ → Bool) → mask_of P ≡ set_of (located P) 41
-unfolding set_of sum
+unfolding marks_to set_of sum
 mask_set P = omega arith
 
 -- what `marked` computes
@@ -124,15 +138,6 @@ says_kind kinds i Look h = says_rule kinds i LOOK h (omega arith)
 says_kind kinds i Cancel h = says_rule kinds i CANCEL h (omega arith)
 
 -- ---- the level that goes with a location
-
-pub fits_right : (l v w m : ℕ)
-    → level_fits l v ≡ level_fits l w
-    → m ≡ mask_of (λ l. level_fits l v)
-    → marks m l ≡ located (λ l. level_fits l w) l
-fits_right l v w m e f =
-    ap (λ (m : ℕ). marks m l) f
-    ∙ mask_marks (λ l. level_fits l v) l
-    ∙ ap (λ (b : Bool). one_of l locations && b) e
 
 -- every level above 0 is as level 1
 pub fits_above : (l v : ℕ) → 0 < v → level_fits l 1 ≡ level_fits l v

@@ -38,6 +38,7 @@ pub fn argument_fits(n: u16, kind: Kind, r: &Row, a: u16) -> bool
 
 // Whether LOOK at `a` is allowed at a row and `a` fits: a lis that has a member is not empty. Most
 // words pass, and which of the two a word fails is not asked here.
+#[tactic(auto, using(crate::proofs::AllowedLaws::looks_so, crate::proofs::AllowedLaws::looks_not))]
 pub fn looks(r: &Row, a: u16) -> bool
     ensures { result ≡ (allowed LOOK r.now && has r.now.lis a) }
 {

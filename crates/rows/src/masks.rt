@@ -1,12 +1,12 @@
 // Sets of locations as masks: bit l stands for location l. They are made from machine::LOCATIONS and
-// machine::ALLOWED at constant codes: an array that is indexed by a variable would be built anew at
-// every word. Of a constant kind the compiler computes them.
-ghost use Rattle.std.specs.Prelude.{◌≡◌, ◌&&◌, eqb, ltb, get_or, ◌/◌, ◌%◌, ◌^◌, ◌<◌};
-ghost use Rattle.machine.specs.Tables.{locations, level_fits};
+// machine::ALLOWED by loops over the eight codes, which the compiler unrolls: of a constant kind or level
+// it computes the mask. A test of a row is then one shift, and no array is indexed by a variable.
+ghost use Rattle.std.specs.Prelude.{◌≡◌, ◌&&◌, eqb, ltb, ◌/◌, ◌%◌, ◌^◌, ◌<◌};
+ghost use Rattle.machine.specs.Tables.{level_fits};
 ghost use Rattle.machine.specs.Words.{kind_number};
-ghost use Rattle.rows.specs.Masks.{mask_of, allowed_at, Mark};
+ghost use Rattle.rows.specs.Masks.{mark_of, mask_of, allowed_at};
 
-use machine::Kind;
+use machine::{ALLOWED, Kind, LOCATIONS};
 
 // Whether bit l of a mask is set; a mask has bits below 64 only.
 pub(crate) fn marked(mask: u64, l: u16) -> bool
@@ -16,57 +16,36 @@ pub(crate) fn marked(mask: u64, l: u16) -> bool
 }
 
 // The location of a code as a mask, or the empty one.
+#[tactic(auto, using(crate::proofs::MaskLaws::location_low, crate::proofs::MaskLaws::mark_exact))]
 fn mark(code: usize, on: bool) -> u64
     requires { code < 8 }
-    ensures { Mark code on result }
+    ensures { result ≡ mark_of code on }
 {
-    (on as u64) << machine::LOCATIONS[code]
-}
-
-// The location of a code where a kind of word is allowed there, whatever lis is.
-fn place(code: usize, kind: Kind) -> u64
-    requires { code < 8 }
-    ensures { Mark code (allowed_at (kind_number kind) (get_or locations code 0)) result }
-{
-    mark(code, (machine::ALLOWED[code] >> (kind as u16)) % 2 == 1)
+    (on as u64) << LOCATIONS[code]
 }
 
 // The locations at which a kind of word is allowed, whatever lis is.
+#[tactic(auto, using(crate::proofs::MaskLaws::none_marked, crate::proofs::MaskLaws::next_marked, crate::proofs::MaskLaws::mark_low))]
 pub(crate) fn places(kind: Kind) -> u64
     ensures { result ≡ mask_of (allowed_at (kind_number kind)) }
 {
-    place(0, kind)
-        + place(1, kind)
-        + place(2, kind)
-        + place(3, kind)
-        + place(4, kind)
-        + place(5, kind)
-        + place(6, kind)
-        + place(7, kind)
-}
-
-// The location of a code where a level goes with it.
-fn fit(code: usize, level: u16) -> u64
-    requires { code < 8 }
-    ensures { Mark code (level_fits (get_or locations code 0) level) result }
-{
-    let l = machine::LOCATIONS[code];
-    mark(
-        code,
-        (!((22 <= l) & (l <= 24)) | (0 < level)) & ((l != 30) | (level == 0)),
-    )
+    let mut mask = 0;
+    for code in 0..8 {
+        mask += mark(code, (ALLOWED[code] >> kind as u16) % 2 == 1);
+    }
+    mask
 }
 
 // The locations that a level goes with.
+#[tactic(auto, using(crate::proofs::MaskLaws::none_marked, crate::proofs::MaskLaws::next_marked, crate::proofs::MaskLaws::mark_low))]
 pub(crate) fn fitting(level: u16) -> u64
     ensures { result ≡ mask_of (λ l. level_fits l level) }
 {
-    fit(0, level)
-        + fit(1, level)
-        + fit(2, level)
-        + fit(3, level)
-        + fit(4, level)
-        + fit(5, level)
-        + fit(6, level)
-        + fit(7, level)
+    let mut mask = 0;
+    for code in 0..8 {
+        let l = LOCATIONS[code];
+        let fits = (!((22 <= l) & (l <= 24)) | (0 < level)) & ((l != 30) | (level == 0));
+        mask += mark(code, fits);
+    }
+    mask
 }

@@ -4,24 +4,10 @@ ghost use Rattle.std.specs.Prelude.{◌≡◌, true, ◌<◌};
 ghost use Rattle.sets.specs.Bounds.{Among};
 ghost use Rattle.machine.specs.Rows.{with_location, with_act};
 ghost use Rattle.machine.specs.Shared.{asks_turn};
-ghost use Rattle.machine.specs.Steps.{entered, started, looked, reconsidered, pushed, forgets, raisable};
+ghost use Rattle.machine.specs.Steps.{entered, started, looked, reconsidered, pushed, raisable};
 
 use crate::passes::raised;
 use machine::Row;
-
-// To a location, with everything else kept.
-pub fn moved_to(l: u16, r: Row) -> Row
-    ensures { result ≡ with_location l r }
-{
-    Row { location: l, ..r }
-}
-
-// FLICKER at 20 and 40: act becomes `a`.
-pub fn flicker_act(a: u16, r: Row) -> Row
-    ensures { result ≡ with_act a r }
-{
-    Row { act: a, ..r }
-}
 
 // LOOK at q, whose act is given: q leaves lis, and est too where its act is 0.
 #[tactic(auto, unfolding(machine::specs::Steps::looked))]
@@ -131,21 +117,6 @@ pub fn left(r: Row) -> Row
     Row {
         location: 10,
         act: 0,
-        ..r
-    }
-}
-
-// GO at 30 of p, each row: p leaves ahead, and the passes over p are forgotten.
-#[tactic(auto, unfolding(machine::specs::Steps::forgets))]
-pub fn forgotten(p: u16, r: Row) -> Row
-    requires { p < 16 }
-    ensures { result ≡ forgets p r }
-{
-    let mut passes = r.passes;
-    passes[p as usize] = 0;
-    Row {
-        ahead: sets::removed(r.ahead, p),
-        passes,
         ..r
     }
 }

@@ -14,7 +14,9 @@ pub fn full_set(n: u16) -> u16
     ((1u32 << n) - 1) as u16
 }
 
-// Whether location l is one of the eight and level v goes with it.
+// Whether location l is one of the eight and level v goes with it. Each level above 0 is as 1 here: of a
+// level that is a constant the mask is one.
+#[tactic(auto, using(crate::proofs::MaskLaws::mask_marks, crate::proofs::MaskLaws::fits_above))]
 pub fn location_fits(l: u16, v: u16) -> bool
     ensures { result ≡ (one_of l locations && level_fits l v) }
 {

@@ -1,4 +1,4 @@
 -- Laws of runs.
 pub mod RunLaws
-pub mod StandLaws
+pub mod CheckLaws
 pub mod OneByOne

@@ -2,8 +2,9 @@
 --
 --   run_more, run_stop, run_end      a word that is accepted, one that is refused, and no word left
 --   run_turn, run_halt, run_past     the same at word i of a list
+--   takes, stops                     a word of a list that the step accepted, or refused
 --   counted_comes, counted_arrivals  how a word counts
---   runs_ended, runs_as              what the answer of a run says of its outcome
+--   ends_so                          what the answer of a run says of its outcome
 --
 -- Assumes nothing.
 use Prim.Native.Nat.{ℕ, suc, ◌+◌, ◌≤◌, ◌<◌}
@@ -16,6 +17,8 @@ use lib.Dec.{eqb}
 use lib.ListN.{length, get_or, drop}
 use lib.Seq.{drop-cons, drop-length}
 use borrow.Author.Tests.{eq-eqb, ne_eqb}
+use Rattle.std.specs.Prelude.{Ok, Err}
+use Rattle.machine.specs.Refusals.{number}
 use Rattle.machine.specs.Tables.{Table}
 use Rattle.machine.specs.Steps.{after_word, event_of, cell_of}
 use Rattle.machine.specs.Settings.{refusal_under, after_under}
@@ -25,10 +28,12 @@ use Rattle.machine.specs.declared.Event.TheVariants.{Quiet, Come, Arrival, Depar
 use Rattle.machine.specs.declared.Settings.{Settings}
 use Rattle.machine.specs.declared.SharedCell.{SharedCell}
 use Rattle.machine.specs.declared.Tally.{Tally}
-use Rattle.machine.proofs.SettingTheorems.{refused_under}
-use Rattle.cells.specs.View.{rows_of}
-use Rattle.runs.specs.Outcomes.{answered, Runs}
-use Rattle.runs.specs.declared.RunAnswer.{RunAnswer}
+use Rattle.machine.specs.declared.Refusal.{Refusal}
+use Rattle.machine.specs.declared.Told.{Told}
+use Rattle.machine.proofs.AnswerLaws.{under_moved, under_refused}
+use Rattle.machine.proofs.SettingTheorems.{refused_under, accepted_same}
+use Rattle.steps.specs.Stepping.{StepsUnder}
+use Rattle.machine.specs.declared.Ran.{Ran}
 
 -- ---- word by word
 
@@ -91,6 +96,30 @@ pub run_past : (m : Settings) (t : Table) (h : Tally) (c : SharedCell) (ws : Lis
 run_past m t h c ws i e =
     ap (λ (k : ℕ). run_from m t h c (drop k ws)) e ∙ ap (run_from m t h c) (drop-length ws) ∙ run_end m t h c
 
+-- ---- a word that the step answered, from place i of a list
+
+module _ (m : Settings) (t u : Table) (h : Tally) (c : SharedCell) (ws : List ℕ) (i w : ℕ) (l : i < length ws)
+    (at : w ≡ get_or ws i 0) where
+  -- it was accepted, and g is the tally after it
+  pub takes : (d : Told) (g : Tally) → StepsUnder m t w u (Ok d) → g ≡ counted d.event h
+      → run_from m t h c (drop i ws) ≡ run_from m u g d.cell (drop (i + 1) ws)
+  takes d g s e =
+      let a = under_moved m t w d (sym s.answer_is) in
+      run_turn m t u h g c d.cell ws i l
+      (subst (λ (v : ℕ). refusal_under m t v ≡ 0) at a.0)
+      (s.becomes ∙ (accepted_same m t w a.0).1.table_same ∙ ap (after_word t) at)
+      (e ∙ ap (λ (o : Told). counted o.event h) a.1 ∙ ap (λ (v : ℕ). counted (event_of t v) h) at)
+      (ap (λ (o : Told). o.cell) a.1 ∙ ap (cell_of t) at)
+
+  -- it was refused
+  pub stops : (e : Refusal) → StepsUnder m t w u (Err e) → run_from m t h c (drop i ws) ≡ ended u h c (number e)
+  stops e s =
+      let a = under_refused m t w (number e) (sym s.answer_is) in
+      run_halt m t u h c ws i (number e) l
+      (λ z. a.0 (ap (refusal_under m t) at ∙ z))
+      (s.becomes ∙ ap (after_under m t) at)
+      (a.1 ∙ ap (refusal_under m t) at)
+
 -- ---- the tally
 
 pub counted_comes : (e : Event) (h : Tally) → (counted e h).comes ≤ h.comes + 1
@@ -107,19 +136,28 @@ counted_arrivals Departure h = omega arith
 
 -- ---- the answer of a run
 
--- a run that ended with table y, tally h, last cell c and refusal v, and answers so
-pub runs_ended : (x y : List (List ℕ)) (o : Outcome) (h : Tally) (c : SharedCell) (v : ℕ) (r : RunAnswer)
-    → length y ≡ length x
-    → o ≡ ended (rows_of y) h c v
-    → r ≡ answered h c v
-    → Runs x o y r
-runs_ended x y o h c v r l e a =
+-- a run that ended with table y, tally h, last cell c and refusal v
+pub record EndsSo (y : Table) (h : Tally) (r : Ran) (o : Outcome) : Type 0 where
+  pub becomes : y ≡ o.table
+  pub ran_is : r ≡ ran_of o
+  pub tally_is : h ≡ o.tally
+
+pub ends_so : (y : Table) (o : Outcome) (h : Tally) (c : SharedCell) (v : ℕ)
+    → o ≡ ended y h c v
+    → EndsSo y h (record { taken = h.words; refusal = v; cell = c }) o
+ends_so y o h c v e =
     record {
-      becomes = record { rows_are = sym (ap (λ (k : Outcome). k.table) e); size_is = l };
-      ran_is = ap (λ (k : RunAnswer). k.ran) a ∙ sym (ap ran_of e);
-      tally_is = ap (λ (k : RunAnswer). k.tally) a ∙ sym (ap (λ (k : Outcome). k.tally) e);
+      becomes = sym (ap (λ (k : Outcome). k.table) e);
+      ran_is = sym (ap ran_of e);
+      tally_is = sym (ap (λ (k : Outcome). k.tally) e);
     }
 
--- an outcome by another name
-pub runs_as : {x y : List (List ℕ)} {o u : Outcome} {r : RunAnswer} → o ≡ u → Runs x o y r → Runs x u y r
-runs_as {x} {y} {o} {u} {r} e h = subst (λ (k : Outcome). Runs x k y r) e h
+-- the outcome by another name
+pub as_run : {y z : Table} {r : Ran} {h : Tally} (o u : Outcome) → y ≡ z → z ≡ o.table → r ≡ ran_of o → h ≡ o.tally
+    → o ≡ u
+    → (y ≡ u.table) × (r ≡ ran_of u) × (h ≡ u.tally)
+as_run o u same table ran tally e = (
+  same ∙ table ∙ ap (λ (k : Outcome). k.table) e,
+  ran ∙ ap ran_of e,
+  tally ∙ ap (λ (k : Outcome). k.tally) e,
+)

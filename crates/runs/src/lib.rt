@@ -3,13 +3,14 @@
 #![tactic(auto)]
 
 ghost use Rattle.std.specs.Prelude.{◌≡◌};
+ghost use Rattle.machine.specs.Refusals.{refusal_in};
 ghost use Rattle.machine.specs.Runs.{counted, run_of};
 ghost use Rattle.runs.specs.Outcomes.{Runs, RunsTo};
 ghost use Rattle.runs.specs.Bounds.{Room, Checked, Runnable, RunsOn};
 
-use machine::{Event, Memory, Ran, Refusal, Row, Settings, SharedCell, Tally};
+use machine::{Event, Memory, Ran, Refusal, Row, Settings, SharedCell, Tally, refusal_number};
 use octets::Words;
-use steps::system::System;
+use steps::system::{System, fitting};
 
 // What a run hands back: how many words it took, the refusal or 0, the shared cell of the last of
 // them, and the tally.
@@ -32,11 +33,22 @@ fn counted(event: Event, tally: Tally) -> Tally
     }
 }
 
+// The answer of a run that took so many words, the last of which used the cell.
+fn answer(taken: u32, ended: Result<(), Refusal>, cell: SharedCell) -> Ran
+    ensures { result ≡ record { taken = taken; refusal = refusal_in ended; cell = cell } }
+{
+    Ran {
+        taken,
+        refusal: refusal_number(ended) as u32,
+        cell,
+    }
+}
+
 // At most 8,192 words, in order, up to the first that is refused. The lent tally, which is zero at the
 // start, counts each accepted word.
-pub fn run_words<W: Words>(system: &mut System, words: &W, tally: &mut Tally) -> Ran
-    requires { Runnable words.now tally.old }
-    ensures { RunsOn system.old words.now system.new tally.new result }
+pub fn run_words<W: Words>(system: &mut System, words: W, tally: &mut Tally) -> Ran
+    requires { Runnable (W.list words) tally.old }
+    ensures { RunsOn system.old (W.list words) system.new tally.new result }
 {
     let mut cell = SharedCell::NONE;
     for i in 0..words.count() {
@@ -45,20 +57,10 @@ pub fn run_words<W: Words>(system: &mut System, words: &W, tally: &mut Tally) ->
                 *tally = counted(told.event, *tally);
                 cell = told.cell;
             }
-            Err(refusal) => {
-                return Ran {
-                    taken: tally.words,
-                    refusal: u16::from(refusal) as u32,
-                    cell,
-                };
-            }
+            Err(refusal) => return answer(tally.words, Err(refusal), cell),
         }
     }
-    Ran {
-        taken: tally.words,
-        refusal: 0,
-        cell,
-    }
+    answer(tally.words, Ok(()), cell)
 }
 
 // What refuses a run before any word is taken: 6 or 7 for the table, then 18 for the settings, then 12
@@ -66,8 +68,7 @@ pub fn run_words<W: Words>(system: &mut System, words: &W, tally: &mut Tally) ->
 fn check_run(rows: &[Row], words: &[u32], settings: Settings) -> Result<Memory, Refusal>
     ensures { Checked settings words.now rows.now result }
 {
-    tables::check(rows)?;
-    let memory = Memory::try_from(settings)?;
+    let memory = fitting(rows, settings)?;
     if machine::RUN_LIMIT < words.len() {
         return Err(Refusal::TooManyWords);
     }
@@ -82,12 +83,8 @@ fn run_counted(rows: &mut [Row], words: &[u32], tally: &mut Tally, settings: Set
 {
     *tally = Tally::ZERO;
     match check_run(rows, words, settings) {
-        Ok(memory) => run_words(&mut System::new(rows, memory), &words, tally),
-        Err(refusal) => Ran {
-            taken: 0,
-            refusal: u16::from(refusal) as u32,
-            cell: SharedCell::NONE,
-        },
+        Ok(memory) => run_words(&mut System::new(rows, memory), words, tally),
+        Err(refusal) => answer(0, Err(refusal), SharedCell::NONE),
     }
 }
 

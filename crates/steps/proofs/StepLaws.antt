@@ -4,6 +4,7 @@
 use Prim.Native.Nat.{ℕ, ◌≤◌, ◌<◌}
 use mathlib.Core.Path.{◌≡◌, refl, sym, ap, subst, ◌∙◌}
 use mathlib.Core.Bool.{Bool, true, false, cond, ◌&&◌, and-eq-true_iff, true≢false}
+use native.Mathlib.Decide.{ℕ_discrete}
 use native.Mathlib.Omega.{arith}
 use lib.Dec.{eqb}
 use lib.ListN.{length}
@@ -14,7 +15,7 @@ use Rattle.machine.specs.Tables.{Table, row, table_refusal}
 use Rattle.machine.specs.Words.{STAY, COME, FLICKER, GO, LOOK, CANCEL, is_kind, kind_of, spare_clear}
 use Rattle.machine.specs.Words.{process_of, argument_of, formed}
 use Rattle.machine.specs.Steps.{moved, word_refusal, refusal_of, after_word, told_of, refusal_at}
-use Rattle.machine.specs.Settings.{settings_fit, settings_of, fitting, before15, refusal_under, after_under, answer_under}
+use Rattle.machine.specs.Settings.{settings_fit, settings_of, before15, refusal_under, after_under, answer_under}
 use Rattle.machine.specs.declared.Settings.{Settings}
 use Rattle.machine.specs.declared.Memory.{Memory}
 use Rattle.machine.specs.declared.Told.{Told}
@@ -25,7 +26,7 @@ use Rattle.machine.proofs.Accepted.{accepted_word, accepted-moved}
 use Rattle.machine.proofs.SettingLaws.{before15_other, forbidden, under_table, under_unfit, under_fit, accepted_under}
 use Rattle.machine.proofs.SettingTheorems.{refused_under}
 use Rattle.steps.specs.Moves.{kind_told, refusal_by, Ready, TakesUnder}
-use Rattle.steps.specs.Stepping.{StepsUnder}
+use Rattle.steps.specs.Stepping.{checked, StepsUnder}
 use Rattle.steps.proofs.TakeLaws.{number_some, last_kind}
 use Rattle.steps.proofs.ToldLaws.{word_told}
 use Rattle.steps.proofs.SettingLaws.{memory_fits}
@@ -118,28 +119,26 @@ refused_steps m x w e why =
       becomes = sym (refused_under m x w ne).0;
     }
 
--- a table that is not sound
-pub table-steps : (m : Settings) (x : Table) (w : ℕ) (e : Refusal)
-    → number e ≡ table_refusal x
+-- a table that is not sound, or settings that do not fit
+pub checked-steps : (m : Settings) (x : Table) (w : ℕ) (e : Refusal)
+    → Err (number e) ≡ checked m x
     → StepsUnder m x w x (Err e)
-table-steps m x w e why =
-    let ne : table_refusal x ≡ 0 → ⊥ = λ z. number_some e (why ∙ z) in
-    refused_steps m x w e (why ∙ sym (under_table m x w ne ∙ refusal_table x w ne))
-
--- a sound table, and settings that do not fit
-pub settings-steps : (m : Settings) (x : Table) (w : ℕ) (e : Refusal)
-    → table_refusal x ≡ 0
-    → Err (number e) ≡ fitting m
-    → StepsUnder m x w x (Err e)
-settings-steps m x w e z why = go (settings_fit m) refl
+checked-steps m x w e why = table (ℕ_discrete (table_refusal x) 0)
   where
-    go : (b : Bool) → settings_fit m ≡ b → StepsUnder m x w x (Err e)
-    go true h =
-        let no : Err (number e) ≡ Ok m = why ∙ ap (λ (b : Bool). cond b (Ok m) (Err bad_settings)) h in absurd (cc)
-    go false h =
-        let is : Err (number e) ≡ Err bad_settings =
-        why ∙ ap (λ (b : Bool). cond b (Ok m) (Err bad_settings)) h in
-        let unfit = under_unfit m x w z h in refused_steps m x w e (cc)
+    table : Dec (table_refusal x ≡ 0) → StepsUnder m x w x (Err e)
+    table (no ne) =
+        let is : Err (number e) ≡ Err (table_refusal x) = why ∙ rw (ne_eqb (table_refusal x) 0 ne) refl in
+        let refuses = under_table m x w ne ∙ refusal_table x w ne in
+        refused_steps m x w e (cc)
+    table (yes z) = settings (settings_fit m) refl
+      where
+        settings : (b : Bool) → settings_fit m ≡ b → StepsUnder m x w x (Err e)
+        settings true h =
+            let no : Err (number e) ≡ Ok m = why ∙ rw (eq-eqb (table_refusal x) 0 z, h) refl in absurd (cc)
+        settings false h =
+            let is : Err (number e) ≡ Err bad_settings = why ∙ rw (eq-eqb (table_refusal x) 0 z, h) refl in
+            let unfit = under_unfit m x w z h in
+            refused_steps m x w e (cc)
 
 -- .. of a sound table under settings that fit
 module _ (memory : Memory) (x : Table) (w : ℕ) (z : table_refusal x ≡ 0) where

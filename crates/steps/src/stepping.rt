@@ -4,6 +4,7 @@ ghost use Rattle.machine.specs.Tables.{table_refusal};
 ghost use Rattle.machine.specs.Settings.{settings_of};
 ghost use Rattle.steps.specs.Stepping.{StepsUnder};
 
+use crate::system::fitting;
 use crate::taking::{take_cancel, take_come, take_flicker, take_go, take_look, take_stay};
 use machine::{Kind, Memory, Refusal, Row, Settings, Told};
 
@@ -50,7 +51,6 @@ pub(crate) fn advance(rows: &mut [Row], word: u32, memory: Memory) -> Result<Tol
 pub fn step(rows: &mut [Row], word: u32, settings: Settings) -> Result<Told, Refusal>
     ensures { StepsUnder settings rows.old word rows.new result }
 {
-    tables::check(rows)?;
-    let memory = Memory::try_from(settings)?;
+    let memory = fitting(rows, settings)?;
     advance(rows, word, memory)
 }

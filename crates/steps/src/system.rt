@@ -1,9 +1,21 @@
 // The system under way: a table that is known to be sound, and the memory that its steps meet.
 ghost use Rattle.std.specs.Prelude.{◌≡◌};
+ghost use Rattle.machine.specs.Refusals.{numbered};
 ghost use Rattle.machine.specs.Tables.{table_refusal};
+ghost use Rattle.machine.specs.Settings.{settings_in};
+ghost use Rattle.steps.specs.Stepping.{checked};
 
 use crate::stepping::advance;
-use machine::{Memory, Refusal, Row, Told};
+use machine::{Memory, Refusal, Row, Settings, Told};
+
+// The memory of the settings at a table that is sound; or what refuses every word there, the table or
+// the settings.
+pub fn fitting(rows: &[Row], settings: Settings) -> Result<Memory, Refusal>
+    ensures { numbered (settings_in result) ≡ checked settings rows.now }
+{
+    tables::check(rows)?;
+    Memory::try_from(settings)
+}
 
 // The rows are lent for as long as the system is under way, and hold what its steps made of them. Who
 // makes a system shows that the table is sound; a step keeps it so.

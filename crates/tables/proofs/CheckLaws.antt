@@ -1,19 +1,19 @@
 -- The check of a table row by row, and the refusals that it ends in. Assumes nothing.
 use Prim.Native.Nat.{ℕ, ◌+◌, ◌<◌}
 use mathlib.Core.Path.{◌≡◌, refl, sym, ap, ◌∙◌}
-use mathlib.Core.Bool.{Bool, true, false, cond, not, ◌&&◌, ◌||◌, and_assoc, and-true, and-false}
+use mathlib.Core.Bool.{Bool, true, false, cond, not, ◌&&◌, and_assoc, and-true, and-false}
 use mathlib.Core.List.{List}
 use native.Mathlib.Numerals.{add-one}
 use lib.ListN.{length, get_or, drop, replicate}
-use lib.Dec.{ltb}
 use lib.Seq.{drop-cons, drop-length}
-use Rattle.machine.specs.Refusals.{accepted, unsound_row}
-use Rattle.machine.specs.Tables.{Table, sound_passes, sound_row, sound_from, table_refusal}
+use Rattle.machine.specs.Refusals.{accepted, wrong_size, unsound_row, number}
+use Rattle.machine.specs.Tables.{Table, size_fits, sound_passes, sound_row, sound_from, table_refusal}
 use Rattle.machine.specs.declared.Row.{Row}
+use Rattle.machine.specs.declared.Refusal.{Refusal}
 use Rattle.rows.specs.Bounds.{RowFits}
 use Rattle.rows.specs.Passes.{clear_past, Clear, Joined}
 use Rattle.rows.proofs.PassLaws.{passes_sound, own_first, clear_none, clear_joined}
-use Rattle.tables.proofs.SizeLaws.{size_in, size_out}
+use Rattle.tables.proofs.RefusalLaws.{size_taken, size_refused}
 
 -- every row before row q fits, and `joined` are their passes: whether the table is sound is up to these and to the rows
 -- from row q on
@@ -64,15 +64,16 @@ module _ (t : Table) where
   sound_all n q joined end h =
       h ∙ rw (end, drop-length t) (and-true (clear_past n joined))
 
-  pub refused_size : (ltb (length t) 2 || ltb 16 (length t)) ≡ true → table_refusal t ≡ 6
+  pub refused_size : (e : Refusal) → number e ≡ cond (size_fits (length t)) accepted wrong_size
+      → number e ≡ table_refusal t
   unfolding table_refusal
-  refused_size h = rw (size_out (length t) h) refl
+  refused_size e h = let no = size_refused e _ h in rw no (h ∙ rw no refl)
 
   -- the size fits
-  pub judged : (b : Bool) → (ltb (length t) 2 || ltb 16 (length t)) ≡ false → sound_from (length t) 0 t ≡ b
-      → table_refusal t ≡ cond b accepted unsound_row
+  pub judged : (b : Bool) → accepted ≡ cond (size_fits (length t)) accepted wrong_size
+      → sound_from (length t) 0 t ≡ b → table_refusal t ≡ cond b accepted unsound_row
   unfolding table_refusal
-  judged b h e = rw (size_in (length t) h, e) (either b)
+  judged b h e = rw (size_taken _ h, e) (either b)
     where
       either : (b : Bool) → cond (not b) unsound_row accepted ≡ cond b accepted unsound_row
       either true = refl

@@ -1,6 +1,4 @@
--- Laws of the checks, of fresh tables, of writers, and of refusals.
-pub mod SizeLaws
+-- Laws of the checks, of fresh tables, and of refusals.
+pub mod RefusalLaws
 pub mod CheckLaws
 pub mod FreshLaws
-pub mod WriterLaws
-pub mod RefusalLaws

@@ -1,7 +1,8 @@
--- The number of a refusal is above 0. Assumes nothing.
-use mathlib.Core.Path.{◌≡◌}
+-- The number of a refusal is above 0; the refusal of a size. Assumes nothing.
+use mathlib.Core.Path.{◌≡◌, refl}
+use mathlib.Core.Bool.{Bool, true, false, cond}
 use native.Mathlib.Omega.{arith}
-use Rattle.machine.specs.Refusals.{number}
+use Rattle.machine.specs.Refusals.{accepted, wrong_size, number}
 use Rattle.machine.specs.declared.Refusal.{Refusal}
 use Rattle.machine.specs.declared.Refusal.TheVariants.{NoHeader, WrongLength, Malformed, OutOfRange, LevelMisfit}
 use Rattle.machine.specs.declared.Refusal.TheVariants.{WrongSize, UnsoundRow, BadKind, NoProcess, NotAllowed}
@@ -27,3 +28,13 @@ number_some PassesFull z = omega arith
 number_some PlainFlicker z = omega arith
 number_some SecondWriter z = omega arith
 number_some BadSettings z = omega arith
+
+-- a size that is not refused fits
+pub size_taken : (b : Bool) → accepted ≡ cond b accepted wrong_size → b ≡ true
+size_taken true h = refl
+size_taken false h = absurd (omega arith)
+
+-- one that is refused does not
+pub size_refused : (e : Refusal) (b : Bool) → number e ≡ cond b accepted wrong_size → b ≡ false
+size_refused e true h = absurd (number_some e h)
+size_refused e false h = refl

@@ -2,10 +2,9 @@
 // each.
 #![tactic(auto)]
 
-use cells::making::fresh;
-use machine::Row;
-use sets::Lowest;
+use machine::{MOST_PROCESSES, NewTable, Row};
 use std::io;
+use tables::fresh;
 
 // A number and a space before it.
 fn put(rt: &impl Print, n: u16) -> io::Result<()> {
@@ -23,14 +22,14 @@ fn show_set(rt: &impl Print, s: u16, q: u16) -> io::Result<()> {
     put(rt, sets::size(s))?;
     put(rt, sets::without(s, q))?;
     match sets::lowest_member(s) {
-        Lowest::Member(lowest) => put(rt, lowest)?,
-        Lowest::Empty => print!(rt; " none")?,
+        Some(lowest) => put(rt, lowest)?,
+        None => print!(rt; " none")?,
     }
     println!(rt; "")
 }
 
 // The cells of a row.
-fn show_row(rt: &impl Print, r: Row) -> io::Result<()> {
+fn show_row(rt: &impl Print, r: &Row) -> io::Result<()> {
     print!(rt; ", row")?;
     put(rt, r.location)?;
     put(rt, r.act)?;
@@ -42,17 +41,25 @@ fn show_row(rt: &impl Print, r: Row) -> io::Result<()> {
     put(rt, r.turn)
 }
 
-// A fresh table: refusal, place, size, and its first, second, third and last row.
+// A fresh table: refusal, place, size, and its first, second, third and last row. Where it is refused
+// there is no place and no row.
 fn show_fresh(rt: &impl Print, n: u32) -> io::Result<()> {
-    let t = fresh(n);
+    let none = NewTable {
+        size: 0,
+        rows: [Row::BLANK; MOST_PROCESSES],
+    };
+    let (refusal, t) = match fresh(n) {
+        Ok(t) => (0, t),
+        Err(refusal) => (refusal.into(), none),
+    };
     print!(rt; "fresh")?;
-    put(rt, t.refusal)?;
-    put(rt, t.place)?;
-    put(rt, t.size)?;
-    show_row(rt, t.rows[0])?;
-    show_row(rt, t.rows[1])?;
-    show_row(rt, t.rows[2])?;
-    show_row(rt, t.rows[15])?;
+    put(rt, refusal)?;
+    put(rt, 0)?;
+    put(rt, t.size as u16)?;
+    show_row(rt, &t.rows[0])?;
+    show_row(rt, &t.rows[1])?;
+    show_row(rt, &t.rows[2])?;
+    show_row(rt, &t.rows[15])?;
     println!(rt; "")
 }
 

@@ -2,8 +2,8 @@
 -- Assumes nothing.
 use mathlib.Core.Path.{◌≡◌}
 use mathlib.Core.List.{List}
-use Prim.Native.Nat.{ℕ, ◌-◌, ◌≤◌}
-use lib.ListN.{length, take}
+use Prim.Native.Nat.{ℕ}
+use lib.ListN.{take}
 use Rattle.machine.specs.Bytes.{bytes_of}
 use Rattle.counting.specs.Placing.{placed}
 use Rattle.octets.proofs.pack.Given as goal
@@ -13,10 +13,4 @@ abbrev pub after : List ℕ → List ℕ → ℕ → List ℕ
 after words bytes i = placed bytes 0 (bytes_of (take i words))
 
 abbrev pub invariant-loop-i : goal.invariant-loop-i
-invariant-loop-i l =
-    (l.i ≤ length l.words)
-    × (length l.bytes ≡ length l.initial.bytes)
-    × (l.bytes ≡ after l.words l.initial.bytes l.i)
-
-abbrev pub decreases-loop-i : goal.decreases-loop-i
-decreases-loop-i l = length l.words - l.i
+invariant-loop-i l = l.bytes ≡ after l.words l.initial.bytes l.i

@@ -6,4 +6,4 @@ use Rattle.octets.proofs.word_at.Goals as goal
 
 pub returns : goal.returns
 returns c =
-    c.word_of.ensures ∙ read_is c.args.bytes.now c.args.i (omega arith)
+    c.from_le_bytes.ensures ∙ read_is c.args.bytes.now c.args.i (omega arith)

@@ -1,57 +1,18 @@
 -- `check_run` meets its contract. Assumes nothing.
-use mathlib.Core.Path.{◌≡◌, refl, sym, ◌∙◌}
-use mathlib.Core.Bool.{true}
+use mathlib.Core.Path.{◌≡◌}
 use native.Mathlib.Omega.{arith}
-use borrow.Author.Tests.{not-true, not-false}
-use Rattle.machine.specs.Tables.{table_refusal}
-use Rattle.machine.specs.Settings.{settings_fit}
-use Rattle.cells.specs.View.{rows_of}
-use Rattle.machine.proofs.RunLaws.{run_of_table, run_of_settings, run_of_words}
+use borrow.Author.Rules.{rules}
+use Rattle.std.specs.Prelude.{Err}
+use Rattle.runs.proofs.CheckLaws.{run_refused, run_allowed}
 use Rattle.runs.proofs.check_run.Goals as goal
 
-pub returns-then-unsound-ne0 : goal.returns-then-unsound-ne0
-returns-then-unsound-ne0 c =
+pub returns-in_err-memory : goal.returns-in_err-memory
+returns-in_err-memory c =
     let a = c.args in
-    let t = rows_of a.cells.now in
-    record {
-      runnable = λ z. absurd (c.if-unsound-ne0.true z);
-      refused = λ n. run_of_table a.settings t a.words.now _ c.check-unsound.ensures n;
-    }
-
--- ---- where the table is sound
-
-pub returns-then-not-settings_fit : goal.returns-then-not-settings_fit
-returns-then-not-settings_fit c =
-    let sound : table_refusal (rows_of c.args.cells.now) ≡ 0 =
-    sym c.check-unsound.ensures ∙ c.if-unsound-ne0.false in
-    let a = c.args in
-    let unfit = sym c.settings_fit.ensures ∙ not-true _ c.if-not-settings_fit.true-raw in
-    record {
-      runnable = λ z. absurd (omega (arith, z));
-      refused = λ n. run_of_settings a.settings (rows_of a.cells.now) a.words.now sound unfit;
-    }
+    let is : c.from_residual.result ≡ Err c.in_err-memory.field-0.0 = search rules in
+    rw is (run_refused a.settings a.rows.now a.words.now c.in_err-memory.field-0.0 c.in_err-memory.ensures)
 
 pub returns-then-words-gt-RUN_LIMIT : goal.returns-then-words-gt-RUN_LIMIT
 returns-then-words-gt-RUN_LIMIT c =
-    let sound : table_refusal (rows_of c.args.cells.now) ≡ 0 =
-    sym c.check-unsound.ensures ∙ c.if-unsound-ne0.false in
-    let fit : settings_fit c.args.settings ≡ true =
-    sym c.settings_fit.ensures ∙ not-false _ c.if-not-settings_fit.false-raw in
     let a = c.args in
-    record {
-      runnable = λ z. absurd (omega (arith, z));
-      refused = λ n.
-          run_of_words a.settings (rows_of a.cells.now) a.words.now sound fit (omega arith);
-    }
-
-pub returns : goal.returns
-returns c =
-    let sound : table_refusal (rows_of c.args.cells.now) ≡ 0 =
-    sym c.check-unsound.ensures ∙ c.if-unsound-ne0.false in
-    let fit : settings_fit c.args.settings ≡ true =
-    sym c.settings_fit.ensures ∙ not-false _ c.if-not-settings_fit.false-raw in
-    record {
-      runnable = λ z.
-          record { table_sound = sound; settings_fit_lem = fit; words_few = omega arith };
-      refused = λ n. absurd (n refl);
-    }
+    (run_allowed a.settings a.rows.now c.in_ok-memory.memory c.in_ok-memory.ensures).too_many a.words.now (omega arith)

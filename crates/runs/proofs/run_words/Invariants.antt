@@ -1,14 +1,11 @@
--- `run_words` meets its contract. Assumes nothing.
-use Prim.Native.Nat.{ℕ, ◌≤◌, ◌-◌}
+-- `run_words` meets its contract: what is left of the run is what the loop still takes. Assumes nothing.
+use Prim.Native.Nat.{ℕ, ◌≤◌}
 use mathlib.Core.Path.{◌≡◌}
-use mathlib.Core.Bool.{true}
 use lib.ListN.{length, drop}
-use Rattle.machine.specs.Tables.{table_refusal}
-use Rattle.machine.specs.Shared.{no_cell}
-use Rattle.machine.specs.Settings.{settings_fit}
-use Rattle.machine.specs.Runs.{zero_tally, run_from}
+use Rattle.machine.specs.Settings.{settings_of}
+use Rattle.machine.specs.Runs.{run_from}
 use Rattle.machine.specs.declared.Tally.{Tally}
-use Rattle.cells.specs.View.{rows_of}
+use Rattle.runs.specs.Bounds.{outcome}
 use Rattle.runs.proofs.run_words.Given as goal
 
 -- the tally counts i words
@@ -18,15 +15,13 @@ pub record Counts (i : ℕ) (h : Tally) : Type 0 where
   pub arrivals_few : h.arrivals ≤ i
 
 abbrev pub invariant-loop-i : goal.invariant-loop-i
-invariant-loop-i l =
-    (l.i ≤ l.n)
-    × (l.n ≤ 8192)
-    × (l.n ≡ length l.words)
-    × (length l.cells ≡ length l.initial.cells)
-    × (table_refusal (rows_of l.cells) ≡ 0)
-    × Counts l.i l.tally
-    × (settings_fit l.settings ≡ true)
-    × (run_from l.settings (rows_of l.initial.cells) zero_tally no_cell l.words ≡ run_from l.settings (rows_of l.cells) l.tally l.cell (drop l.i l.words))
-
-abbrev pub decreases-loop-i : goal.decreases-loop-i
-decreases-loop-i l = l.n - l.i
+invariant-loop-i g l = record {
+  same_rows : l.system.rows.ghost_name ≡ l.initial.system.rows.ghost_name;
+  same_memory : l.system.memory ≡ l.initial.system.memory;
+  end_is : l.i-end ≡ length (g.W.Words.list l.words);
+  few : length (g.W.Words.list l.words) ≤ 8192;
+  counts : Counts l.i l.tally;
+  left :
+      outcome l.fn.system (g.W.Words.list l.words)
+      ≡ run_from (settings_of l.system.memory) l.system.rows.now l.tally l.cell (drop l.i (g.W.Words.list l.words));
+}
