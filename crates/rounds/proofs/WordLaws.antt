@@ -3,13 +3,11 @@
 --   stay_word, look_word, go_word     the word, by the tests of the code
 --   Given k a         <=>  the word is accepted, and does what kind k does with argument a.
 --   rest_given, look_given            so it is for STAY and LOOK
---   go_may                            GO is allowed, also where a full count refuses it
 --
 -- Assumes nothing.
 use Prim.Native.Nat.{ℕ, ◌<◌}
-use mathlib.Core.Path.{◌≡◌, refl, sym, ap, ap₂, ◌∙◌}
+use mathlib.Core.Path.{◌≡◌, refl, sym, ap, ◌∙◌}
 use mathlib.Core.Bool.{true, false, ◌&&◌, not}
-use mathlib.Core.Logic.{⊎_elim}
 use native.Mathlib.Omega.{arith}
 use lib.Dec.{eqb}
 use lib.ListN.{length}
@@ -17,12 +15,12 @@ use borrow.Author.Tests.{ne_eqb}
 use Rattle.counting.specs.Sets.{lowest}
 use Rattle.machine.specs.Tables.{Table, row, table_refusal}
 use Rattle.machine.specs.Words.{STAY, GO, LOOK, kind_of, process_of, argument_of, word_of}
-use Rattle.machine.specs.Steps.{moved, allowed, refusal_of, after_word}
+use Rattle.machine.specs.Steps.{moved, refusal_of, after_word}
 use Rattle.machine.specs.Rounds.{round_word}
-use Rattle.machine.proofs.Accepted.{accepted-moved, accepted_says}
+use Rattle.machine.proofs.Accepted.{accepted-moved}
 use Rattle.machine.proofs.WordLaws.{kind_word_of, process_word_of, argument_word_of}
 use Rattle.machine.proofs.SoundRows.{sound_few}
-use Rattle.machine.proofs.RoundLaws.{round_word_answered, round_word_accepted}
+use Rattle.machine.proofs.RoundLaws.{round_word_accepted}
 
 -- ---- the word
 
@@ -87,17 +85,3 @@ module _ (t : Table) (p : ℕ) where
 
     pub look_given : lowest s < 256 → l ≡ 22 → (eqb l 22 && not (eqb s 0)) ≡ true → Given LOOK (lowest s)
     look_given low e h = given LOOK (lowest s) low (omega arith) (look_word (omega arith) h)
-
-    -- GO is allowed, also where it meets 15
-    pub go_may : (l ≡ 10 → ⊥) → (eqb l 22 && not (eqb s 0)) ≡ false → allowed GO (row t p) ≡ true
-    unfolding allowed
-    go_may ne h =
-        let w = word_of GO p 0 in
-        let e = go_word ne h in
-        let i = parts GO 0 (omega arith) in
-        ⊎_elim
-        (λ ok.
-        let said = accepted_says t w (sym (ap (refusal_of t) e) ∙ ok) in
-        sym (ap₂ (λ (k q : ℕ). allowed k (row t q)) i.kind_is i.process-is) ∙ said.allowed_there)
-        (λ full. rw full.0 refl)
-        (round_word_answered t p z in_t)

@@ -1,5 +1,5 @@
 -- `round` meets its contract. Assumes nothing.
-use Prim.Native.Nat.{ℕ}
+use Prim.Native.Nat.{ℕ, ◌<◌}
 use mathlib.Core.Path.{◌≡◌, ap, sym, ◌∙◌}
 use native.Mathlib.Omega.{arith}
 use lib.ListN.{length}
@@ -24,8 +24,10 @@ returns-in_err-occupied c =
     let e = c.in_err-occupied.field-0.0 in
     let m = c.in_err-occupied.ensures in
     let is : c.from_residual.result ≡ Err e = search rules in
-    let cut = on_stop at.rows _ _ at.p _ c.loop-p-test.true (λ z. number_some e (m.refusal_is ∙ z)) m.becomes at.invariant.goes_on in
-    rw is (goes_round (Err e) (cut ∙ ap (λ (v : ℕ). record { refusal = v; table = c.move_on.new.rows }) (sym m.refusal_is)) tt)
+    let cut = on_stop at.rows at.p c.loop-p-test.true (λ z. number_some e (m.refusal_is ∙ z)) m.becomes
+    at.invariant.goes_on in
+    let all = cut ∙ ap (λ (v : ℕ). record { refusal = v; table = c.move_on.new.rows }) (sym m.refusal_is) in
+    rw is (goes_round (Err e) all tt)
 
 pub loop-p-preserved : goal.loop-p-preserved
 loop-p-preserved c =
@@ -33,10 +35,11 @@ loop-p-preserved c =
     let v = at.invariant in
     let m = c.in_ok-occupied.ensures in
     let ok = sym m.refusal_is in
+    let within : at.p < length at.rows = omega (arith, at.auto.rows, c.loop-p-test.true) in
     record {
       sound = ap table_refusal m.becomes ∙ word_keeps_sound at.rows _ v.sound;
-      goes_on = on_next at.rows _ _ at.p _ c.loop-p-test.true ok m.becomes v.goes_on;
-      seen = one_more at.rows _ at.p _ _ v.sound (omega (arith, at.auto.rows, c.loop-p-test.true)) ok m.becomes v.seen m.told;
+      goes_on = on_next at.rows at.p c.loop-p-test.true ok m.becomes v.goes_on;
+      seen = one_more at.rows at.p v.sound within ok m.becomes v.seen m.told;
     }
 
 -- each has had its word
@@ -45,4 +48,4 @@ returns c =
     let at = c.loop-p in
     let v = at.invariant in
     let all : at.p ≡ length at.rows = omega (arith, at.auto.rows, at.auto.p-end, c.loop-p-test.false) in
-    goes_round (Ok at.occupied) (on_end at.rows _ at.p _ c.loop-p-test.false v.goes_on) (v.seen ∙ whole at.rows _ all)
+    goes_round (Ok at.occupied) (on_end at.rows at.p c.loop-p-test.false v.goes_on) (v.seen ∙ whole at.rows _ all)

@@ -1,9 +1,5 @@
 -- `rounds` meets its contract. Assumes nothing.
-use Prim.Native.Nat.{ℕ}
-use mathlib.Core.Path.{refl, sym, ap, ◌∙◌}
-use mathlib.Core.Bool.{Bool}
-use lib.Dec.{ltb}
-use Rattle.counting.specs.Sums.{bit}
+use mathlib.Core.Path.{refl, sym, ◌∙◌}
 use Rattle.machine.proofs.RoundAnswers.{rounds_refused, rounds_none, rounds-some}
 use Rattle.steps.proofs.TakeLaws.{number_some}
 use Rattle.rounds.proofs.RoundLaws.{ends, some_is}
@@ -20,10 +16,9 @@ returns-in-Err c =
 pub returns-then-count_at-eq0 : goal.returns-then-count_at-eq0
 returns-then-count_at-eq0 c =
     let x = c.args.rows.now in
-    let at-30 = some_is c.critical.result ∙ ap (λ (k : ℕ). ltb 0 k) c.critical.ensures in
+    let at-30 = some_is c.critical.ensures in
     ends (rounds_none x (sym c.in_default.ensures) (sym c.count_at.ensures ∙ c.if-count_at-eq0.true))
-    (c.answer-then-count_at-eq0.ensures ∙ ap (λ (b : Bool). record { refusal = 0; rounds = 0; occupied = bit b }) at-30)
-    refl
+    (rw at-30 at c.answer-then-count_at-eq0.ensures) refl
 
 pub returns : goal.returns
 returns c =

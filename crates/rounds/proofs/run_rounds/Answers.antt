@@ -1,13 +1,7 @@
 -- `run_rounds` meets its contract. Assumes nothing.
-use Prim.Native.Nat.{ℕ}
 use mathlib.Core.Path.{refl, ap, sym, ◌∙◌}
-use mathlib.Core.Bool.{Bool}
 use native.Mathlib.Omega.{arith}
-use lib.Dec.{ltb}
-use borrow.Author.Tests.{ltb-true}
-use Rattle.counting.specs.Sums.{bit}
 use Rattle.machine.specs.Tables.{table_refusal}
-use Rattle.machine.specs.Census.{critical}
 use Rattle.machine.proofs.BrokenRounds.{round_on_sound}
 use Rattle.steps.proofs.TakeLaws.{number_some}
 use Rattle.rounds.proofs.RoundLaws.{from_occupied, from_turn, from_cut, from_limit, ends, some_is, none_is}
@@ -19,9 +13,7 @@ returns-then-occupied c =
     let at = c.loop-r in
     let v = at.invariant in
     let there = sym c.if-occupied.true ∙ v.seen in
-    ends (v.goes_on ∙ from_occupied _ at.r at.rows (λ z. absurd (omega (arith, ltb-true 0 (critical at.rows) (sym there)))))
-    (c.answer.ensures ∙ ap (λ (b : Bool). record { refusal = 0; rounds = at.r; occupied = bit b }) there)
-    refl
+    ends (v.goes_on ∙ from_occupied _ at.r at.rows there) (rw (sym there) c.answer.ensures) refl
 
 -- a word of the round is refused
 pub returns-in-Err : goal.returns-in-Err
@@ -32,11 +24,10 @@ returns-in-Err c =
     let why = c.into.ensures in
     let m = c.in-Err.ensures in
     let nobody = none_is _ (sym v.seen ∙ c.if-occupied.false) in
-    let at-30 = some_is c.critical.result ∙ ap (λ (k : ℕ). ltb 0 k) c.critical.ensures in
-    let cut = from_cut _ at.r at.rows _ _ c.loop-r-test.true nobody (why ∙ m.refusal_is) (λ z. number_some e (sym why ∙ z)) m.becomes in
-    ends (v.goes_on ∙ cut)
-    (c.answer-in-Err.ensures ∙ ap (λ (b : Bool). record { refusal = c.into.result; rounds = at.r; occupied = bit b }) at-30)
-    refl
+    let at-30 = some_is c.critical.ensures in
+    let cut = from_cut _ at.r at.rows c.loop-r-test.true nobody (why ∙ m.refusal_is)
+    (λ z. number_some e (sym why ∙ z)) m.becomes in
+    ends (v.goes_on ∙ cut) (rw at-30 at c.answer-in-Err.ensures) refl
 
 pub loop-r-preserved : goal.loop-r-preserved
 loop-r-preserved c =
@@ -47,7 +38,7 @@ loop-r-preserved c =
     record {
       sound = ap table_refusal m.becomes ∙ round_on_sound at.rows 0 _ v.sound;
       seen = m.told;
-      goes_on = v.goes_on ∙ from_turn _ at.r at.rows _ c.loop-r-test.true nobody (sym m.refusal_is) m.becomes;
+      goes_on = v.goes_on ∙ from_turn _ at.r at.rows c.loop-r-test.true nobody (sym m.refusal_is) m.becomes;
     }
 
 -- the limit is used up
@@ -57,5 +48,4 @@ returns c =
     let v = at.invariant in
     let n = c.round_limit-limit.result in
     ends (v.goes_on ∙ from_limit n at.r at.rows (omega (arith, at.auto.r-end, c.loop-r-test.false)))
-    (c.answer-2.ensures ∙ ap (λ (b : Bool). record { refusal = 0; rounds = n; occupied = bit b }) v.seen)
-    refl
+    (rw v.seen at c.answer-2.ensures) refl
