@@ -15,12 +15,16 @@ pub fn looked(q: u16, act: u16, r: Row) -> Row
     requires { q < 16 }
     ensures { result ≡ looked q act r }
 {
-    let lis = sets::removed(r.lis, q);
-    if act == 0 {
-        let est = sets::removed(r.est, q);
-        return Row { lis, est, ..r };
+    let est = if act == 0 {
+        sets::removed(r.est, q)
+    } else {
+        r.est
+    };
+    Row {
+        est,
+        lis: sets::removed(r.lis, q),
+        ..r
     }
-    Row { lis, ..r }
 }
 
 // GO at 20: act 1, level n - 1, est all but p, ahead those that compete, each of them passed once more,
@@ -65,26 +69,21 @@ pub fn reconsidered(p: u16, v: u16, r: Row) -> Row
     ensures { result ≡ reconsidered p v r }
 {
     let left = sets::size(r.est);
-    if left < r.level {
-        return Row {
-            location: 21,
-            bb: 0,
-            level: left,
-            ..r
-        };
+    let (location, bb, level) = if left < r.level {
+        (21, 0, left)
+    } else if r.bb == 0 {
+        (24, 0, r.level)
+    } else if v != p {
+        (21, 0, r.level.saturating_sub(1))
+    } else {
+        (21, r.bb, r.level)
+    };
+    Row {
+        location,
+        bb,
+        level,
+        ..r
     }
-    if r.bb == 0 {
-        return Row { location: 24, ..r };
-    }
-    if v != p {
-        return Row {
-            location: 21,
-            bb: 0,
-            level: r.level.saturating_sub(1),
-            ..r
-        };
-    }
-    Row { location: 21, ..r }
 }
 
 // Whether GO at 23 asks for turn[level]: not where est has fewer members than level, nor where bb is 0.

@@ -14,8 +14,8 @@ pub fn full_set(n: u16) -> u16
     ((1u32 << n) - 1) as u16
 }
 
-// Whether location l is one of the eight and level v goes with it. Each level above 0 is as 1 here: of a
-// level that is a constant the mask is one.
+// Whether location l is one of the eight and level v goes with it. Each level above 0 is as 1 here, and
+// the mask of a constant level is a constant.
 #[tactic(auto, using(crate::proofs::MaskLaws::level_tests))]
 pub fn location_fits(l: u16, v: u16) -> bool
     ensures { result ≡ (one_of l locations && level_fits l v) }
