@@ -1,6 +1,6 @@
 -- The words with passes, as the loops go through them.
 --
---   sized_long, sized_counted   the words of either form are at least those of a bare image
+--   sized_long, sized_counted, sized_bare   how many words there are in either form
 --   passes_within               the words of a process stand within the image
 --   image_mono, image_low, either_low    which is not long
 --   counts_start, counts_on, counts_stop, counts_end     the loop over processes: what is left decides
@@ -31,29 +31,31 @@ use Rattle.counting.proofs.TestLaws.{same_test, implies, cond_same, cond_le}
 use Rattle.counting.proofs.PlacingLaws.{placed_padded}
 use Rattle.counting.proofs.RangeLaws.{up_to_length, up_to_at, every_at, filled}
 use Rattle.machine.specs.Images.{Slot, pass_slot, PASSES, pass_row, pass_slots, bare_length, image_length, pass_place}
-use Rattle.machine.specs.Images.{count_in, slot_refusal, first_refusal, passes_in}
-use Rattle.machine.specs.declared.Found.{Found}
+use Rattle.machine.specs.Images.{count_in, Found, slot_refusal, first_refusal, passes_in}
 use Rattle.image_theorems.proofs.Slots.{no_slot, length-pass_row, count_at}
 use Rattle.image_theorems.proofs.RowWords.{readAt}
 use Rattle.image_theorems.proofs.Reading.{none_refused}
 use Rattle.image_theorems.proofs.RoundTrip.{bare_count}
-use Rattle.images.specs.Inner.{Long, Counted, Sized, Fits, AllFit, passes_refusal, pass_word, pass_words}
+use Rattle.images.specs.Inner.{Sized, Fits, AllFit, found_at, passes_refusal, pass_word, pass_words}
 use Rattle.images.proofs.SlotLaws.{count-slot}
 use Rattle.images.proofs.WalkLaws.{groups_on, groups_stop, groups_end, run_on, run_stop, run_end}
 
 -- ---- how many there are, and where they stand
 
-pub sized_long : (ws : List ℕ) (n : ℕ) (b : Bool) → Sized ws n b → Long ws n
-sized_long ws n b s = record { some = s.some; few = s.few; long = go b s.length_is }
-  where
-    go : (b : Bool) → length ws ≡ cond b (image_length n) (bare_length n) → bare_length n ≤ length ws
-    go true e = omega (arith, e)
-    go false e = omega (arith, e)
+module _ (ws : List ℕ) (n : ℕ) where
+  pub sized_long : (b : Bool) → Sized ws n b → bare_length n ≤ length ws
+  sized_long b s = go b s.length_is
+    where
+      go : (b : Bool) → length ws ≡ cond b (image_length n) (bare_length n) → bare_length n ≤ length ws
+      go true e = omega (arith, e)
+      go false e = omega (arith, e)
 
-pub sized_counted : (ws : List ℕ) (n : ℕ) (b : Bool) → Sized ws n b → b ≡ true → Counted ws n
-sized_counted ws n b s is =
-    let whole = s.length_is ∙ ap (λ (x : Bool). cond x (image_length n) (bare_length n)) is in
-    record { some = s.some; few = s.few; long = omega (arith, whole) }
+  pub sized_counted : (b : Bool) → Sized ws n b → b ≡ true → image_length n ≤ length ws
+  sized_counted b s is =
+      omega (arith, s.length_is ∙ ap (λ (x : Bool). cond x (image_length n) (bare_length n)) is)
+
+  pub sized_bare : (b : Bool) → Sized ws n b → b ≡ false → length ws ≡ bare_length n
+  sized_bare b s is = s.length_is ∙ ap (λ (x : Bool). cond x (image_length n) (bare_length n)) is
 
 pub passes_within : (n q : ℕ) → q < n → pass_place n q 0 + n ≤ image_length n
 passes_within n q l =
@@ -148,15 +150,17 @@ module _ (n : ℕ) (ws : List ℕ) (q : ℕ) where
   pub passes_end : from_count n ≡ record { refusal = 0; place = 0 }
   passes_end = run_end n ws (bare_length n + n * q) (pass_slot q) (pass_row q) no_counts first_count
 
-  module _ (k i r : ℕ) (l : k < n) (within : pass_place n q k < length ws) (here : i ≡ pass_place n q k)
-      (is : r ≡ slot_refusal n (pass_slot q k) (get_or ws i 0)) where
-    pub passes_stop : (r ≡ 0 → ⊥) → record { refusal = r; place = i } ≡ from_count k
+  module _ (k i r : ℕ) (f : Found) (l : k < n) (within : pass_place n q k < length ws) (here : i ≡ pass_place n q k)
+      (slot-is : r ≡ slot_refusal n (pass_slot q k) (get_or ws i 0)) (is : f ≡ found_at r i) where
+    pub passes_stop : (f.refusal ≡ 0 → ⊥) → f ≡ from_count k
     passes_stop =
-        run_stop n ws (bare_length n + n * q) (pass_slot q) (pass_row q) no_counts first_count k i r l within here is
+        run_stop n ws (bare_length n + n * q) (pass_slot q) (pass_row q) no_counts first_count k i r f l within here
+        slot-is is
 
-    pub passes_on : r ≡ 0 → from_count k ≡ from_count (k + 1)
+    pub passes_on : f.refusal ≡ 0 → from_count k ≡ from_count (k + 1)
     passes_on =
-        run_on n ws (bare_length n + n * q) (pass_slot q) (pass_row q) no_counts first_count k i r l within here is
+        run_on n ws (bare_length n + n * q) (pass_slot q) (pass_row q) no_counts first_count k i r f l within here
+        slot-is is
 
 -- ---- whether none of them is refused
 
@@ -228,8 +232,8 @@ module _ (n : ℕ) (ws : List ℕ) (q : ℕ) (few : n ≤ 16) (l : q < n) (long 
 
 -- ---- whether those of the rows so far fit
 
-pub fit_start : (ws : List ℕ) (n : ℕ) (b f : Bool) → AllFit ws n 0 b f
-fit_start ws n b f = record { none = λ t h q l. absurd (omega arith) }
+pub fit_start : (ws : List ℕ) (n : ℕ) (b : Bool) → AllFit ws n 0 b true
+fit_start ws n b = record { none = λ t h q l. absurd (omega arith); bare = λ t. refl }
 
 pub fit_next : (ws : List ℕ) (n q : ℕ) (b f g : Bool) → AllFit ws n q b f → Fits ws n q b g
     → AllFit ws n (q + 1) b (f && g)
@@ -243,6 +247,7 @@ fit_next ws n q b f g all one =
             | inl e ↦ ap (λ (k : ℕ). (passes_refusal ws n k).refusal) e ∙ one.none t both.1
             | inr k ↦ all.none t both.0 j k
           ];
+      bare = λ t. (and-eq-true_iff f g).1 (all.bare t, one.bare t);
     }
 
 -- ---- the counts that are read

@@ -1,117 +1,96 @@
--- The answer to an image, by its refusal; the header; and its words as rows, turn cells and passes.
+-- The header of an image; and its words as rows, turn cells and passes.
 --
---   header_none, header_some    what the size that a first word names says of it
---   reading_refused, reading_accepted    the answer
---   into_refused, into_accepted   the cells with it
+--   Headed, headed, unheaded    what the size that a first word names says of it
+--   found_unheaded, found_misfit, found_words    what refuses an image by its first word
 --   image_rows, image_turns, image_bare, image_counts    all words: the rows decide where they refuse, else the turn
 --                               cells, else the passes, where there are such words
 --
 -- Assumes nothing.
-use Prim.Native.Nat.{ℕ, ◌-◌, ◌≤◌}
-use mathlib.Core.Path.{◌≡◌, refl, sym, ap, ◌∙◌, subst}
+use Prim.Native.Nat.{ℕ, ◌-◌, ◌≤◌, min}
+use mathlib.Core.Path.{◌≡◌, refl, sym, ap, ◌∙◌}
 use mathlib.Core.Bool.{Bool, true, false, cond}
 use mathlib.Core.List.{List}
 use native.Mathlib.Omega.{arith}
-use lib.Dec.{eqb}
-use lib.ListN.{length, get_or, take, drop, get_or-eq_default}
-use borrow.Author.Tests.{eq-eqb, ne_eqb}
+use lib.ListN.{length, get_or, drop}
+use Rattle.std.specs.Prelude.{Option, Some, None}
 use Rattle.machine.specs.Images.{
   bare_length,
   turn_place,
+  says_passes,
   size_in,
   is_header,
+  length_in,
+  slots_in,
   row_slots,
   turn_slots,
   pass_slots,
   bare_slots,
   slots,
+  Found,
   first_refusal,
-  rows_in,
-  table_in,
   image_refusal,
 }
-use Rattle.machine.specs.declared.Found.{Found}
-use Rattle.counting.proofs.TestLaws.{split}
 use Rattle.image_theorems.proofs.Slots.{length-row_slots, length-bare_slots}
 use Rattle.image_theorems.proofs.Headers.{header_facts}
-use Rattle.image_theorems.proofs.Reading.{first_some}
-use Rattle.cells.specs.View.{rows_of}
-use Rattle.image_theorems.proofs.RoundTrip.{length-table_in}
-use Rattle.images.specs.Answers.{reading_of, ReadInto}
-use Rattle.images.proofs.ReadingLaws.{reading_by}
+use Rattle.image_theorems.proofs.Reading.{first_some, refused_header, refused_length, refused_words}
+use Rattle.images.specs.Inner.{words_refusal}
 use Rattle.images.proofs.SlotLaws.{none_found}
 use Rattle.images.proofs.WalkLaws.{part_on}
-use Rattle.machine.specs.declared.Reading.{Reading}
 
 -- ---- the header
 
-pub record Header (w n : ℕ) : Type 0 where
-  pub is_header_lem : is_header w ≡ true
-  pub size_is : size_in w ≡ n
+-- the size n that the first word w names
+pub record Headed (w n : ℕ) : Type 0 where
+  pub is : is_header w ≡ true
+  pub size_is : n ≡ size_in w
   pub some : 2 ≤ n
   pub few : n ≤ 16
 
-header_true : (w : ℕ) → is_header w ≡ true → Header w (size_in w)
-header_true w h =
-    let f = header_facts w h in
-    record { is_header_lem = h; size_is = refl; some = f.some; few = f.few }
+module _ (w : ℕ) where
+  named : Bool → Option ℕ
+  named b = cond b (Some (size_in w)) None
 
-module _ (w n : ℕ) (is : n ≡ cond (is_header w) (size_in w) 0) where
-  pub header_none : n ≡ 0 → is_header w ≡ false
-  header_none z =
-      split (λ b. is_header w ≡ b → is_header w ≡ false) (is_header w)
-      (λ t e. let h = header_true w t in absurd (omega
-      (arith, is ∙ ap (λ (b : Bool). cond b (size_in w) 0) t, h.some))) (λ f e. e) refl
+  pub unheaded : cond (is_header w) (Some (size_in w)) None ≡ None → is_header w ≡ false
+  unfolding named
+  unheaded h = go (is_header w) h
+    where
+      go : (b : Bool) → named b ≡ None → b ≡ false
+      go true e = absurd (let z : ◌≡◌ {A = ℕ} 0 1 = cc in omega arith)
+      go false e = refl
 
-  pub header_some : (n ≡ 0 → ⊥) → Header w n
-  header_some ne =
-      split (λ b. is_header w ≡ b → Header w n) (is_header w)
-      (λ t e. subst (Header w) (sym (is ∙ ap (λ (b : Bool). cond b (size_in w) 0) t)) (header_true w t))
-      (λ f e. absurd (ne (is ∙ ap (λ (b : Bool). cond b (size_in w) 0) f))) refl
+  pub headed : (n : ℕ) → cond (is_header w) (Some (size_in w)) None ≡ Some n → Headed w n
+  unfolding named
+  headed n h = go (is_header w) refl h
+    where
+      go : (b : Bool) → is_header w ≡ b → named b ≡ Some n → Headed w n
+      go true e k =
+          let f = header_facts w e in
+          let size : n ≡ size_in w = cc in
+          record { is = e; size_is = size; some = omega (arith, f.some); few = omega (arith, f.few) }
+      go false e k = absurd (let z : ◌≡◌ {A = ℕ} 0 1 = cc in omega arith)
 
--- ---- the answer
+-- what refuses an image with the first word w
+module _ (ws : List ℕ) (w : ℕ) (head : w ≡ get_or ws 0 0) where
+  pub found_unheaded : is_header w ≡ false → record { refusal = 1; place = 0 } ≡ image_refusal ws
+  found_unheaded none = sym (refused_header ws (ap is_header (sym head) ∙ none))
 
-module _ (ws : List ℕ) where
-  pub reading_refused : (r p : ℕ) → image_refusal ws ≡ record { refusal = r; place = p } → (r ≡ 0 → ⊥)
-      → Reading.Refused r p ≡ reading_of ws
-  reading_refused r p e ne =
-      sym
-      (reading_by ws false (ap (λ (f : Found). eqb f.refusal 0) e ∙ ne_eqb r 0 ne)
-      ∙ ap (λ (f : Found). Reading.Refused f.refusal f.place) e)
+  module _ (n : ℕ) (h : Headed w n) where
+    is : is_header (get_or ws 0 0) ≡ true
+    is = ap is_header (sym head) ∙ h.is
 
-  pub reading_accepted : (n : ℕ) → (image_refusal ws).refusal ≡ 0 → size_in (get_or ws 0 0) ≡ n
-      → Reading.Table n ≡ reading_of ws
-  reading_accepted n z e = sym (reading_by ws true (eq-eqb _ _ z) ∙ ap Reading.Table e)
+    pub found_misfit : (all p : ℕ) → all ≡ length_in w → (length ws ≡ all → ⊥) → p ≡ min (length ws) all
+        → record { refusal = 2; place = p } ≡ image_refusal ws
+    found_misfit all p long ne here =
+        let same = long ∙ ap length_in head in
+        sym
+        (refused_length ws is (λ e. ne (e ∙ sym same))
+        ∙ (λ i. record { refusal = 2; place = (ap (min (length ws)) (sym same) ∙ sym here) i }))
 
--- ---- the whole
-
-module _ (ws : List ℕ) (x y : List (List ℕ)) (same : length y ≡ length x) where
-  pub into_refused : (r p : ℕ) → image_refusal ws ≡ record { refusal = r; place = p } → (r ≡ 0 → ⊥) → ReadInto ws x y
-      (Reading.Refused r p)
-  into_refused r p e ne =
-      record {
-        answer_is = reading_refused ws r p e ne;
-        rows_are = λ z. absurd (ne (sym (ap (λ (f : Found). f.refusal) e) ∙ z));
-        size_is = same;
-      }
-
-  pub into_accepted : (n : ℕ)
-      → size_in (get_or ws 0 0) ≡ n
-      → (image_refusal ws).refusal ≡ 0
-      → rows_of (take n y) ≡ rows_in n ws 0 n
-      → ReadInto ws x y (Reading.Table n)
-  unfolding table_in
-  into_accepted n is z rows =
-      record {
-        answer_is = reading_accepted ws n z is;
-        rows_are = λ _. ap (λ (k : ℕ). rows_of (take k y)) (length-table_in ws n is) ∙ rows ∙ ap
-            (λ (k : ℕ). rows_in k ws 0 k) (sym is);
-        size_is = same;
-      }
-
--- no word, no header
-pub empty_header : (ws : List ℕ) → length ws ≡ 0 → is_header (get_or ws 0 0) ≡ false
-empty_header ws e = ap is_header (get_or-eq_default ws 0 (omega arith))
+    pub found_words : length ws ≡ length_in w → image_refusal ws ≡ words_refusal ws n (says_passes w)
+    found_words long =
+        refused_words ws is (long ∙ ap length_in head)
+        ∙ ap (λ (x : ℕ). first_refusal (size_in x) 1 (slots_in x) (drop 1 ws)) (sym head)
+        ∙ ap (λ (m : ℕ). first_refusal m 1 (cond (says_passes w) (slots m) (bare_slots m)) (drop 1 ws)) (sym h.size_is)
 
 -- ---- the words
 
@@ -129,8 +108,8 @@ module _ (n : ℕ) (ws : List ℕ) where
   abbrev of_bare : Found
   of_bare = first_refusal n 1 (bare_slots n) (drop 1 ws)
 
-  abbrev pub of_all : Bool → Found
-  of_all b = first_refusal n 1 (cond b (slots n) (bare_slots n)) (drop 1 ws)
+  abbrev of_all : Bool → Found
+  of_all b = words_refusal ws n b
 
   bare_rows : (of_rows.refusal ≡ 0 → ⊥) → of_bare ≡ of_rows
   unfolding bare_slots

@@ -2,17 +2,17 @@
 --
 --   upper_half                         kind, passer and number are one comparison
 --   state_slot, set-slot, turn_slot, count-slot    the refusal of a word of each kind
---   none_found, stop_at, pass_at       the first refusal of several words, by that of the first of them
+--   none_found, stop_at, pass_at, last_at    the first refusal of several words, by what was found of the first of them
 --
 -- Assumes nothing.
 use Prim.Native.Nat.{ℕ, suc, ◌+◌, ◌*◌, ◌/◌, ◌%◌, ◌^◌, ◌≤◌, ◌<◌}
 use mathlib.Core.Path.{◌≡◌, refl, sym, ap, ◌∙◌}
-use mathlib.Core.Bool.{Bool, true, false, cond, ◌&&◌, ◌||◌, not, and-eq-true_iff}
-use mathlib.Core.List.{List, ◌∷◌}
+use mathlib.Core.Bool.{Bool, true, false, cond, ◌&&◌, ◌||◌, not, and-eq-true_iff, false≢true}
+use mathlib.Core.List.{List, [], ◌∷◌}
 use native.Mathlib.Omega.{arith}
 use lib.Dec.{eqb, leb, ltb, leb-suc-suc}
 use lib.Bits.{bit_or, or_add_and, and_le_l, and_le_r}
-use borrow.Author.Tests.{eqb-true, eq-eqb, ne_eqb, leb-true, le-leb}
+use borrow.Author.Tests.{eqb-true, eqb-false, eq-eqb, ne_eqb, leb-true, le-leb}
 use Rattle.counting.proofs.TestLaws.{same_test}
 use Rattle.machine.specs.Images.{
   Slot,
@@ -30,13 +30,17 @@ use Rattle.machine.specs.Images.{
   spare_body,
   in_range,
   off_diagonal,
+  Found,
+  found_in,
   slot_refusal,
   first_refusal,
 }
 use Rattle.machine.specs.Tables.{level_fits}
+use Rattle.machine.specs.declared.ImageError.{ImageError}
+use Rattle.tables.proofs.RefusalLaws.{number_some}
 use Rattle.image_theorems.proofs.Reading.{first_next, first_stop}
-use Rattle.machine.specs.declared.Found.{Found}
-use Rattle.images.specs.Inner.{SetKind, SetsFit}
+use Rattle.std.specs.Prelude.{Result, Ok, Err, IsErr}
+use Rattle.images.specs.Inner.{SetKind, SetsFit, found_at}
 
 -- ---- the upper half
 
@@ -83,23 +87,22 @@ module _ (s : Slot) (w u : ℕ) (first : s.passer < 16) (second : s.number < 16)
 abbrev by_tests : Bool → Bool → Bool → ℕ
 by_tests fits range misfit = cond (not fits) 3 (cond (not range) 4 (cond misfit 5 0))
 
-pub state_slot : (n q w : ℕ) → q < 16
+pub state_slot : (n q w u : ℕ) → q < 16 → u ≡ STATE * 4096 + q
     → slot_refusal n (slot STATE q) w
-    ≡ by_tests (eqb (w / 65536) (36864 + q) && eqb (w / 1024 % 4) 0) (ltb (code_in w) 8 && ltb (level_in w) n)
+    ≡ by_tests (eqb (w / 65536) u && eqb (w / 1024 % 4) 0) (ltb (code_in w) 8 && ltb (level_in w) n)
     (not (level_fits (location_in w) (level_in w)))
 unfolding slot_refusal
-state_slot n q w low =
-    ap (λ (u : Bool). by_tests (u && spare_body STATE w) (in_range n STATE w)
+state_slot n q w u low is =
+    ap (λ (b : Bool). by_tests (b && spare_body STATE w) (in_range n STATE w)
     (not (level_fits (location_in w) (level_in w))))
-    (upper_half (slot STATE q) w (36864 + q) (omega arith) low (omega arith))
+    (upper_half (slot STATE q) w u (omega arith) low (omega arith))
 
-pub turn_slot : (n q w : ℕ) → q < 16
-    → slot_refusal n (slot TURN q) w ≡ by_tests (eqb (w / 65536) (53248 + q) && eqb (w / 256 % 256) 0)
-    (ltb (w % 256) n) false
+pub turn_slot : (n q w u : ℕ) → q < 16 → u ≡ TURN * 4096 + q
+    → slot_refusal n (slot TURN q) w ≡ by_tests (eqb (w / 65536) u && eqb (w / 256 % 256) 0) (ltb (w % 256) n) false
 unfolding slot_refusal
-turn_slot n q w low =
-    ap (λ (u : Bool). by_tests (u && spare_body TURN w) (in_range n TURN w) false)
-    (upper_half (slot TURN q) w (53248 + q) (omega arith) low (omega arith))
+turn_slot n q w u low is =
+    ap (λ (b : Bool). by_tests (b && spare_body TURN w) (in_range n TURN w) false)
+    (upper_half (slot TURN q) w u (omega arith) low (omega arith))
 
 -- a set kind has no spare bits below, no level, no passes, and the range of a set
 record SetTests (n k q w full : ℕ) : Type 0 where
@@ -120,14 +123,14 @@ and-true : (a b : Bool) → b ≡ true → (a && b) ≡ a
 and-true true b e = e
 and-true false b e = refl
 
-pub set-slot : (n k q w full : ℕ) → SetKind k → full + 1 ≡ 2 ^ n → q < 16
-    → slot_refusal n (slot k q) w ≡ by_tests (eqb (w / 65536) (k * 4096 + q)) (leb (w % 65536) full) false
+pub set-slot : (n k q w u full : ℕ) → SetKind k → full + 1 ≡ 2 ^ n → q < 16 → u ≡ k * 4096 + q
+    → slot_refusal n (slot k q) w ≡ by_tests (eqb (w / 65536) u) (leb (w % 65536) full) false
 unfolding slot_refusal
-set-slot n k q w full kind is low =
+set-slot n k q w u full kind is low here =
     let t = set_tests n k q w full kind is in
     let none : 0 < 16 = omega arith in
-    let whole : k * 4096 + q ≡ k * 4096 + 0 * 256 + q = omega arith in
-    let upper = upper_half (slot k q) w (k * 4096 + q) none low whole in
+    let whole : u ≡ k * 4096 + 0 * 256 + q = omega arith in
+    let upper = upper_half (slot k q) w u none low whole in
     let fits = and-true _ (spare_body k w) t.no_spare ∙ upper in
     let level = ap (λ (b : Bool). b && not (level_fits (location_in w) (level_in w))) t.no_level in
     λ i. by_tests (fits i) (t.range_is i) (level i)
@@ -140,9 +143,10 @@ or_above_r : (a b : ℕ) → b ≤ bit_or a b
 or_above_r a b = omega (arith, or_add_and a b, and_le_l a b)
 
 -- three sets by one comparison of their union
-module _ (n q b c d full : ℕ) (is : full + 1 ≡ 2 ^ n) (low : q < 16) where
+module _ (n q b c d full : ℕ) (is : full + 1 ≡ 2 ^ n) (low : q < 16) (e l a : ℕ) (est-is : e ≡ EST * 4096 + q)
+    (lis-is : l ≡ LIS * 4096 + q) (ahead-is : a ≡ AHEAD * 4096 + q) where
   abbrev upper_is : ℕ → ℕ → Bool
-  upper_is k w = eqb (w / 65536) (k * 4096 + q)
+  upper_is u w = eqb (w / 65536) u
 
   abbrev two_sets : ℕ
   two_sets = bit_or (b % 65536) (c % 65536)
@@ -150,42 +154,38 @@ module _ (n q b c d full : ℕ) (is : full + 1 ≡ 2 ^ n) (low : q < 16) where
   abbrev three_sets : ℕ
   three_sets = bit_or two_sets (d % 65536)
 
-  passes : (k w : ℕ) → SetKind k → upper_is k w ≡ true → w % 65536 ≤ full → slot_refusal n (slot k q) w ≡ 0
-  passes k w kind u l = set-slot n k q w full kind is low ∙ rw (u, le-leb (w % 65536) full l) refl
+  passes : (k w u : ℕ) → SetKind k → u ≡ k * 4096 + q → upper_is u w ≡ true → w % 65536 ≤ full
+      → slot_refusal n (slot k q) w ≡ 0
+  passes k w u kind here h m = set-slot n k q w u full kind is low here ∙ rw (h, le-leb (w % 65536) full m) refl
 
-  pub sets_fit : SetsFit n q b c d (upper_is EST b && upper_is LIS c && upper_is AHEAD d && leb three_sets full)
+  pub sets_fit : SetsFit n q b c d (upper_is e b && upper_is l c && upper_is a d && leb three_sets full)
   sets_fit =
       record {
-        est = λ h. passes EST b kind-est (tests h).0 (omega (
+        est = λ h. passes EST b e (record { from = omega arith; to = omega arith }) est-is (tests h).0 (omega (
           arith,
           or_above_l (b % 65536) (c % 65536),
           or_above_l two_sets (d % 65536),
           (tests h).3,
         ));
-        lis = λ h. passes LIS c kind-lis (tests h).1 (omega (
+        lis = λ h. passes LIS c l (record { from = omega arith; to = omega arith }) lis-is (tests h).1 (omega (
           arith,
           or_above_r (b % 65536) (c % 65536),
           or_above_l two_sets (d % 65536),
           (tests h).3,
         ));
-        ahead = λ h. passes AHEAD d kind-ahead (tests h).2 (omega (arith, or_above_r two_sets (d % 65536), (tests h).3));
+        ahead = λ h. passes AHEAD d a (record { from = omega arith; to = omega arith }) ahead-is (tests h).2 (omega (
+          arith,
+          or_above_r two_sets (d % 65536),
+          (tests h).3,
+        ));
       }
     where
-      kind-est : SetKind EST
-      kind-est = record { from = omega arith; to = omega arith }
-
-      kind-lis : SetKind LIS
-      kind-lis = record { from = omega arith; to = omega arith }
-
-      kind-ahead : SetKind AHEAD
-      kind-ahead = record { from = omega arith; to = omega arith }
-
-      tests : (upper_is EST b && upper_is LIS c && upper_is AHEAD d && leb three_sets full) ≡ true
-          → (upper_is EST b ≡ true) × (upper_is LIS c ≡ true) × (upper_is AHEAD d ≡ true) × (three_sets ≤ full)
+      tests : (upper_is e b && upper_is l c && upper_is a d && leb three_sets full) ≡ true
+          → (upper_is e b ≡ true) × (upper_is l c ≡ true) × (upper_is a d ≡ true) × (three_sets ≤ full)
       tests h =
-          let last = (and-eq-true_iff (upper_is EST b && upper_is LIS c && upper_is AHEAD d) (leb three_sets full)).0 h in
-          let third = (and-eq-true_iff (upper_is EST b && upper_is LIS c) (upper_is AHEAD d)).0 last.0 in
-          let both = (and-eq-true_iff (upper_is EST b) (upper_is LIS c)).0 third.0 in
+          let last = (and-eq-true_iff (upper_is e b && upper_is l c && upper_is a d) (leb three_sets full)).0 h in
+          let third = (and-eq-true_iff (upper_is e b && upper_is l c) (upper_is a d)).0 last.0 in
+          let both = (and-eq-true_iff (upper_is e b) (upper_is l c)).0 third.0 in
           (both.0, both.1, third.1, leb-true three_sets full last.1)
 
 pub count-slot : (n q r w u : ℕ) → q < 16 → r < 16 → u ≡ PASSES * 4096 + q * 256 + r
@@ -202,12 +202,42 @@ count-slot n q r w u h l is =
 pub none_found : {f g : Found} → f ≡ g → f.refusal ≡ 0 → g.refusal ≡ 0
 none_found e z = sym (ap (λ (x : Found). x.refusal) e) ∙ z
 
-pub stop_at : (n i p r : ℕ) (s : Slot) (ss : List Slot) (w : ℕ) (ws : List ℕ) → i ≡ p → r ≡ slot_refusal n s w →
-    (r ≡ 0 → ⊥)
-    → (first_refusal n i (s ∷ ss) (w ∷ ws)) ≡ record { refusal = r; place = p }
-stop_at n i p r s ss w ws here is some =
-    first_stop n i s ss w ws (λ z. some (is ∙ z)) ∙ (λ x. record { refusal = sym is x; place = here x })
+-- an error has a refusal
+pub err_some : {A : Type 0} (r : Result A ImageError) → IsErr r → (found_in r).refusal ≡ 0 → ⊥
+err_some (Ok x) h z = absurd (false≢true h)
+err_some (Err e) h z = number_some e.refusal z
 
-pub pass_at : (n i r : ℕ) (s : Slot) (ss : List Slot) (w : ℕ) (ws : List ℕ) → r ≡ slot_refusal n s w → r ≡ 0
-    → first_refusal n i (s ∷ ss) (w ∷ ws) ≡ first_refusal n (suc i) ss ws
-pass_at n i r s ss w ws is none = first_next n i s ss w ws (sym is ∙ none)
+-- what the check of one word found, the refusal r of the word at place p
+module _ (f : Found) (r p : ℕ) (is : f ≡ found_at r p) where
+  abbrev found_by : Bool → Found
+  found_by b = elim b [ true ↦ record { refusal = 0; place = 0 } | false ↦ record { refusal = r; place = p } ]
+
+  found_zero : f.refusal ≡ 0 → r ≡ 0
+  found_zero z = go (eqb r 0) refl
+    where
+      go : (b : Bool) → eqb r 0 ≡ b → r ≡ 0
+      go true e = eqb-true r 0 e
+      go false e = none_found (is ∙ ap found_by e) z
+
+  found_some : (f.refusal ≡ 0 → ⊥) → (f ≡ record { refusal = r; place = p }) × (r ≡ 0 → ⊥)
+  found_some some = go (eqb r 0) refl
+    where
+      go : (b : Bool) → eqb r 0 ≡ b → (f ≡ record { refusal = r; place = p }) × (r ≡ 0 → ⊥)
+      go true e = absurd (some (ap (λ (x : Found). x.refusal) (is ∙ ap found_by e)))
+      go false e = (is ∙ ap found_by e, eqb-false r 0 e)
+
+  -- the first of several words, and the last
+  module _ (n i : ℕ) (s : Slot) (w : ℕ) (here : i ≡ p) (slot-is : r ≡ slot_refusal n s w) where
+    pub stop_at : (ss : List Slot) (ws : List ℕ) → (f.refusal ≡ 0 → ⊥) → f ≡ first_refusal n i (s ∷ ss) (w ∷ ws)
+    stop_at ss ws some =
+        let both = found_some some in
+        both.0
+        ∙ sym (first_stop n i s ss w ws (λ z. both.1 (slot-is ∙ z)) ∙ (λ x. record { refusal = sym slot-is x; place = here x }))
+
+    pub pass_at : (ss : List Slot) (ws : List ℕ) → f.refusal ≡ 0
+        → first_refusal n i (s ∷ ss) (w ∷ ws) ≡ first_refusal n (suc i) ss ws
+    pass_at ss ws none = first_next n i s ss w ws (sym slot-is ∙ found_zero none)
+
+    pub last_at : (ws : List ℕ) → f ≡ first_refusal n i (s ∷ []) (w ∷ ws)
+    unfolding first_refusal
+    last_at ws = is ∙ (λ x. found_at (slot-is x) (sym here x))

@@ -7,11 +7,12 @@
 --   run_on, run_stop, run_end             a loop over single slots; turns_on, .. over turn cells
 --
 -- Assumes nothing.
-use Prim.Native.Nat.{ℕ, zero, suc, ◌+◌, ◌-◌, ◌*◌, ◌≤◌, ◌<◌}
+use Prim.Native.Nat.{ℕ, suc, ◌+◌, ◌-◌, ◌*◌, ◌≤◌, ◌<◌}
 use mathlib.Core.Path.{◌≡◌, refl, sym, ap, ap₂, ◌∙◌}
-use mathlib.Core.List.{List, [], ◌∷◌, ◌++◌, map}
+use mathlib.Core.Bool.{Bool, true, false, cond}
+use mathlib.Core.List.{List, [], ◌∷◌, ◌++◌}
 use native.Mathlib.Omega.{arith}
-use lib.ListN.{length, get_or, take, drop, length-drop}
+use lib.ListN.{length, get_or, drop, length-drop}
 use lib.Seq.{drop-cons, drop-drop}
 use Rattle.machine.specs.Images.{
   Slot,
@@ -22,20 +23,22 @@ use Rattle.machine.specs.Images.{
   AHEAD,
   TURN,
   bare_length,
+  image_length,
   row_place,
   turn_place,
   code_in,
   row_slots,
   turn_slots,
+  Found,
   slot_refusal,
   first_refusal,
 }
-use Rattle.machine.specs.declared.Found.{Found}
 use Rattle.image_theorems.proofs.Slots.{length-row_slots}
 use Rattle.image_theorems.proofs.WordChecks.{passes}
 use Rattle.image_theorems.proofs.Fields.{state_kept}
 use Rattle.image_theorems.proofs.Reading.{first_zero, first_some, first_none}
-use Rattle.images.proofs.SlotLaws.{stop_at, pass_at}
+use Rattle.images.specs.Inner.{Sized, found_at}
+use Rattle.images.proofs.SlotLaws.{none_found, stop_at, pass_at}
 
 -- ---- the words of a row
 
@@ -44,7 +47,7 @@ next_word : (ws : List ℕ) (i j : ℕ) → suc i ≡ j → i < length ws → dr
 next_word ws i j e h = drop-cons ws i 0 h ∙ ap (λ (x : ℕ). get_or ws i 0 ∷ drop x ws) e
 
 -- the four words from place i on, before others
-abbrev four_words : List ℕ → ℕ → List ℕ → List ℕ
+abbrev pub four_words : List ℕ → ℕ → List ℕ → List ℕ
 four_words ws i vs = get_or ws i 0 ∷ get_or ws (i + 1) 0 ∷ get_or ws (i + 2) 0 ∷ get_or ws (i + 3) 0 ∷ vs
 
 four_words_lem : (ws : List ℕ) (i : ℕ) → i + 4 ≤ length ws → drop i ws ≡ four_words ws i (drop (i + 4) ws)
@@ -56,23 +59,33 @@ four_words_lem ws i h =
     (next_word ws (i + 2) (i + 3) (omega arith) (omega arith)
     ∙ ap (λ (l : List ℕ). get_or ws (i + 2) 0 ∷ l) (next_word ws (i + 3) (i + 4) (omega arith) (omega arith))))
 
-module _ (n : ℕ) (ws : List ℕ) (q i : ℕ) (here : i ≡ row_place q) (within : row_place q + 4 ≤ length ws) where
-  pub row_found : first_refusal n (row_place q) (row_slots q 1) (four_words ws i [])
-      ≡ first_refusal n (row_place q) (row_slots q 1) (drop (row_place q) ws)
-  unfolding first_refusal row_slots
-  row_found =
-      ap (λ (x : ℕ). first_refusal n (row_place q) (row_slots q 1) (four_words ws x [])) here
-      ∙ sym (ap (first_refusal n (row_place q) (row_slots q 1)) (four_words_lem ws (row_place q) within))
+-- they stand within the image, of either form
+pub row_within : (ws : List ℕ) (n : ℕ) (b : Bool) (q : ℕ) → Sized ws n b → q < n → row_place q + 4 ≤ length ws
+row_within ws n b q s l = go b s.length_is
+  where
+    go : (b : Bool) → length ws ≡ cond b (image_length n) (bare_length n) → row_place q + 4 ≤ length ws
+    go true e = omega (arith, e)
+    go false e = omega (arith, e)
 
-  pub row_passes : (first_refusal n (row_place q) (row_slots q 1) (four_words ws i [])).refusal ≡ 0
-      → code_in (get_or ws i 0) < 8
+-- the four words of a row, and what follows of a row that passes
+module _ (n : ℕ) (ws : List ℕ) (q : ℕ) (within : row_place q + 4 ≤ length ws) where
+  pub row_found : (i : ℕ) → i ≡ row_place q
+      → first_refusal n (row_place q) (row_slots q 1) (drop (row_place q) ws)
+      ≡ first_refusal n i (row_slots q 1) (four_words ws i (drop (i + 4) ws))
+  row_found i here =
+      ap (first_refusal n (row_place q) (row_slots q 1)) (four_words_lem ws (row_place q) within)
+      ∙ ap (λ (x : ℕ). first_refusal n x (row_slots q 1) (four_words ws x (drop (x + 4) ws))) (sym here)
+
+  pub row_passes : (first_refusal n (row_place q) (row_slots q 1) (drop (row_place q) ws)).refusal ≡ 0
+      → code_in (get_or ws (row_place q) 0) < 8
   unfolding row_slots
   row_passes z =
+      let i = row_place q in
       let ss = slot EST q ∷ slot LIS q ∷ slot AHEAD q ∷ [] in
-      let vs = get_or ws (i + 1) 0 ∷ get_or ws (i + 2) 0 ∷ get_or ws (i + 3) 0 ∷ [] in
-      (state_kept n q (get_or ws i 0)
-      (passes n (slot STATE q) (get_or ws i 0) (first_zero n (row_place q) (slot STATE q) ss (get_or ws i 0) vs z))
-      ).code_low
+      let vs = drop 1 (four_words ws i (drop (i + 4) ws)) in
+      let e = none_found (row_found i refl) z in
+      (state_kept n q (get_or ws i 0) (passes n (slot STATE q) (get_or ws i 0)
+      (first_zero n i (slot STATE q) ss (get_or ws i 0) vs e))).code_low
 
 -- ---- some of the slots, then others
 
@@ -157,13 +170,6 @@ module _ (n : ℕ) (ws : List ℕ) where
         groups_on n ws row_place one_row row_slots no_rows first_row q l (omega (arith, length-row_slots q 1))
         (omega arith)
 
--- ---- the rows that the cells stand for
-
-pub map-take : {A B : Type 0} (f : A → B) (k : ℕ) (l : List A) → map f (take k l) ≡ take k (map f l)
-map-take f zero l = refl
-map-take f (suc k) [] = refl
-map-take {B = B} f (suc k) (x ∷ l) = ap (λ (v : List B). f x ∷ v) (map-take f k l)
-
 -- ---- a loop over single slots
 
 module _ (n : ℕ) (ws : List ℕ) (base : ℕ) (one : ℕ → Slot) (run : ℕ → ℕ → List Slot)
@@ -178,10 +184,11 @@ module _ (n : ℕ) (ws : List ℕ) (base : ℕ) (one : ℕ → Slot) (run : ℕ 
       ap (λ (ss : List Slot). first_refusal n (base + n) ss (drop (base + n) ws))
       (ap (run n) {x = n - n} {y = 0} (omega arith) ∙ nothing n)
 
-  module _ (k i r : ℕ) (l : k < n) (within : base + k < length ws) (here : i ≡ base + k)
-      (is : r ≡ slot_refusal n (one k) (get_or ws i 0)) where
-    found : r ≡ slot_refusal n (one k) (get_or ws (base + k) 0)
-    found = is ∙ ap (λ (x : ℕ). slot_refusal n (one k) (get_or ws x 0)) here
+  -- what was found of slot k, the word at place i
+  module _ (k i r : ℕ) (f : Found) (l : k < n) (within : base + k < length ws) (here : i ≡ base + k)
+      (slot-is : r ≡ slot_refusal n (one k) (get_or ws i 0)) (is : f ≡ found_at r i) where
+    refusal-is : r ≡ slot_refusal n (one k) (get_or ws (base + k) 0)
+    refusal-is = slot-is ∙ ap (λ (x : ℕ). slot_refusal n (one k) (get_or ws x 0)) here
 
     split_run : from_slot k
         ≡ first_refusal n (base + k) (one k ∷ run (suc k) (n - suc k))
@@ -191,18 +198,17 @@ module _ (n : ℕ) (ws : List ℕ) (base : ℕ) (one : ℕ → Slot) (run : ℕ 
         (ap (run k) {x = n - k} {y = suc (n - suc k)} (omega arith) ∙ first k (n - suc k))
         (drop-cons ws (base + k) 0 within)
 
-    pub run_stop : (r ≡ 0 → ⊥) → record { refusal = r; place = i } ≡ from_slot k
+    pub run_stop : (f.refusal ≡ 0 → ⊥) → f ≡ from_slot k
     run_stop some =
-        sym
-        (split_run
-        ∙ stop_at n (base + k) i r (one k) (run (suc k) (n - suc k)) (get_or ws (base + k) 0)
-        (drop (suc (base + k)) ws) (sym here) found some)
+        stop_at f r i is n (base + k) (one k) (get_or ws (base + k) 0) (sym here) refusal-is (run (suc k) (n - suc k))
+        (drop (suc (base + k)) ws) some
+        ∙ sym split_run
 
-    pub run_on : r ≡ 0 → from_slot k ≡ from_slot (k + 1)
+    pub run_on : f.refusal ≡ 0 → from_slot k ≡ from_slot (k + 1)
     run_on none =
         split_run
-        ∙ pass_at n (base + k) r (one k) (run (suc k) (n - suc k)) (get_or ws (base + k) 0)
-        (drop (suc (base + k)) ws) found none
+        ∙ pass_at f r i is n (base + k) (one k) (get_or ws (base + k) 0) (sym here) refusal-is
+        (run (suc k) (n - suc k)) (drop (suc (base + k)) ws) none
         ∙ ap (λ (x : ℕ). first_refusal n x (run (suc k) (n - suc k)) (drop x ws)) {x = suc (base + k)}
         {y = base + (k + 1)} (omega arith)
         ∙ ap (λ (x : ℕ). first_refusal n (base + (k + 1)) (run x (n - x)) (drop (base + (k + 1)) ws))
@@ -226,10 +232,11 @@ module _ (n : ℕ) (ws : List ℕ) where
   pub turns_end : from_turn n ≡ record { refusal = 0; place = 0 }
   turns_end = run_end n ws (4 * n) (slot TURN) turn_slots no_turns first_turn
 
-  module _ (k i r : ℕ) (l : k < n) (long : bare_length n ≤ length ws) (here : i ≡ turn_place n k)
-      (is : r ≡ slot_refusal n (slot TURN k) (get_or ws i 0)) where
-    pub turns_stop : (r ≡ 0 → ⊥) → record { refusal = r; place = i } ≡ from_turn k
-    turns_stop = run_stop n ws (4 * n) (slot TURN) turn_slots no_turns first_turn k i r l (omega arith) here is
+  module _ (k i r : ℕ) (f : Found) (l : k < n) (long : bare_length n ≤ length ws) (here : i ≡ turn_place n k)
+      (slot-is : r ≡ slot_refusal n (slot TURN k) (get_or ws i 0)) (is : f ≡ found_at r i) where
+    pub turns_stop : (f.refusal ≡ 0 → ⊥) → f ≡ from_turn k
+    turns_stop =
+        run_stop n ws (4 * n) (slot TURN) turn_slots no_turns first_turn k i r f l (omega arith) here slot-is is
 
-    pub turns_on : r ≡ 0 → from_turn k ≡ from_turn (k + 1)
-    turns_on = run_on n ws (4 * n) (slot TURN) turn_slots no_turns first_turn k i r l (omega arith) here is
+    pub turns_on : f.refusal ≡ 0 → from_turn k ≡ from_turn (k + 1)
+    turns_on = run_on n ws (4 * n) (slot TURN) turn_slots no_turns first_turn k i r f l (omega arith) here slot-is is

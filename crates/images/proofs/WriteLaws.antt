@@ -10,13 +10,13 @@
 --
 -- Assumes nothing.
 use Prim.Native.Nat.{ℕ, zero, suc, ◌+◌, ◌-◌, ◌*◌, ◌≤◌, ◌<◌}
-use mathlib.Core.Path.{◌≡◌, refl, sym, ap, ap₂, ◌∙◌, subst}
-use mathlib.Core.Bool.{Bool, cond, not}
+use mathlib.Core.Path.{◌≡◌, refl, sym, ap, ap₂, ◌∙◌}
+use mathlib.Core.Bool.{Bool, true, false, cond, not}
 use mathlib.Core.List.{List, [], ◌∷◌, ◌++◌, map-append}
 use native.Mathlib.Nat.{mul-zero, mul-suc}
 use native.Mathlib.Numerals.{add-one}
 use native.Mathlib.Omega.{arith}
-use lib.Dec.{leb}
+use lib.Dec.{eqb, leb}
 use lib.ListN.{length, get_or, set, length-map, length-append}
 use borrow.Author.Tests.{eq-eqb, ne_eqb, le-leb, lt-leb}
 use Rattle.counting.specs.Placing.{placed}
@@ -26,14 +26,29 @@ use Rattle.machine.specs.Tables.{Table, row, locations, table_refusal}
 use Rattle.machine.specs.Images.{slot, STATE, TURN, row_slots, turn_slots, pass_slots, bare_slots, slots}
 use Rattle.machine.specs.Images.{bare_length, image_length, turn_place, pass_place, header_of, word_in, image_of}
 use Rattle.machine.specs.Images.{Written, written_of}
+use Rattle.machine.specs.declared.Row.{Row}
+use Rattle.machine.specs.Rows.{blank}
+use Rattle.std.proofs.lemmas.List.{get_or_default}
 use Rattle.machine.proofs.SoundRows.{sound_rows}
 use Rattle.image_theorems.proofs.Locations.{place_below}
 use Rattle.image_theorems.proofs.Slots.{no_slot, length-row_slots, length-turn_slots, length-pass_slots}
 use Rattle.image_theorems.proofs.Slots.{slot_of_row, slot_of_turn, slot_of_count, pair_low}
 use Rattle.image_theorems.proofs.RoundTrip.{get_d_map_within}
+use Rattle.std.specs.Prelude.{Result, Ok, Err}
+use Rattle.machine.specs.Refusals.{refusal_in}
+use Rattle.machine.specs.declared.Refusal.{Refusal}
 use Rattle.images.specs.Answers.{Writes}
 use Rattle.images.specs.Inner.{Packable, word_for, row_words_of, pass_words, rows_part, turns_part, passes_part}
 use Rattle.images.proofs.CountLaws.{passes_within, length-pass_words, pass_word_lem}
+
+-- what a table is read with past its end
+abbrev pub void : Row
+void =
+    record { location = 0; act = 0; bb = 0; level = 0; est = 0; lis = 0; ahead = 0; turn = 0; passes = [] }
+
+-- a row that is there
+pub row_at : (t : Table) (q : ℕ) → q < length t → get_or t q void ≡ row t q
+row_at t q h = get_or_default t q void blank h
 
 -- ---- the parts of an image
 
@@ -134,31 +149,26 @@ module _ (t : Table) where
         ∙ placed_then l 0 first_part (passes_part t) (omega arith)
         ∙ ap (placed l 0) (sym image_parts)
 
--- ---- the loop over processes, of which there are n
+-- ---- the loop over processes
 
-module _ (t : Table) (o : List ℕ) (n : ℕ) where
+module _ (t : Table) (o : List ℕ) where
   -- after the passes of q processes
   abbrev pub passes_put : ℕ → List ℕ
-  passes_put q = begun o (bare_length n) (passes_part t) (n * q)
+  passes_put q = begun o (bare_length (length t)) (passes_part t) (length t * q)
 
   pub passes_start : o ≡ passes_put 0
   passes_start =
-      begun_start o (bare_length n) (passes_part t)
-      ∙ ap (begun o (bare_length n) (passes_part t)) (sym (mul-zero n))
+      begun_start o (bare_length (length t)) (passes_part t)
+      ∙ ap (begun o (bare_length (length t)) (passes_part t)) (sym (mul-zero (length t)))
 
-  module _ (is : n ≡ length t) (q : ℕ) where
-    pub passes_next : q < n → image_length (length t) ≤ length o
-        → placed (passes_put q) (pass_place n q 0) (pass_words n q (row t q).passes) ≡ passes_put (q + 1)
-    passes_next =
-        subst (λ (m : ℕ). q < m
-        → image_length (length t) ≤ length o
-        → placed (begun o (bare_length m) (passes_part t) (m * q)) (pass_place m q 0) (pass_words m q (row t q).passes)
-        ≡ begun o (bare_length m) (passes_part t) (m * (q + 1))) (sym is) (next_passes t o q)
+  pub passes_next : (q : ℕ) → q < length t → image_length (length t) ≤ length o
+      → placed (passes_put q) (pass_place (length t) q 0) (pass_words (length t) q (row t q).passes) ≡ passes_put (q + 1)
+  passes_next = next_passes t o
 
-    pub passes_end : q ≡ n → passes_put q ≡ placed o (bare_length n) (passes_part t)
-    passes_end end =
-        let whole : n * q ≡ length t * length t = ap₂ (λ (a b : ℕ). a * b) is (end ∙ is) in
-        begun_end o (bare_length n) (passes_part t) (n * q) (omega (arith, whole, length-passes_part t))
+  pub passes_end : (q : ℕ) → q ≡ length t → passes_put q ≡ placed o (bare_length (length t)) (passes_part t)
+  passes_end q end =
+      let whole : length t * q ≡ length t * length t = ap (λ (k : ℕ). length t * k) end in
+      begun_end o (bare_length (length t)) (passes_part t) (length t * q) (omega (arith, whole, length-passes_part t))
 
 -- ---- the fields of a sound row
 
@@ -182,37 +192,33 @@ module _ (t : Table) (l : List ℕ) where
       (cond (not b) (record { refusal = 13; words = l })
       (record { refusal = 0; words = placed l 0 (image_of t) }))
 
-  module _ (r : ℕ) (is : r ≡ table_refusal t) where
-    pub written_sound : (r ≡ 0 → ⊥) → Writes t l l r
-    unfolding written_of
-    written_sound ne =
-        let e = ap (λ (a : Bool). outcome a (leb (image_length (length t)) (length l)))
-        (ne_eqb (table_refusal t) 0 (λ z. ne (is ∙ z))) in
-        record {
-          refusal_is = is ∙ sym (ap (λ (w : Written). w.refusal) e);
-          words_are = sym
-              (ap (λ (w : Written). w.words) e);
-        }
+  -- it wrote what there is to write, and answers so
+  writes : (m : List ℕ) (r : Result (Unit {0}) Refusal) (a b : Bool) → eqb (table_refusal t) 0 ≡ a
+      → leb (image_length (length t)) (length l) ≡ b
+      → outcome a b ≡ record { refusal = refusal_in r; words = m }
+      → Writes t l m r
+  unfolding written_of
+  writes m r a b sound fits is =
+      let e = ap₂ outcome sound fits ∙ is in
+      record {
+        refusal_is = sym (ap (λ (w : Written). w.refusal) e);
+        words_are = sym (ap (λ (w : Written). w.words) e);
+      }
 
-    pub written_few : r ≡ 0 → length l < image_length (length t) → Writes t l l 13
-    unfolding written_of
-    written_few z few =
-        let e =
-        ap₂ outcome (eq-eqb (table_refusal t) 0 (sym is ∙ z)) (lt-leb (image_length (length t)) (length l) few) in
-        record {
-          refusal_is = sym (ap (λ (w : Written). w.refusal) e);
-          words_are = sym
-              (ap (λ (w : Written). w.words) e);
-        }
+  pub written_sound : (r : Result (Unit {0}) Refusal) → refusal_in r ≡ table_refusal t → (refusal_in r ≡ 0 → ⊥)
+      → Writes t l l r
+  written_sound r is ne =
+      writes l r false (leb (image_length (length t)) (length l)) (ne_eqb (table_refusal t) 0 (λ z. ne (is ∙ z))) refl
+      (λ i. record { refusal = sym is i; words = l })
 
-    pub written_image : (m : List ℕ) → r ≡ 0 → image_length (length t) ≤ length l → m ≡ placed l 0 (image_of t)
-        → Writes t l m 0
-    unfolding written_of
-    written_image m z long words =
-        let fits = le-leb (image_length (length t)) (length l) long in
-        let e = ap₂ outcome (eq-eqb (table_refusal t) 0 (sym is ∙ z)) fits in
-        record {
-          refusal_is = sym (ap (λ (w : Written). w.refusal) e);
-          words_are = words ∙ sym
-              (ap (λ (w : Written). w.words) e);
-        }
+  module _ (sound : table_refusal t ≡ 0) where
+    pub written_few : length l < image_length (length t) → Writes t l l (Err Refusal.TooFewLent)
+    written_few few =
+        writes l (Err Refusal.TooFewLent) true false (eq-eqb (table_refusal t) 0 sound)
+        (lt-leb (image_length (length t)) (length l) few) refl
+
+    pub written_image : (m : List ℕ) → image_length (length t) ≤ length l → m ≡ placed l 0 (image_of t)
+        → Writes t l m (Ok (tt {0}))
+    written_image m long words =
+        writes m (Ok (tt {0})) true true (eq-eqb (table_refusal t) 0 sound)
+        (le-leb (image_length (length t)) (length l) long) (λ i. record { refusal = 0; words = sym words i })

@@ -1,16 +1,14 @@
 -- What the functions inside this crate require and promise, in the terms of machine/specs/Images.
 --
---   Numbered n q      <=>  q is one of n processes, at most 16.
+--   found_at r p      ==   the refusal r of the word at place p; nothing for 0.
 --   SetKind k         <=>  the words of kind k hold a set: EST, LIS, AHEAD.
 --   SetsFit n q ..    <=>  where r is true, the three words of process q that hold sets pass.
---   Long ws n         <=>  at least as many words as a bare image of n processes has.
---   Counted ws n      <=>  at least as many as an image has.
---   Sized ws n b      <=>  as many as an image has, which is bare where b is false.
---   row_of_words ..     ==   the row that four words, a turn cell and passes hold; turn_of_words ws n q is that cell.
---   passes_refusal ..  ==   the first refusal of the words with the passes of process q.
---   Fits ws n q b f   <=>  where f is true, no word with passes of process q is refused, unless b is false.
+--   Sized ws n b      <=>  as many words as an image of n processes has, which is bare where b is false.
+--   turn_of_words ws n q   ==   what turn[q] holds by its word.
+--   passes_refusal ..  ==   the first refusal of the words with the passes of process q; words_refusal .. of all words.
+--   Fits ws n q b f   <=>  where f is true, no word with passes of process q is refused; it is true of a bare image.
 --   AllFit ws n m b f <=>  likewise of the first m processes.
---   RowRead, WordsRead   what reading a row, and the words of all rows or all words, does to the cells.
+--   RowRead, RowsRead, WordsRead   what reading a row, all rows and all words answers, and does to the rows.
 --   Packable r        <=>  the fields of a row fit the word with location, act, bb and level.
 --   row_words_of q r      ==   the four words of process q.
 --   pass_words n q l   ==   the words with the passes l of process q.
@@ -18,11 +16,12 @@
 --                            turn cells, and of the passes.
 --
 -- Assumes nothing.
-use Rattle.std.specs.Prelude.{ℕ, ◌+◌, ◌-◌, ◌*◌, ◌^◌, ◌≤◌, ◌<◌, ◌≡◌, Bool, true, cond, eqb}
-use Rattle.std.specs.Prelude.{List, [], ◌∷◌, map, length, get_or, take, drop, set}
+use Rattle.std.specs.Prelude.{ℕ, ◌+◌, ◌-◌, ◌*◌, ◌^◌, ◌≤◌, ◌<◌, ◌≡◌, Bool, true, false, cond, eqb}
+use Rattle.std.specs.Prelude.{List, [], ◌∷◌, map, length, get_or, drop, Result, IfOk, OnOk}
 use Rattle.counting.specs.Ranges.{up_to}
+use Rattle.counting.specs.Placing.{placed}
+use Rattle.machine.specs.Refusals.{accepted}
 use Rattle.machine.specs.Images.{
-  Slot,
   slot,
   STATE,
   EST,
@@ -33,20 +32,19 @@ use Rattle.machine.specs.Images.{
   turn_slots,
   pass_row,
   pass_slots,
+  bare_slots,
+  slots,
   bare_length,
   image_length,
   row_place,
   turn_place,
   pass_place,
   code_of,
-  location_in,
-  act_in,
-  bb_in,
-  level_in,
-  set_in,
   turn_in,
   body_of,
   word_in,
+  Found,
+  found_in,
   slot_refusal,
   first_refusal,
   row_in,
@@ -54,14 +52,16 @@ use Rattle.machine.specs.Images.{
 }
 use Rattle.machine.specs.Tables.{Table}
 use Rattle.machine.specs.declared.Row.{Row}
-use Rattle.machine.specs.declared.Found.{Found}
-use Rattle.cells.specs.View.{rows_of}
+use Rattle.machine.specs.declared.ImageError.{ImageError}
 
 -- ---- one word
 
-pub record Numbered (n q : ℕ) : Type 0 where
-  pub few : n ≤ 16
-  pub below : q < n
+abbrev pub found_at : ℕ → ℕ → Found
+found_at r p =
+    elim (eqb r accepted) [
+      | true ↦ record { refusal = accepted; place = 0 }
+      | false ↦ record { refusal = r; place = p }
+    ]
 
 pub record SetKind (k : ℕ) : Type 0 where
   pub from : EST ≤ k
@@ -74,16 +74,6 @@ pub record SetsFit (n q b c d : ℕ) (r : Bool) : Type 0 where
 
 -- ---- reading
 
-pub record Long (ws : List ℕ) (n : ℕ) : Type 0 where
-  pub some : 2 ≤ n
-  pub few : n ≤ 16
-  pub long : bare_length n ≤ length ws
-
-pub record Counted (ws : List ℕ) (n : ℕ) : Type 0 where
-  pub some : 2 ≤ n
-  pub few : n ≤ 16
-  pub long : image_length n ≤ length ws
-
 pub record Sized (ws : List ℕ) (n : ℕ) (b : Bool) : Type 0 where
   pub some : 2 ≤ n
   pub few : n ≤ 16
@@ -92,41 +82,36 @@ pub record Sized (ws : List ℕ) (n : ℕ) (b : Bool) : Type 0 where
 abbrev pub turn_of_words : List ℕ → ℕ → ℕ → ℕ
 turn_of_words ws n q = cond (eqb q 0) 0 (turn_in (get_or ws (turn_place n q) 0))
 
-abbrev pub row_of_words : ℕ → ℕ → ℕ → ℕ → ℕ → List ℕ → Row
-row_of_words a b c d v l =
-    record {
-      location = location_in a;
-      act = act_in a;
-      bb = bb_in a;
-      level = level_in a;
-      est = set_in b;
-      lis = set_in c;
-      ahead = set_in d;
-      turn = v;
-      passes = l;
-    }
-
 unfoldable pub passes_refusal : List ℕ → ℕ → ℕ → Found
 passes_refusal ws n q = first_refusal n (pass_place n q 0) (pass_row q 0 n) (drop (pass_place n q 0) ws)
 
+abbrev pub words_refusal : List ℕ → ℕ → Bool → Found
+words_refusal ws n b = first_refusal n 1 (cond b (slots n) (bare_slots n)) (drop 1 ws)
+
 pub record Fits (ws : List ℕ) (n q : ℕ) (b f : Bool) : Type 0 where
   pub none : b ≡ true → f ≡ true → (passes_refusal ws n q).refusal ≡ 0
+  pub bare : b ≡ false → f ≡ true
 
 pub record AllFit (ws : List ℕ) (n m : ℕ) (b f : Bool) : Type 0 where
   pub none : b ≡ true → f ≡ true → (q : ℕ) → q < m → (passes_refusal ws n q).refusal ≡ 0
+  pub bare : b ≡ false → f ≡ true
 
--- the words of process q were checked, and where they pass its cells stand for the row that they hold
-pub record RowRead (ws : List ℕ) (n q : ℕ) (x y : List (List ℕ)) (f : Found) : Type 0 where
-  pub found_is : f ≡ first_refusal n (row_place q) (row_slots q 1) (drop (row_place q) ws)
-  pub rows_are : f.refusal ≡ 0 → rows_of y ≡ set (rows_of x) q (row_in n ws q)
-  pub size_is : length y ≡ length x
+-- the words of process q were checked, and where they pass the row y is the one that they hold
+pub record RowRead (ws : List ℕ) (n : ℕ) (b : Bool) (q : ℕ) (y : Row) (r : Result Bool ImageError) : Type 0 where
+  pub found_is : found_in r ≡ first_refusal n (row_place q) (row_slots q 1) (drop (row_place q) ws)
+  pub row_is : OnOk r (y ≡ row_in n ws q)
+  pub fits : IfOk r (Fits ws n q b)
 
--- the words at the slots ss, those of all rows at least, were checked in order, and where they pass the first cells
--- stand for the rows
-pub record WordsRead (ss : List Slot) (ws : List ℕ) (n : ℕ) (x y : List (List ℕ)) (f : Found) : Type 0 where
-  pub found_is : f ≡ first_refusal n 1 ss (drop 1 ws)
-  pub rows_are : f.refusal ≡ 0 → rows_of (take n y) ≡ rows_in n ws 0 n
-  pub size_is : length y ≡ length x
+-- the words of all rows were checked in order, and where they pass the first rows are those that they hold
+pub record RowsRead (ws : List ℕ) (n : ℕ) (b : Bool) (x y : Table) (r : Result Bool ImageError) : Type 0 where
+  pub found_is : found_in r ≡ first_refusal n 1 (row_slots 0 n) (drop 1 ws)
+  pub rows_are : OnOk r (y ≡ placed x 0 (rows_in n ws 0 n))
+  pub fits : IfOk r (AllFit ws n n b)
+
+-- likewise all words
+pub record WordsRead (ws : List ℕ) (n : ℕ) (b : Bool) (x y : Table) (r : Result (Unit {0}) ImageError) : Type 0 where
+  pub found_is : found_in r ≡ words_refusal ws n b
+  pub rows_are : OnOk r (y ≡ placed x 0 (rows_in n ws 0 n))
 
 -- ---- writing
 

@@ -1,126 +1,127 @@
-// The check of a word of an image where it stands. `n` is the number of processes, `full` the set
-// of all of them, `q` the number that the word is to have. The upper half of a word, its kind,
-// spare bits and number, is compared at once.
-ghost use Rattle.std.specs.Prelude.{◌≡◌, [], ◌∷◌};
-ghost use Rattle.machine.specs.Images.{slot, STATE, TURN, row_place, row_slots};
-ghost use Rattle.machine.specs.Images.{slot_refusal, first_refusal};
-ghost use Rattle.rows.specs.Bounds.{Full};
-ghost use Rattle.images.specs.Inner.{Numbered, SetKind, SetsFit};
+// The check of a word of an image where it stands, the word of process `q`, `k` or `r`. The upper half of
+// a word, its kind, spare bits and number, is compared at once.
+ghost use Rattle.std.specs.Prelude.{◌≡◌, ◌<◌, ◌^◌, drop};
+ghost use Rattle.machine.specs.Refusals.{refusal_in};
+ghost use Rattle.machine.specs.Images.{slot, pass_slot, STATE, TURN, row_place, row_slots};
+ghost use Rattle.machine.specs.Images.{slot_refusal, first_refusal, found_in};
+ghost use Rattle.images.specs.Inner.{SetKind, SetsFit, found_at};
+ghost use Rattle.images.specs.Kinds.{word_kind};
 
+use crate::WordKind;
+use crate::halves::{passes_upper, upper};
+use crate::image::Image;
 use crate::sizes::row_place;
-use machine::{Found, LEVEL_MISFIT, MALFORMED, OUT_OF_RANGE};
+use machine::{ImageError, Refusal};
+use rows::codes::location_of;
+use rows::sound::location_fits;
 
-// The upper half of a word of kind STATE and of kind TURN, less its number.
-const STATE_UPPER: u32 = 0x9000;
-
-const TURN_UPPER: u32 = 0xd000;
-
-// The refusal of a word with location, act, bb and level, or 0.
-fn state_refusal(n: u16, q: u16, w: u32) -> u16
-    requires { Numbered n q }
-    ensures { result ≡ slot_refusal n (slot STATE q) w }
+// The check of the word that stands at a place.
+pub(crate) fn placed(check: Result<(), Refusal>, place: usize) -> Result<(), ImageError>
+    requires { place < 2 ^ 16 }
+    ensures { found_in result ≡ found_at (refusal_in check) place }
 {
-    if !((w >> 16 == STATE_UPPER + q as u32) & ((w >> 10) % 4 == 0)) {
-        return MALFORMED;
+    match check {
+        Ok(()) => Ok(()),
+        Err(refusal) => Err(ImageError {
+            refusal,
+            place: place as u16,
+        }),
     }
-    let code = ((w >> 12) % 16) as u16;
-    let level = (w % 256) as u16;
-    if !((code < 8) & (level < n)) {
-        return OUT_OF_RANGE;
-    }
-    if !rows::sound::location_fits(rows::codes::location_of(code), level) {
-        return LEVEL_MISFIT;
-    }
-    0
 }
 
-// The refusal of a word of a kind that holds a set, or 0.
-fn set_refusal(n: u16, full: u16, kind: u16, q: u16, w: u32) -> u16
-    requires full { Full n full }
-    requires numbered { Numbered n q }
-    requires set_kind { SetKind kind }
-    ensures { result ≡ slot_refusal n (slot kind q) w }
-{
-    if !(w >> 16 == (kind as u32) * 4096 + q as u32) {
-        return MALFORMED;
+impl<'a> Image<'a> {
+    // A word with location, act, bb and level.
+    fn check_state(&self, q: usize, w: u32) -> Result<(), Refusal>
+        requires { q < self.now.size }
+        ensures { refusal_in result ≡ slot_refusal self.now.size (slot STATE q) w }
+    {
+        if !((w >> 16 == upper(WordKind::State, q)) & ((w >> 10) % 4 == 0)) {
+            return Err(Refusal::Malformed);
+        }
+        let code = ((w >> 12) % 16) as u16;
+        let level = (w % 256) as u16;
+        if !((code < 8) & ((level as usize) < self.size)) {
+            return Err(Refusal::OutOfRange);
+        }
+        if !location_fits(location_of(code), level) {
+            return Err(Refusal::LevelMisfit);
+        }
+        Ok(())
     }
-    if !(w % 65536 <= full as u32) {
-        return OUT_OF_RANGE;
-    }
-    0
-}
 
-// Where this is true, the three words of process q that hold sets pass. Most do. Otherwise
-// `set_refusal` is asked of one after the other.
-fn sets_fit(n: u16, full: u16, q: u16, b: u32, c: u32, d: u32) -> bool
-    requires full { Full n full }
-    requires numbered { Numbered n q }
-    ensures { SetsFit n q b c d result }
-{
-    let members = (b % 65536) | (c % 65536) | (d % 65536);
-    (b >> 16 == (crate::EST as u32) * 4096 + q as u32)
-        & (c >> 16 == (crate::LIS as u32) * 4096 + q as u32)
-        & (d >> 16 == (crate::AHEAD as u32) * 4096 + q as u32)
-        & (members <= full as u32)
-}
+    // A word of a kind that holds a set.
+    fn check_set(&self, kind: WordKind, q: usize, w: u32) -> Result<(), Refusal>
+        requires q_in { q < self.now.size }
+        requires set_kind { SetKind (word_kind kind) }
+        ensures { refusal_in result ≡ slot_refusal self.now.size (slot (word_kind kind) q) w }
+    {
+        if !(w >> 16 == upper(kind, q)) {
+            return Err(Refusal::Malformed);
+        }
+        if !(w % 65536 <= self.full as u32) {
+            return Err(Refusal::OutOfRange);
+        }
+        Ok(())
+    }
 
-// The refusal of a word that holds turn[k], or 0.
-pub(crate) fn turn_refusal(n: u16, k: u16, w: u32) -> u16
-    requires { Numbered n k }
-    ensures { result ≡ slot_refusal n (slot TURN k) w }
-{
-    if !((w >> 16 == TURN_UPPER + k as u32) & ((w >> 8) % 256 == 0)) {
-        return MALFORMED;
+    // Where this is true, the three words of process q that hold sets pass. Most do. Otherwise
+    // `check_set` is asked of one after the other.
+    fn sets_fit(&self, q: usize, b: u32, c: u32, d: u32) -> bool
+        requires { q < self.now.size }
+        ensures { SetsFit self.now.size q b c d result }
+    {
+        let members = (b % 65536) | (c % 65536) | (d % 65536);
+        (b >> 16 == upper(WordKind::Est, q))
+            & (c >> 16 == upper(WordKind::Lis, q))
+            & (d >> 16 == upper(WordKind::Ahead, q))
+            & (members <= self.full as u32)
     }
-    if !(w % 256 < n as u32) {
-        return OUT_OF_RANGE;
-    }
-    0
-}
 
-// The first refusal of the four words of process q, in their order.
-pub(crate) fn row_refusal(n: u16, full: u16, q: u16, a: u32, b: u32, c: u32, d: u32) -> Found
-    requires full { Full n full }
-    requires numbered { Numbered n q }
-    ensures { result ≡ first_refusal n (row_place q) (row_slots q 1) (a ∷ b ∷ c ∷ d ∷ []) }
-{
-    let at = row_place(q as usize) as u16;
-    let first = state_refusal(n, q, a);
-    if first != 0 {
-        return Found {
-            refusal: first,
-            place: at,
-        };
+    // The four words of process q in order, up to the first refusal.
+    pub(crate) fn check_row(&self, q: usize) -> Result<(), ImageError>
+        requires { q < self.now.size }
+        ensures { found_in result ≡ first_refusal self.now.size (row_place q) (row_slots q 1)
+            (drop (row_place q) self.now.words.now) }
+    {
+        let i = row_place(q);
+        placed(self.check_state(q, self.words[i]), i)?;
+        let b = self.words[i + 1];
+        let c = self.words[i + 2];
+        let d = self.words[i + 3];
+        if self.sets_fit(q, b, c, d) {
+            return Ok(());
+        }
+        placed(self.check_set(WordKind::Est, q, b), i + 1)?;
+        placed(self.check_set(WordKind::Lis, q, c), i + 2)?;
+        placed(self.check_set(WordKind::Ahead, q, d), i + 3)
     }
-    if sets_fit(n, full, q, b, c, d) {
-        return Found {
-            refusal: 0,
-            place: 0,
-        };
+
+    // A word that holds turn[k].
+    pub(crate) fn check_turn(&self, k: usize, w: u32) -> Result<(), Refusal>
+        requires { k < self.now.size }
+        ensures { refusal_in result ≡ slot_refusal self.now.size (slot TURN k) w }
+    {
+        if !((w >> 16 == upper(WordKind::Turn, k)) & ((w >> 8) % 256 == 0)) {
+            return Err(Refusal::Malformed);
+        }
+        if !(((w % 256) as usize) < self.size) {
+            return Err(Refusal::OutOfRange);
+        }
+        Ok(())
     }
-    let second = set_refusal(n, full, crate::EST, q, b);
-    if second != 0 {
-        return Found {
-            refusal: second,
-            place: at + 1,
-        };
-    }
-    let third = set_refusal(n, full, crate::LIS, q, c);
-    if third != 0 {
-        return Found {
-            refusal: third,
-            place: at + 2,
-        };
-    }
-    let fourth = set_refusal(n, full, crate::AHEAD, q, d);
-    if fourth != 0 {
-        return Found {
-            refusal: fourth,
-            place: at + 3,
-        };
-    }
-    Found {
-        refusal: 0,
-        place: 0,
+
+    // A word that holds the passes of q over r.
+    pub(crate) fn check_count(&self, q: usize, r: usize, w: u32) -> Result<(), Refusal>
+        requires q_in { q < self.now.size }
+        requires r_in { r < self.now.size }
+        ensures { refusal_in result ≡ slot_refusal self.now.size (pass_slot q r) w }
+    {
+        if !(w >> 16 == passes_upper(q) + r as u32) {
+            return Err(Refusal::Malformed);
+        }
+        if !((q != r) | (w % 65536 == 0)) {
+            return Err(Refusal::OutOfRange);
+        }
+        Ok(())
     }
 }

@@ -1,63 +1,33 @@
--- `images::encoding::write` meets its contract: the check, the room, then the image. Assumes nothing.
-use Prim.Native.Nat.{◌≤◌}
-use mathlib.Core.Path.{◌≡◌, sym, ap, ◌∙◌}
+-- `write` meets its contract: the check, the room, then the image. Assumes nothing.
+use mathlib.Core.Path.{◌≡◌, sym}
 use native.Mathlib.Omega.{arith}
-use lib.ListN.{length}
-use Rattle.machine.specs.Images.{image_length}
-use Rattle.machine.specs.Tables.{table_refusal}
+use borrow.Author.Rules.{rules}
+use Rattle.std.specs.Prelude.{Err}
 use Rattle.machine.proofs.SoundRows.{sound_rows}
-use Rattle.cells.specs.View.{rows_of}
-use Rattle.cells.proofs.ViewLaws.{rows_length}
+use Rattle.tables.proofs.RefusalLaws.{number_some}
 use Rattle.images.proofs.WriteLaws.{written_sound, written_few, written_image}
 use Rattle.images.proofs.encoding.write.Goals as goal
 
-pub returns-then-refusal-ne0 : goal.returns-then-refusal-ne0
-returns-then-refusal-ne0 c =
-    let a = c.args in
-    let checked = c.check-refusal in
-    written_sound (rows_of a.cells.now) a.out.now checked.result checked.ensures c.if-refusal-ne0.true
+pub returns-in_err-check : goal.returns-in_err-check
+returns-in_err-check c =
+    let e = c.in_err-check.field-0.0 in
+    let same : c.from_residual.result ≡ Err e = search rules in
+    rw same (written_sound c.args.rows.now c.args.out.now (Err e) c.in_err-check.ensures (number_some e))
 
-pub image_words-all-requires : goal.image_words-all-requires
-image_words-all-requires c =
-    let sound : table_refusal (rows_of c.args.cells.now) ≡ 0 =
-    sym c.check-refusal.ensures ∙ c.if-refusal-ne0.false in
-    let x = c.args.cells.now in
-    omega (arith, (sound_rows (rows_of x) sound).1, rows_length x)
+-- where the table is sound
+pub image_words-requires : goal.image_words-requires
+image_words-requires c =
+    let few = (sound_rows c.args.rows.now (sym c.in_ok-check.ensures)).1 in
+    omega (arith, few)
 
-pub returns-then-len-all : goal.returns-then-len-all
-returns-then-len-all c =
-    let all_is : (let x = c.args.cells.now in
-    c.image_words-all.result ≡ image_length (length (rows_of x))) =
-    let x = c.args.cells.now in
-    c.image_words-all.ensures ∙ ap image_length (sym (rows_length x)) in
-    let a = c.args in
-    let checked = c.check-refusal in
-    written_few (rows_of a.cells.now) a.out.now checked.result checked.ensures c.if-refusal-ne0.false
-    (omega (arith, c.if-len-all.true, all_is))
+pub returns-then-out-image_words : goal.returns-then-out-image_words
+returns-then-out-image_words c =
+    written_few c.args.rows.now c.args.out.now (sym c.in_ok-check.ensures) (omega (arith, c.image_words.ensures))
 
 pub write_cells-requires : goal.write_cells-requires
-write_cells-requires c =
-    let sound : table_refusal (rows_of c.args.cells.now) ≡ 0 =
-    sym c.check-refusal.ensures ∙ c.if-refusal-ne0.false in
-    let all_is : (let x = c.args.cells.now in
-    c.image_words-all.result ≡ image_length (length (rows_of x))) =
-    let x = c.args.cells.now in
-    c.image_words-all.ensures ∙ ap image_length (sym (rows_length x)) in
-    let long : (let a = c.args in
-    image_length (length (rows_of a.cells.now)) ≤ length a.out.now) =
-    omega (arith, c.if-len-all.false, all_is) in
-    record { is_sound = sound; long = long }
+write_cells-requires c = record { is_sound = sym c.in_ok-check.ensures; long = omega (arith, c.image_words.ensures) }
 
 pub returns : goal.returns
 returns c =
-    let all_is : (let x = c.args.cells.now in
-    c.image_words-all.result ≡ image_length (length (rows_of x))) =
-    let x = c.args.cells.now in
-    c.image_words-all.ensures ∙ ap image_length (sym (rows_length x)) in
-    let long : (let a = c.args in
-    image_length (length (rows_of a.cells.now)) ≤ length a.out.now) =
-    omega (arith, c.if-len-all.false, all_is) in
-    let a = c.args in
-    let checked = c.check-refusal in
-    written_image (rows_of a.cells.now) a.out.now checked.result checked.ensures _ c.if-refusal-ne0.false long
+    written_image c.args.rows.now c.args.out.now (sym c.in_ok-check.ensures) _ (omega (arith, c.image_words.ensures))
     c.write_cells.ensures
