@@ -1,7 +1,6 @@
 -- `System::advance` meets its contract: a sound table stays sound. Assumes nothing.
 use mathlib.Core.Path.{ap, ◌∙◌}
 use Rattle.machine.specs.Tables.{table_refusal}
-use Rattle.machine.specs.Settings.{settings_of}
 use Rattle.machine.proofs.SettingTheorems.{under_keeps_sound}
 use Rattle.steps.proofs.system.System.advance.Goals as goal
 
@@ -11,5 +10,5 @@ invariant_of-self c =
     record {
       sound =
           ap table_refusal c.advance.ensures.becomes
-          ∙ under_keeps_sound (settings_of s.memory) s.rows.now c.args.word s.sound;
+          ∙ under_keeps_sound _ s.rows.now c.args.word s.sound;
     }
