@@ -2,6 +2,7 @@
 use Prim.Native.Nat.{ℕ}
 use mathlib.Core.Path.{◌≡◌, refl}
 use mathlib.Core.Bool.{true, false, ◌&&◌, or-true}
+use mathlib.Core.Logic.{◌≢◌}
 use mathlib.Core.List.{List, [], ◌∷◌}
 use lib.Dec.{eqb}
 use lib.ListN.{set}
@@ -14,17 +15,9 @@ use Rattle.machine.specs.declared.Row.{Row}
 
 -- ---- where GO is allowed
 
--- l is none of vs, as a `match` has it: N is what it knows before
-abbrev Off : Type 0 → ℕ → List ℕ → Type 0
-Off N l [] = N
-Off N l (v ∷ vs) = Off (N × (l ≡ v → ⊥)) l vs
-
 -- at six locations it is, at 22 where lis is empty, and nowhere else
 abbrev go_places : List ℕ
 go_places = 20 ∷ 21 ∷ 23 ∷ 24 ∷ 30 ∷ 40 ∷ []
-
-abbrev pub Left : ℕ → Type 0
-Left l = Off (Unit {0}) l go_places
 
 pub place_may : (r : Row) (l : ℕ) → r.location ≡ l → one_of l go_places ≡ true → allowed GO r ≡ true
 unfolding allowed
@@ -34,9 +27,17 @@ pub scan_may : (r : Row) → (eqb r.location 22 && eqb r.lis 0) ≡ true → all
 unfolding allowed
 scan_may r h = rw h (or-true (one_of r.location go_places))
 
-pub left_not : (r : Row) → Left r.location → (eqb r.location 22 && eqb r.lis 0) ≡ false → allowed GO r ≡ false
+pub left_not : (r : Row)
+    → r.location ≢ 20
+    → r.location ≢ 21
+    → r.location ≢ 23
+    → r.location ≢ 24
+    → r.location ≢ 30
+    → r.location ≢ 40
+    → (eqb r.location 22 && eqb r.lis 0) ≡ false
+    → allowed GO r ≡ false
 unfolding allowed
-left_not r (((((((_, a), b), c), d), e), f)) h =
+left_not r a b c d e f h =
     let l = r.location in
     rw (ne_eqb l 20 a, ne_eqb l 21 b, ne_eqb l 23 c, ne_eqb l 24 d, ne_eqb l 30 e, ne_eqb l 40 f, h) refl
 

@@ -127,6 +127,7 @@ fn rest(rows: &mut [Row], p: u16) -> Told
 // is left for the last arm: 10, and 22 while lis is not empty. 22 is asked for before the choice,
 // with lis, so that the processor foresees the choice better.
 #[inline(always)]
+#[tactic(auto, using(crate::proofs::ReadLaws::read_at))]
 pub fn go(rows: &mut [Row], p: u16, memory: Memory) -> Result<Told, Refusal>
     requires { Ready rows.old p }
     ensures { TakesUnder (settings_of memory) rows.old GO p 0 rows.new result }
