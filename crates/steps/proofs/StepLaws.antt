@@ -21,13 +21,14 @@ use Rattle.machine.specs.declared.Memory.{Memory}
 use Rattle.machine.specs.declared.Told.{Told}
 use Rattle.machine.specs.declared.Refusal.{Refusal}
 use Rattle.counting.proofs.TestLaws.{split}
+use Rattle.machine.proofs.KindLaws.{by_kind}
 use Rattle.machine.proofs.SoundRows.{sound-row, sound_few}
 use Rattle.machine.proofs.Accepted.{accepted_word, accepted-moved}
 use Rattle.machine.proofs.SettingLaws.{before15_other, forbidden, under_table, under_unfit, under_fit, accepted_under}
 use Rattle.machine.proofs.SettingTheorems.{refused_under}
 use Rattle.steps.specs.Moves.{kind_told, refusal_by, Ready, TakesUnder}
 use Rattle.steps.specs.Stepping.{checked, StepsUnder}
-use Rattle.steps.proofs.TakeLaws.{number_some, last_kind}
+use Rattle.steps.proofs.TakeLaws.{number_some}
 use Rattle.steps.proofs.ToldLaws.{word_told}
 use Rattle.steps.proofs.SettingLaws.{memory_fits}
 
@@ -67,10 +68,30 @@ module _ (t : Table) (w : ℕ) where
 pub kind_is : (w k : ℕ) → (formed w && eqb (kind_of w) k) ≡ true → (formed w ≡ true) × (kind_of w ≡ k)
 kind_is w k h = let both = (and-eq-true_iff (formed w) (eqb (kind_of w) k)).0 h in (both.0, eqb-true _ _ both.1)
 
-kind_not : (w k : ℕ) → formed w ≡ true → (formed w && eqb (kind_of w) k) ≡ false → kind_of w ≡ k → ⊥
-kind_not w k f h i = true≢false (sym ((and-eq-true_iff (formed w) (eqb (kind_of w) k)).1 (f, eq-eqb _ _ i)) ∙ h)
-
 -- a kind that is none of the others
+last_kind : (k : ℕ)
+    → is_kind k ≡ true
+    → eqb k LOOK ≡ false
+    → eqb k GO ≡ false
+    → eqb k STAY ≡ false
+    → eqb k FLICKER ≡ false
+    → eqb k COME ≡ false
+    → k ≡ CANCEL
+last_kind =
+    by_kind
+    (λ k. eqb k LOOK ≡ false
+    → eqb k GO ≡ false
+    → eqb k STAY ≡ false
+    → eqb k FLICKER ≡ false
+    → eqb k COME ≡ false
+    → k ≡ CANCEL)
+    (λ _ _ h _ _. absurd (true≢false h))
+    (λ _ _ _ _ h. absurd (true≢false h))
+    (λ _ _ _ h _. absurd (true≢false h))
+    (λ _ h _ _ _. absurd (true≢false h))
+    (λ h _ _ _ _. absurd (true≢false h))
+    (λ _ _ _ _ _. refl)
+
 pub kind_last : (w : ℕ)
     → formed w ≡ true
     → (formed w && eqb (kind_of w) LOOK) ≡ false
@@ -80,12 +101,8 @@ pub kind_last : (w : ℕ)
     → (formed w && eqb (kind_of w) COME) ≡ false
     → (formed w ≡ true) × (kind_of w ≡ CANCEL)
 kind_last w f l g s k c =
-    let known = ((and-eq-true_iff (is_kind (kind_of w)) (spare_clear w)).0 f).0 in (
-      f,
-      last_kind (kind_of w) known (kind_not w LOOK f l) (kind_not w GO f g) (kind_not w STAY f s)
-          (kind_not w FLICKER f k)
-          (kind_not w COME f c),
-    )
+    let known = ((and-eq-true_iff (is_kind (kind_of w)) (spare_clear w)).0 f).0 in
+    (f, last_kind (kind_of w) known (rw f at l) (rw f at g) (rw f at s) (rw f at k) (rw f at c))
 
 -- ---- under settings
 

@@ -11,61 +11,20 @@ use Rattle.counting.proofs.SetLaws.{member_below}
 use Rattle.counting.proofs.TestLaws.{cond_zero, cond_le}
 use Rattle.machine.specs.Refusals.{accepted, not_allowed, bad_argument, passes_full, number}
 use Rattle.machine.specs.Tables.{Table, row, competitors}
-use Rattle.machine.specs.Words.{STAY, COME, FLICKER, GO, LOOK, CANCEL, is_kind}
+use Rattle.machine.specs.Words.{GO, LOOK}
 use Rattle.machine.specs.Steps.{moved, allowed, argument_fits, raisable, overflows, refusal_at}
 use Rattle.machine.specs.declared.Settings.{Settings}
 use Rattle.machine.specs.declared.Told.{Told}
 use Rattle.machine.specs.declared.Refusal.{Refusal}
-use Rattle.machine.specs.declared.Refusal.TheVariants.{NoHeader, WrongLength, Malformed, OutOfRange, LevelMisfit}
-use Rattle.machine.specs.declared.Refusal.TheVariants.{WrongSize, UnsoundRow, BadKind, NoProcess, NotAllowed}
-use Rattle.machine.specs.declared.Refusal.TheVariants.{BadArgument, TooManyWords, TooFewLent, BadBytes, PassesFull}
-use Rattle.machine.specs.declared.Refusal.TheVariants.{PlainFlicker, SecondWriter, BadSettings}
-use Rattle.machine.proofs.KindLaws.{by_kind}
+use Rattle.machine.specs.declared.Refusal.TheVariants.{NoHeader}
 use Rattle.steps.specs.Moves.{kind_told, row_refusal, Ready, Free, Sees, Moves, Goes, TakesBy, Takes, TakesUnder}
-
--- ---- the kinds
-
--- a kind that is none of the others
-pub last_kind : (k : ℕ)
-    → is_kind k ≡ true
-    → (k ≡ LOOK → ⊥)
-    → (k ≡ GO → ⊥)
-    → (k ≡ STAY → ⊥)
-    → (k ≡ FLICKER → ⊥)
-    → (k ≡ COME → ⊥)
-    → k ≡ CANCEL
-last_kind =
-    by_kind
-    (λ k. (k ≡ LOOK → ⊥) → (k ≡ GO → ⊥) → (k ≡ STAY → ⊥) → (k ≡ FLICKER → ⊥) → (k ≡ COME → ⊥) → k ≡ CANCEL)
-    (λ _ _ n _ _. absurd (n refl))
-    (λ _ _ _ _ n. absurd (n refl))
-    (λ _ _ _ n _. absurd (n refl))
-    (λ _ n _ _ _. absurd (n refl))
-    (λ n _ _ _ _. absurd (n refl))
-    (λ _ _ _ _ _. refl)
 
 -- ---- what refuses, in the code's order
 
 -- a refusal is no 0
 pub number_some : (e : Refusal) → number e ≡ 0 → ⊥
 number_some NoHeader z = omega arith
-number_some WrongLength z = omega arith
-number_some Malformed z = omega arith
-number_some OutOfRange z = omega arith
-number_some LevelMisfit z = omega arith
-number_some WrongSize z = omega arith
-number_some UnsoundRow z = omega arith
-number_some BadKind z = omega arith
-number_some NoProcess z = omega arith
-number_some NotAllowed z = omega arith
-number_some BadArgument z = omega arith
-number_some TooManyWords z = omega arith
-number_some TooFewLent z = omega arith
-number_some BadBytes z = omega arith
-number_some PassesFull z = omega arith
-number_some PlainFlicker z = omega arith
-number_some SecondWriter z = omega arith
-number_some BadSettings z = omega arith
+number_some e z = omega arith
 
 module _ (t : Table) (k p a : ℕ) where
   pub refused_there : allowed k (row t p) ≡ false → row_refusal t k p a ≡ 10
