@@ -15,11 +15,13 @@ use Rattle.machine.specs.declared.ImageError.{ImageError}
 
 -- ---- reading
 
--- what refuses the image ws, if anything does; else its size, and the first of the rows x became its table
+-- what refuses the image ws, if anything does; else its size, and the first of the rows x became its table; the rows
+-- keep their number in any case
 pub record ReadInto (ws : List ℕ) (x y : Table) (r : Result ℕ ImageError) : Type 0 where
   pub found_is : found_in r ≡ image_refusal ws
   pub size_is : IfOk r (λ n. n ≡ length (table_in ws))
   pub rows_are : OnOk r (y ≡ placed x 0 (table_in ws))
+  pub kept : length y ≡ length x
 
 -- ---- writing
 

@@ -26,4 +26,5 @@ returns c =
           read.rows_are
           ∙ ap (λ (l : List ℕ). placed c.args.rows.now 0 (rows_in i.size l 0 i.size)) holds.words_are
           ∙ ap (λ (n : ℕ). placed c.args.rows.now 0 (rows_in n ws 0 n)) holds.size_is;
+      kept = c.read.auto.rows;
     }
