@@ -36,7 +36,8 @@ use Rattle.machine.proofs.SettingLaws.{goes_by, go_free, weakest_free, before15_
 use Rattle.rows.specs.Pushing.{to_push}
 use Rattle.tables.specs.Writers.{has_writer}
 use Rattle.steps.specs.Moves.{row_refusal, TakesBy, Takes, TakesUnder}
-use Rattle.steps.proofs.TakeLaws.{number_some, refused_early, refused_late, row_refusals, refused_with}
+use Rattle.tables.proofs.RefusalLaws.{number_some}
+use Rattle.steps.proofs.TakeLaws.{refused_early, refused_late, row_refusals, refused_with}
 
 -- ---- settings that fit
 

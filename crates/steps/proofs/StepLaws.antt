@@ -28,7 +28,7 @@ use Rattle.machine.proofs.SettingLaws.{before15_other, forbidden, under_table, u
 use Rattle.machine.proofs.SettingTheorems.{refused_under}
 use Rattle.steps.specs.Moves.{kind_told, refusal_by, Ready, TakesUnder}
 use Rattle.steps.specs.Stepping.{checked, StepsUnder}
-use Rattle.steps.proofs.TakeLaws.{number_some}
+use Rattle.tables.proofs.RefusalLaws.{number_some}
 use Rattle.steps.proofs.ToldLaws.{word_told}
 use Rattle.steps.proofs.SettingLaws.{memory_fits}
 

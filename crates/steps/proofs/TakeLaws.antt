@@ -16,15 +16,10 @@ use Rattle.machine.specs.Steps.{moved, allowed, argument_fits, raisable, overflo
 use Rattle.machine.specs.declared.Settings.{Settings}
 use Rattle.machine.specs.declared.Told.{Told}
 use Rattle.machine.specs.declared.Refusal.{Refusal}
-use Rattle.machine.specs.declared.Refusal.TheVariants.{NoHeader}
+use Rattle.tables.proofs.RefusalLaws.{number_some}
 use Rattle.steps.specs.Moves.{kind_told, row_refusal, Ready, Free, Sees, Moves, Goes, TakesBy, Takes, TakesUnder}
 
 -- ---- what refuses, in the code's order
-
--- a refusal is no 0
-pub number_some : (e : Refusal) → number e ≡ 0 → ⊥
-number_some NoHeader z = omega arith
-number_some e z = omega arith
 
 module _ (t : Table) (k p a : ℕ) where
   pub refused_there : allowed k (row t p) ≡ false → row_refusal t k p a ≡ 10

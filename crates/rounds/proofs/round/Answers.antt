@@ -8,7 +8,7 @@ use Rattle.std.specs.Prelude.{Ok, Err}
 use Rattle.machine.specs.Tables.{table_refusal}
 use Rattle.machine.specs.Rounds.{round_on}
 use Rattle.machine.proofs.Soundness.{word_keeps_sound}
-use Rattle.steps.proofs.TakeLaws.{number_some}
+use Rattle.tables.proofs.RefusalLaws.{number_some}
 use Rattle.rounds.proofs.RoundLaws.{on_next, on_end, on_stop, goes_round, none_yet, one_more, whole}
 use Rattle.rounds.proofs.round.Goals as goal
 

@@ -1,7 +1,7 @@
 -- `rounds` meets its contract. Assumes nothing.
 use mathlib.Core.Path.{refl, sym, ◌∙◌}
 use Rattle.machine.proofs.RoundAnswers.{rounds_refused, rounds_none, rounds-some}
-use Rattle.steps.proofs.TakeLaws.{number_some}
+use Rattle.tables.proofs.RefusalLaws.{number_some}
 use Rattle.rounds.proofs.RoundLaws.{ends, some_is}
 use Rattle.rounds.proofs.rounds.Goals as goal
 

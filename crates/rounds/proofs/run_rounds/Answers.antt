@@ -3,7 +3,7 @@ use mathlib.Core.Path.{refl, ap, sym, ◌∙◌}
 use native.Mathlib.Omega.{arith}
 use Rattle.machine.specs.Tables.{table_refusal}
 use Rattle.machine.proofs.BrokenRounds.{round_on_sound}
-use Rattle.steps.proofs.TakeLaws.{number_some}
+use Rattle.tables.proofs.RefusalLaws.{number_some}
 use Rattle.rounds.proofs.RoundLaws.{from_occupied, from_turn, from_cut, from_limit, ends, some_is, none_is}
 use Rattle.rounds.proofs.run_rounds.Goals as goal
 
