@@ -1,7 +1,8 @@
 -- The first m words of an input are its image, the others its event words. Assumes nothing.
 use mathlib.Core.Path.{◌≡◌, sym, ap, ◌∙◌}
 use mathlib.Core.List.{List}
-use Prim.Native.Nat.{ℕ, ◌≤◌}
+use Prim.Native.Nat.{ℕ, ◌≤◌, min}
+use native.Mathlib.Decide.{dec_le}
 use native.Mathlib.Omega.{arith}
 use lib.ListN.{length, get_or, take, drop, drop_of_length-le}
 use lib.Seq.{take_all, length-take-le}
@@ -30,6 +31,14 @@ module _ (ws : List ℕ) where
         image_is = take_all m ws (omega arith) ∙ sym (take_all all ws h);
         events_are = drop_of_length-le ws {i = m} (omega arith) ∙ sym (drop_of_length-le ws h);
       }
+
+  -- the lesser of both
+  pub splits_min : (m : ℕ) → m ≡ min all (length ws) → Splits ws m
+  splits_min m e =
+      elim (dec_le all (length ws)) [
+        | yes h ↦ splits_at m (omega arith) (omega arith)
+        | no h ↦ splits_over m (omega arith) (omega arith)
+      ]
 
 -- how many words the image has
 pub split_count : (ws : List ℕ) (m : ℕ) → Splits ws m → m ≡ length (image_part ws)

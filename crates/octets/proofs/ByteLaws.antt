@@ -89,13 +89,16 @@ drop_fours (suc m) (a ∷ b ∷ c ∷ d ∷ bs) = drop_fours m bs
 pub words_first : (m : ℕ) (bs : List ℕ) → words_in (take (4 * m) bs) ≡ take m (words_in bs)
 words_first m bs = ap (λ (k : ℕ). words_in (take k bs)) (sym (fours_is m)) ∙ take_fours m bs
 
+pub words_rest : (m : ℕ) (bs : List ℕ) → words_in (drop (4 * m) bs) ≡ drop m (words_in bs)
+words_rest m bs = ap (λ (k : ℕ). words_in (drop k bs)) (sym (fours_is m)) ∙ drop_fours m bs
+
 pub words_part : (a b : ℕ) (bs : List ℕ) → a ≤ b
     → words_in (take (4 * b - 4 * a) (drop (4 * a) bs)) ≡ take (b - a) (drop a (words_in bs))
 words_part a b bs h =
     let four : 4 * b - 4 * a ≡ 4 * (b - a) = omega arith in
     ap (λ (k : ℕ). words_in (take k (drop (4 * a) bs))) four
     ∙ words_first (b - a) (drop (4 * a) bs)
-    ∙ ap (take (b - a)) (ap (λ (k : ℕ). words_in (drop k bs)) (sym (fours_is a)) ∙ drop_fours a bs)
+    ∙ ap (take (b - a)) (words_rest a bs)
 
 pub bytes_of_append : (vs ws : List ℕ) → bytes_of (vs ++ ws) ≡ bytes_of vs ++ bytes_of ws
 unfolding bytes_of
