@@ -1,30 +1,20 @@
 -- What the lent rows hold, by the cases of machine/specs/Exports. Assumes nothing.
 use Prim.Native.Nat.{ℕ, ◌≤◌, ◌<◌}
-use mathlib.Core.Path.{◌≡◌, refl, ap}
-use mathlib.Core.Bool.{Bool, true, false, cond, ◌||◌}
-use mathlib.Core.List.{List}
-use lib.Dec.{ltb}
-use lib.ListN.{length}
+use mathlib.Core.Path.{◌≡◌, refl, sym, ap, ◌∙◌}
+use mathlib.Core.Bool.{Bool, true, false}
+use mathlib.Core.List.{List, ◌++◌}
+use native.Mathlib.Omega.{arith}
+use lib.ListN.{length, take, drop}
 use borrow.Author.Tests.{le-leb, lt-leb, eq-eqb, ne_eqb}
 use Rattle.counting.specs.Placing.{placed}
-use Rattle.machine.specs.Refusals.{accepted, wrong_size, too_few_lent}
-use Rattle.machine.specs.Tables.{Table, fresh_table}
-use Rattle.machine.specs.Images.{image_refusal, table_in}
-use Rattle.cells.proofs.FreshLaws.{size_in, size_out}
-use Rattle.machine.specs.Exports.{Made, fresh_in, Loaded, unread, loaded, read_in}
-
--- ---- a fresh table
-
-module _ (l : Table) where
-  abbrev made : Bool → Made
-  made b =
-      cond b (record { refusal = accepted; rows = fresh_table (length l) }) (record { refusal = wrong_size; rows = l })
-
-  pub made_in : 2 ≤ length l → length l ≤ 16 → fresh_in l ≡ made true
-  made_in a b = ap made (size_in (length l) a b)
-
-  pub not_made : (ltb (length l) 2 || ltb 16 (length l)) ≡ true → fresh_in l ≡ made false
-  not_made h = ap made (size_out (length l) h)
+use Rattle.counting.proofs.PlacingLaws.{placed_first}
+use Rattle.machine.specs.Refusals.{accepted, too_few_lent, number}
+use Rattle.machine.specs.Tables.{Table}
+use Rattle.machine.specs.Images.{Found, image_refusal, table_in}
+use Rattle.machine.specs.Exports.{Loaded, unread, loaded, read_in}
+use Rattle.machine.specs.declared.ImageError.{ImageError}
+use Rattle.tables.proofs.RefusalLaws.{number_some}
+use Rattle.images.proofs.ReadingLaws as reading
 
 -- ---- a table read
 
@@ -52,3 +42,26 @@ module _ (ws : List ℕ) (l : Table) where
       → read_in ws l ≡ unread l (image_refusal ws).refusal (image_refusal ws).place
   unfolding read_in
   read_refused e = ap by (ne_eqb (image_refusal ws).refusal accepted e)
+
+-- ---- the answers to the image
+
+module _ (ws : List ℕ) (l : Table) where
+  -- a table in the first n of the rows y
+  module _ (y : Table) (n : ℕ) (t : reading.Loaded ws y n) where
+    pub read_all : n ≤ length l
+        → read_in ws l
+        ≡ record { answer = record { refusal = accepted; place = 0; size = n }; rows = take n y ++ drop n l }
+    read_all h =
+        read_table ws l t.accepted
+        ∙ loaded_all (table_in ws) l (omega (arith, t.size_is))
+        ∙ rw (placed_first l (table_in ws), t.size_is, t.rows_are) refl
+
+    pub read_short : length l < n → read_in ws l ≡ unread l too_few_lent 0
+    read_short h = read_table ws l t.accepted ∙ loaded_short (table_in ws) l (omega (arith, t.size_is))
+
+  -- a refusal
+  pub read_error : (e : ImageError) → record { refusal = number e.refusal; place = e.place } ≡ image_refusal ws
+      → read_in ws l ≡ unread l (number e.refusal) e.place
+  read_error e is =
+      read_refused ws l (λ z. number_some e.refusal (ap (λ (f : Found). f.refusal) is ∙ z))
+      ∙ ap (λ (f : Found). unread l f.refusal f.place) (sym is)

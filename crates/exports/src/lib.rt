@@ -4,12 +4,10 @@
 #![tactic(auto)]
 
 ghost use Rattle.std.specs.Prelude.{◌≡◌};
+ghost use Rattle.machine.specs.Images.{written_of};
 ghost use Rattle.machine.specs.Exports.{parts_answer_of, word_answer_of, fresh_in, read_in, printed_in};
-ghost use Rattle.images.specs.Answers.{Writes};
 
-use machine::{
-    MOST_PROCESSES, PartsAnswer, ReadAnswer, Refusal, Row, WordAnswer, refusal_number,
-};
+use machine::{MOST_PROCESSES, PartsAnswer, ReadAnswer, Refusal, Row, WordAnswer, refusal_number};
 
 // ---- event words
 
@@ -95,7 +93,8 @@ pub fn zaguypo_read(words: &[u32], rows: &mut [Row]) -> ReadAnswer
 
 // Writes the image of a table into the first of the lent words: 6, 7, then 13, which leave them.
 pub fn zaguypo_write(rows: &[Row], words: &mut [u32]) -> u16
-    ensures { Writes rows.now words.old words.new result }
+    ensures { (result ≡ (written_of rows.now words.old).refusal)
+        × (words.new ≡ (written_of rows.now words.old).words) }
 {
     refusal_number(images::encoding::write(rows, words))
 }

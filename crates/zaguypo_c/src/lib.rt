@@ -5,9 +5,9 @@
 
 ghost use Rattle.std.specs.Prelude.{◌≡◌};
 ghost use Rattle.machine.specs.Census.{census_of};
+ghost use Rattle.machine.specs.Images.{written_of};
 ghost use Rattle.machine.specs.Calls.{call_of};
 ghost use Rattle.machine.specs.Exports.{parts_answer_of, word_answer_of, fresh_in, read_in, printed_in};
-ghost use Rattle.images.specs.Answers.{Writes};
 ghost use Rattle.lent.specs.LentStep.{StepsTo};
 ghost use Rattle.runs.specs.Outcomes.{RunsTo};
 ghost use Rattle.rounds.specs.Promises.{RoundsTo};
@@ -106,7 +106,8 @@ pub extern "C" fn zaguypo_read(words: &[u32], rows: &mut [Row]) -> ReadAnswer
 // Writes the image of a table into the first of the lent words: 6, 7, then 13, which leave them.
 #[unsafe(no_mangle)]
 pub extern "C" fn zaguypo_write(rows: &[Row], words: &mut [u32]) -> u16
-    ensures { Writes rows.now words.old words.new result }
+    ensures { (result ≡ (written_of rows.now words.old).refusal)
+        × (words.new ≡ (written_of rows.now words.old).words) }
 {
     exports::zaguypo_write(rows, words)
 }

@@ -1,76 +1,50 @@
 -- `zaguypo_read` meets its contract: the answer to the image, and then to the lent rows. Assumes nothing.
-use mathlib.Core.Path.{sym, ap, ◌∙◌}
+use mathlib.Core.Path.{◌≡◌, refl, sym, ◌∙◌}
 use mathlib.Core.List.{List}
 use Prim.Native.Nat.{ℕ, ◌≤◌}
 use lib.ListN.{length}
 use lib.Seq.{length-take-le}
 use native.Mathlib.Omega.{arith}
+use Rattle.std.specs.Prelude.{Ok}
 use Rattle.machine.specs.Tables.{Table}
-use Rattle.machine.specs.Exports.{Loaded, unread, loaded}
-use Rattle.cells.specs.View.{rows_of}
-use Rattle.images.proofs.ReadingLaws as reading
-use Rattle.exports.proofs.ExportLaws.{read_table, read_refused}
+use Rattle.images.specs.Answers.{ReadInto}
+use Rattle.images.proofs.ReadingLaws.{loaded}
+use Rattle.exports.proofs.ExportLaws.{read_all, read_short, read_error}
 use Rattle.exports.proofs.zaguypo_read.Goals as goal
 
 -- ---- a table
 
-pub slice_bounds-cells-end : goal.slice_bounds-cells-end
-slice_bounds-cells-end c =
-    let words : List ℕ =
-    c.args.words.now in
-    let table : reading.Loaded words c.read_cells.new.cells c.in-Table.n =
-    reading.loaded _ _ _ _ _ c.read_cells.ensures c.in-Table.is in
-    let within : c.in-Table.n ≤ length c.read_cells.new.cells =
-    omega (arith, table.few, c.read_cells.ensures.size_is) in
-    within
+-- it is in the first n of the 16 rows
+within : (ws : List ℕ) (x y : Table) (n : ℕ) → ReadInto ws x y (Ok n) → length y ≡ 16 → n ≤ length y
+within ws x y n read count = omega (arith, (loaded ws x y n read).few)
 
-pub slice_bounds-load_rows-end : goal.slice_bounds-load_rows-end
-slice_bounds-load_rows-end c =
-    let words : List ℕ =
-    c.args.words.now in
-    let table : reading.Loaded words c.read_cells.new.cells c.in-Table.n =
-    reading.loaded _ _ _ _ _ c.read_cells.ensures c.in-Table.is in
-    let within : c.in-Table.n ≤ length c.read_cells.new.cells =
-    omega (arith, table.few, c.read_cells.ensures.size_is) in
-    sym (length-take-le c.in-Table.n c.read_cells.new.cells within)
+pub slice_bounds-table-end : goal.slice_bounds-table-end
+slice_bounds-table-end c = within _ _ _ c.in-Ok.size c.in-Ok.ensures c.read_cells.auto.rows
 
-pub load_rows-requires : goal.load_rows-requires
-load_rows-requires c =
-    let words : List ℕ =
-    c.args.words.now in
-    let table : reading.Loaded words c.read_cells.new.cells c.in-Table.n =
-    reading.loaded _ _ _ _ _ c.read_cells.ensures c.in-Table.is in
-    let within : c.in-Table.n ≤ length c.read_cells.new.cells =
-    omega (arith, table.few, c.read_cells.ensures.size_is) in
-    omega (
-      arith,
-      table.few,
-      length-take-le c.in-Table.n c.read_cells.new.cells within,
-    )
+pub slice_bounds-copy_from_slice-end-in-Ok-2 : goal.slice_bounds-copy_from_slice-end-in-Ok-2
+slice_bounds-copy_from_slice-end-in-Ok-2 c =
+    sym (length-take-le c.in-Ok.size _ (within _ _ _ c.in-Ok.size c.in-Ok.ensures c.read_cells.auto.rows))
 
-pub returns-in-Table : goal.returns-in-Table
-returns-in-Table c =
-    let words : List ℕ =
-    c.args.words.now in
-    let table : reading.Loaded words c.read_cells.new.cells c.in-Table.n =
-    reading.loaded _ _ _ _ _ c.read_cells.ensures c.in-Table.is in
-    let load = c.load_rows.ensures in
-    let l = rows_of c.args.rows.now in
-    let is = ap (λ (t : Table). loaded t l) table.rows_are ∙ sym (read_table words l table.accepted) in (
-      load.answer_is ∙ ap (λ (o : Loaded). o.answer) is,
-      load.rows_are ∙ ap (λ (o : Loaded). o.rows) is,
-    )
+pub copy_from_slice-requires : goal.copy_from_slice-requires
+copy_from_slice-requires c =
+    let n = c.in-Ok.size in
+    length-take-le n _ c.if-size-rows.true
+    ∙ sym (length-take-le n _ (within _ _ _ n c.in-Ok.ensures c.read_cells.auto.rows))
 
-pub returns-in-Refused : goal.returns-in-Refused
-returns-in-Refused c =
-    let words : List ℕ =
-    c.args.words.now in
-    let told = c.in-Refused in
-    let l = rows_of c.args.rows.now in
-    let number = told.number in
-    let place = told.place in
-    let e = sym c.read_cells.ensures.answer_is ∙ told.is in
-    let is =
-    (λ i. unread l (sym (reading.refused_number words number place e) i) (sym (reading.refused-place words number place e) i))
-    ∙ sym (read_refused words l (reading.refused-some words number place e)) in
-    (ap (λ (o : Loaded). o.answer) is, ap (λ (o : Loaded). o.rows) is)
+pub returns-in-Ok : goal.returns-in-Ok
+returns-in-Ok c =
+    let table = loaded _ _ _ c.in-Ok.size c.in-Ok.ensures in
+    rw (read_all c.args.words.now c.args.rows.now _ _ table c.if-size-rows.true)
+    (refl, rw c.copy_from_slice.ensures.after refl)
+
+-- ---- a refusal
+
+pub returns-in-Ok-2 : goal.returns-in-Ok-2
+returns-in-Ok-2 c =
+    let table = loaded _ _ _ c.in-Ok.size c.in-Ok.ensures in
+    rw (read_short c.args.words.now c.args.rows.now _ _ table c.if-size-rows.false, c.into.ensures) (refl, refl)
+
+pub returns-in-Err : goal.returns-in-Err
+returns-in-Err c =
+    let e = c.in-Err.error in
+    rw (read_error c.args.words.now c.args.rows.now e c.in-Err.ensures.found_is, c.into-in-Err.ensures) (refl, refl)
