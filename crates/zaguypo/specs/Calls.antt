@@ -6,9 +6,10 @@
 --   Prepared x ws    <=>  the table x is sound, and the words ws are at most 8,192.
 --   Writable x l     <=>  the table x is sound, and the lent bytes l have room for its image.
 --   Packable n x l   <=>  and n words have.
+--   Holds n bs       <=>  n words have room for the image in the bytes bs, unless it is longer than any is.
 --
 -- Assumes nothing.
-use Rattle.std.specs.Prelude.{ℕ, ◌≤◌, ◌≡◌, cond, List, length, Result, Ok, Err}
+use Rattle.std.specs.Prelude.{ℕ, ◌≤◌, ◌≡◌, cond, List, length, replicate, Result, Ok, Err}
 use Rattle.machine.specs.Refusals.{too_many_words, bad_bytes, bad_settings, number}
 use Rattle.machine.specs.Tables.{Table, table_refusal}
 use Rattle.machine.specs.Settings.{settings_fit}
@@ -18,6 +19,7 @@ use Rattle.machine.specs.Calls.{Called, number_of, room_for}
 use Rattle.machine.specs.declared.Refusal.{Refusal}
 use Rattle.machine.specs.declared.Settings.{Settings}
 use Rattle.machine.specs.declared.Ran.{Ran}
+use Rattle.inputs.specs.Opening.{Roomy}
 use Rattle.inputs.specs.declared.InputError.{InputError}
 use Rattle.inputs.specs.declared.InputError.TheVariants.{BadBytes, BadImage, TooMany}
 
@@ -46,3 +48,8 @@ pub record Writable (x : Table) (l : List ℕ) : Type 0 where
 pub record Packable (n : ℕ) (x : Table) (l : List ℕ) : Type 0 where
   pub writable : Writable x l
   pub long : image_length (length x) ≤ n
+  pub few : n ≤ image_length 16
+
+pub record Holds (n : ℕ) (bs : List ℕ) : Type 0 where
+  pub room : Roomy bs (replicate n 0)
+  pub few : n ≤ image_length 16

@@ -1,15 +1,14 @@
 // The run as C calls it: input bytes in, the last image out in lent bytes (include/zaguypo.h).
 #![tactic(auto)]
 
-ghost use Rattle.std.specs.Prelude.{◌≡◌, replicate};
+ghost use Rattle.std.specs.Prelude.{◌≡◌};
 ghost use Rattle.counting.specs.Placing.{placed};
 ghost use Rattle.machine.specs.Refusals.{number};
 ghost use Rattle.machine.specs.Images.{image_of};
 ghost use Rattle.machine.specs.Bytes.{words_in, bytes_of};
-ghost use Rattle.machine.specs.Inputs.{Input};
+ghost use Rattle.machine.specs.Inputs.Input.{Ready};
 ghost use Rattle.machine.specs.Calls.{call_for, call_of};
-ghost use Rattle.inputs.specs.Opening.{Roomy};
-ghost use Rattle.zaguypo.specs.Calls.{CallsTo, Writable, Packable, Prepared, refusal_for};
+ghost use Rattle.zaguypo.specs.Calls.{CallsTo, Holds, Writable, Packable, Prepared, refusal_for};
 
 use images::encoding::write_cells;
 use images::sizes::image_words;
@@ -66,22 +65,30 @@ fn run_table(
     settings: Settings,
 ) -> Result<Ran, Refusal>
     requires { Prepared rows.old (words_in events.now) }
-    ensures { CallsTo (call_for settings (Input.Ready rows.old (words_in events.now)) image.old) image.new result }
+    ensures { CallsTo (call_for settings (Ready rows.old (words_in events.now)) image.old) image.new result }
 {
     let memory = Memory::try_from(settings)?;
     if image.len() < 4 * image_words(rows.len()) {
         return Err(Refusal::TooFewLent);
     }
     let mut tally = Tally::ZERO;
-    let ran = run_words(&mut System::new(rows, memory), &Octets { bytes: events }, &mut tally);
+    let ran = run_words(
+        &mut System::new(rows, memory),
+        Octets { bytes: events },
+        &mut tally,
+    );
     write_image(rows, image);
     Ok(ran)
 }
 
 // The call under settings for what the input bytes hold. The words of their image are put into an array
 // of N words.
-fn run_input<const N: usize>(input: &[u8], image: &mut [u8], settings: Settings) -> Result<Ran, Refusal>
-    requires { Roomy input.now (replicate N 0) }
+fn run_input<const N: usize>(
+    input: &[u8],
+    image: &mut [u8],
+    settings: Settings,
+) -> Result<Ran, Refusal>
+    requires { Holds N input.now }
     ensures { CallsTo (call_of settings input.now image.old) image.new result }
 {
     let mut words = [0u32; N];

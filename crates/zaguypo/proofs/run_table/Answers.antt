@@ -1,81 +1,49 @@
 -- `zaguypo::run_table` meets its contract: 18, 13, or the run and its last image. Assumes nothing.
 use native.Mathlib.Omega.{arith}
-use mathlib.Core.Path.{◌≡◌, sym, ap, ◌∙◌}
-use mathlib.Core.Bool.{true}
-use Prim.Native.Nat.{◌≤◌}
-use lib.ListN.{length}
-use Rattle.machine.specs.Settings.{settings_fit}
-use Rattle.machine.specs.Images.{image_length}
+use mathlib.Core.Path.{◌≡◌, refl, ap₂, ◌∙◌}
+use borrow.Author.Rules.{rules}
+use Rattle.std.specs.Prelude.{Err}
+use Rattle.machine.specs.Tables.{Table}
+use Rattle.machine.specs.Shared.{no_cell}
+use Rattle.machine.specs.Settings.{settings_of}
+use Rattle.machine.specs.Runs.{zero_tally, run_from}
 use Rattle.machine.specs.Bytes.{words_in}
+use Rattle.machine.specs.declared.Memory.{Memory}
+use Rattle.machine.specs.declared.Refusal.TheVariants.{TooFewLent}
 use Rattle.machine.proofs.SoundRows.{sound_rows}
-use Rattle.cells.specs.View.{rows_of}
-use Rattle.cells.proofs.ViewLaws.{rows_length}
 use Rattle.images.proofs.CountLaws.{image_low}
 use Rattle.zaguypo.proofs.CallLaws.{calls_unfit, calls_short, calls_ran}
-use borrow.Author.Tests.{not-true, not-false}
 use Rattle.zaguypo.proofs.run_table.Goals as goal
 
-pub returns-then-not-settings_fit : goal.returns-then-not-settings_fit
-returns-then-not-settings_fit c =
+pub returns-in_err-memory : goal.returns-in_err-memory
+returns-in_err-memory c =
     let a = c.args in
-    calls_unfit a.settings (rows_of a.cells.now) (words_in a.events.now) a.image.now
-    (sym c.settings_fit.ensures ∙ not-true _ c.if-not-settings_fit.true-raw)
+    let e = c.in_err-memory.field-0.0 in
+    let answer : c.from_residual.result ≡ Err e = search rules in
+    rw answer (calls_unfit a.settings a.rows.now (words_in a.events.now) a.image.now e c.in_err-memory.ensures)
 
 -- ---- where the settings fit
 
 pub image_words-requires : goal.image_words-requires
-image_words-requires c =
-    let few : length c.args.cells.now ≤ 16 =
-    let x = c.args.cells.now in omega (arith, (sound_rows (rows_of x) c.requires.table_sound).1, rows_length x) in
-    omega (arith, few)
+image_words-requires c = omega (arith, (sound_rows c.args.rows.now c.requires.table_sound).1)
 
 pub overflow_mul-image_words : goal.overflow_mul-image_words
 overflow_mul-image_words c =
-    let few : length c.args.cells.now ≤ 16 =
-    let x = c.args.cells.now in omega (arith, (sound_rows (rows_of x) c.requires.table_sound).1, rows_length x) in
-    omega (arith, c.image_words.ensures, image_low _ few)
+    omega (arith, c.image_words.ensures, image_low _ (sound_rows c.args.rows.now c.requires.table_sound).1)
 
 pub returns-then-image-image_words : goal.returns-then-image-image_words
 returns-then-image-image_words c =
-    let fit : settings_fit c.args.settings ≡ true =
-    sym c.settings_fit.ensures ∙ not-false _ c.if-not-settings_fit.false-raw in
     let a = c.args in
-    calls_short a.settings (rows_of a.cells.now) (words_in a.events.now) a.image.now fit
-    (omega (arith, ap image_length (rows_length a.cells.now), c.image_words.ensures, c.if-image-image_words.true))
-
-pub run_events-ended-requires : goal.run_events-ended-requires
-run_events-ended-requires c =
-    let fit : settings_fit c.args.settings ≡ true =
-    sym c.settings_fit.ensures ∙ not-false _ c.if-not-settings_fit.false-raw in
-    let p = c.requires in
-    record { table_sound = p.table_sound; settings_fit_lem = fit; words_few = p.words_few }
-
-pub write_image-requires : goal.write_image-requires
-write_image-requires c =
-    record {
-      sound = c.run_events-ended.ensures.sound_after;
-      room =
-          omega (
-            arith,
-            ap image_length (rows_length c.run_events-ended.new.cells),
-            ap image_length c.run_events-ended.auto.cells,
-            c.if-image-image_words.false,
-            c.image_words.ensures,
-          );
-    }
+    calls_short a.settings a.rows.now (words_in a.events.now) a.image.now c.in_ok-memory.memory c.in_ok-memory.ensures
+    TooFewLent (omega (arith, c.image_words.ensures, c.if-image-image_words.true)) refl
 
 pub returns : goal.returns
 returns c =
-    let fit : settings_fit c.args.settings ≡ true =
-    sym c.settings_fit.ensures ∙ not-false _ c.if-not-settings_fit.false-raw in
-    let put = c.write_image in
     let a = c.args in
-    let run = c.run_events-ended in
-    calls_ran a.settings (rows_of a.cells.now) (words_in a.events.now) a.image.now fit
-    (omega (arith, ap image_length (rows_length a.cells.now), c.image_words.ensures, c.if-image-image_words.false))
-    (rows_of run.new.cells) put.new.image _ _ c.number_of.result
-    run.ensures.becomes.rows_are
-    run.ensures.taken_is
-    run.ensures.refusal_is
-    c.number_of.ensures
-    put.ensures
+    let ws = words_in a.events.now in
+    let system = c.new.ensures in
+    let run = c.run_words-ran.ensures in
+    let begun = ap₂ (λ (k : Memory) (t : Table). run_from (settings_of k) t zero_tally no_cell ws) system.memory system.table in
+    calls_ran a.settings a.rows.now ws a.image.now c.in_ok-memory.memory c.in_ok-memory.ensures
+    (omega (arith, c.image_words.ensures, c.if-image-image_words.false))
+    _ _ _ c.run_words-ran.result begun c.write_image.ensures (search rules ∙ run.becomes) run.ran_is
