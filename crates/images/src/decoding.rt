@@ -59,17 +59,15 @@ impl<'a> Image<'a> {
     }
 
     // The words of process q are checked, and where they pass the row becomes the one that they hold.
-    // Answers whether the words with its passes fit. They are read last: a branch between the reading of
-    // passes and the writing of the row costs a copy of them.
+    // Answers whether the words with its passes fit.
     fn read_row(&self, q: usize, row: &mut Row) -> Result<bool, ImageError>
         requires { q < self.now.size }
         ensures { RowRead self.now.words.now self.now.size self.now.counted q row.new result }
     {
         let w = self.row_words(q);
         self.check_row(q, w)?;
-        let turn = self.turn(q);
         let Passes { list, fit } = self.passes(q);
-        *row = row_of(w, turn, list);
+        *row = row_of(w, self.turn(q), list);
         Ok(fit)
     }
 

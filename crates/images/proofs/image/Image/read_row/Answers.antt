@@ -35,6 +35,6 @@ returns c =
           ∙ row_found i.size q c.row_words-w.result i.words.now (row_within _ _ _ q i.sized c.requires) c.row_words-w.ensures;
       row_is =
           c.row_of.ensures
-          ∙ (λ k. row_of_words (c.row_words-w.ensures k) (c.turn-turn.ensures k) (read.list_value k));
+          ∙ (λ k. row_of_words (c.row_words-w.ensures k) (c.turn.ensures k) (read.list_value k));
       fits = read.fits;
     }
