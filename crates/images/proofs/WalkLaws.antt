@@ -38,7 +38,9 @@ use Rattle.image_theorems.proofs.WordChecks.{passes}
 use Rattle.image_theorems.proofs.Fields.{state_kept}
 use Rattle.image_theorems.proofs.Reading.{first_zero, first_some, first_none}
 use Rattle.images.specs.Inner.{Sized, found_at}
-use Rattle.images.proofs.SlotLaws.{none_found, stop_at, pass_at}
+use Rattle.images.specs.RowWords.{four_at, four}
+use Rattle.images.specs.declared.checks.RowWords.{RowWords}
+use Rattle.images.proofs.SlotLaws.{stop_at, pass_at}
 
 -- ---- the words of a row
 
@@ -47,7 +49,7 @@ next_word : (ws : List ℕ) (i j : ℕ) → suc i ≡ j → i < length ws → dr
 next_word ws i j e h = drop-cons ws i 0 h ∙ ap (λ (x : ℕ). get_or ws i 0 ∷ drop x ws) e
 
 -- the four words from place i on, before others
-abbrev pub four_words : List ℕ → ℕ → List ℕ → List ℕ
+abbrev four_words : List ℕ → ℕ → List ℕ → List ℕ
 four_words ws i vs = get_or ws i 0 ∷ get_or ws (i + 1) 0 ∷ get_or ws (i + 2) 0 ∷ get_or ws (i + 3) 0 ∷ vs
 
 four_words_lem : (ws : List ℕ) (i : ℕ) → i + 4 ≤ length ws → drop i ws ≡ four_words ws i (drop (i + 4) ws)
@@ -68,24 +70,23 @@ row_within ws n b q s l = go b s.length_is
     go false e = omega (arith, e)
 
 -- the four words of a row, and what follows of a row that passes
-module _ (n : ℕ) (ws : List ℕ) (q : ℕ) (within : row_place q + 4 ≤ length ws) where
-  pub row_found : (i : ℕ) → i ≡ row_place q
-      → first_refusal n (row_place q) (row_slots q 1) (drop (row_place q) ws)
-      ≡ first_refusal n i (row_slots q 1) (four_words ws i (drop (i + 4) ws))
-  row_found i here =
-      ap (first_refusal n (row_place q) (row_slots q 1)) (four_words_lem ws (row_place q) within)
-      ∙ ap (λ (x : ℕ). first_refusal n x (row_slots q 1) (four_words ws x (drop (x + 4) ws))) (sym here)
+module _ (n q : ℕ) (w : RowWords) where
+  abbrev of_words : List ℕ → Found
+  of_words v = first_refusal n (row_place q) (row_slots q 1) v
 
-  pub row_passes : (first_refusal n (row_place q) (row_slots q 1) (drop (row_place q) ws)).refusal ≡ 0
-      → code_in (get_or ws (row_place q) 0) < 8
+  pub row_found : (ws : List ℕ) → row_place q + 4 ≤ length ws → w ≡ four_at ws (row_place q)
+      → of_words (four w) ≡ of_words (drop (row_place q) ws)
+  unfolding first_refusal row_slots
+  row_found ws within is =
+      ap (λ (v : RowWords). of_words (four v)) is ∙ sym (ap of_words (four_words_lem ws (row_place q) within))
+
+  pub row_passes : (of_words (four w)).refusal ≡ 0 → code_in w.state < 8
   unfolding row_slots
   row_passes z =
-      let i = row_place q in
       let ss = slot EST q ∷ slot LIS q ∷ slot AHEAD q ∷ [] in
-      let vs = drop 1 (four_words ws i (drop (i + 4) ws)) in
-      let e = none_found (row_found i refl) z in
-      (state_kept n q (get_or ws i 0) (passes n (slot STATE q) (get_or ws i 0)
-      (first_zero n i (slot STATE q) ss (get_or ws i 0) vs e))).code_low
+      let vs = w.est ∷ w.lis ∷ w.ahead ∷ [] in
+      (state_kept n q w.state (passes n (slot STATE q) w.state
+      (first_zero n (row_place q) (slot STATE q) ss w.state vs z))).code_low
 
 -- ---- some of the slots, then others
 

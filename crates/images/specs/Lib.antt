@@ -2,4 +2,5 @@
 pub mod Kinds
 pub mod Answers
 pub mod Inner
+pub mod RowWords
 pub mod Opened

@@ -1,11 +1,12 @@
 // The check of a word of an image where it stands, the word of process `q`, `k` or `r`. The upper half of
 // a word, its kind, spare bits and number, is compared at once.
-ghost use Rattle.std.specs.Prelude.{◌≡◌, ◌<◌, ◌^◌, drop};
+ghost use Rattle.std.specs.Prelude.{◌≡◌, ◌<◌, ◌^◌};
 ghost use Rattle.machine.specs.Refusals.{refusal_in};
 ghost use Rattle.machine.specs.Images.{slot, pass_slot, STATE, TURN, row_place, row_slots};
 ghost use Rattle.machine.specs.Images.{slot_refusal, first_refusal, found_in};
 ghost use Rattle.images.specs.Inner.{SetKind, SetsFit, found_at};
 ghost use Rattle.images.specs.Kinds.{word_kind};
+ghost use Rattle.images.specs.RowWords.{four};
 
 use crate::WordKind;
 use crate::halves::{passes_upper, upper};
@@ -27,6 +28,15 @@ pub(crate) fn placed(check: Result<(), Refusal>, place: usize) -> Result<(), Ima
             place: place as u16,
         }),
     }
+}
+
+// The four words of a process.
+#[derive(Clone, Copy)]
+pub(crate) struct RowWords {
+    pub(crate) state: u32,
+    pub(crate) est: u32,
+    pub(crate) lis: u32,
+    pub(crate) ahead: u32,
 }
 
 impl<'a> Image<'a> {
@@ -66,34 +76,30 @@ impl<'a> Image<'a> {
 
     // Where this is true, the three words of process q that hold sets pass. Most do. Otherwise
     // `check_set` is asked of one after the other.
-    fn sets_fit(&self, q: usize, b: u32, c: u32, d: u32) -> bool
+    fn sets_fit(&self, q: usize, w: RowWords) -> bool
         requires { q < self.now.size }
-        ensures { SetsFit self.now.size q b c d result }
+        ensures { SetsFit self.now.size q w.est w.lis w.ahead result }
     {
-        let members = (b % 65536) | (c % 65536) | (d % 65536);
-        (b >> 16 == upper(WordKind::Est, q))
-            & (c >> 16 == upper(WordKind::Lis, q))
-            & (d >> 16 == upper(WordKind::Ahead, q))
+        let members = (w.est % 65536) | (w.lis % 65536) | (w.ahead % 65536);
+        (w.est >> 16 == upper(WordKind::Est, q))
+            & (w.lis >> 16 == upper(WordKind::Lis, q))
+            & (w.ahead >> 16 == upper(WordKind::Ahead, q))
             & (members <= self.full as u32)
     }
 
     // The four words of process q in order, up to the first refusal.
-    pub(crate) fn check_row(&self, q: usize) -> Result<(), ImageError>
+    pub(crate) fn check_row(&self, q: usize, w: RowWords) -> Result<(), ImageError>
         requires { q < self.now.size }
-        ensures { found_in result ≡ first_refusal self.now.size (row_place q) (row_slots q 1)
-            (drop (row_place q) self.now.words.now) }
+        ensures { found_in result ≡ first_refusal self.now.size (row_place q) (row_slots q 1) (four w) }
     {
         let i = row_place(q);
-        placed(self.check_state(q, self.words[i]), i)?;
-        let b = self.words[i + 1];
-        let c = self.words[i + 2];
-        let d = self.words[i + 3];
-        if self.sets_fit(q, b, c, d) {
+        placed(self.check_state(q, w.state), i)?;
+        if self.sets_fit(q, w) {
             return Ok(());
         }
-        placed(self.check_set(WordKind::Est, q, b), i + 1)?;
-        placed(self.check_set(WordKind::Lis, q, c), i + 2)?;
-        placed(self.check_set(WordKind::Ahead, q, d), i + 3)
+        placed(self.check_set(WordKind::Est, q, w.est), i + 1)?;
+        placed(self.check_set(WordKind::Lis, q, w.lis), i + 2)?;
+        placed(self.check_set(WordKind::Ahead, q, w.ahead), i + 3)
     }
 
     // A word that holds turn[k].

@@ -1,6 +1,6 @@
 // The words of an image that hold passes: checked, read and written. `q` is the process whose passes they
 // are, `r` the one that they are over.
-ghost use Rattle.std.specs.Prelude.{◌≡◌, true, ◌+◌, ◌≤◌, ◌<◌, length, drop};
+ghost use Rattle.std.specs.Prelude.{◌≡◌, true, cond, ◌+◌, ◌≤◌, ◌<◌, length, drop};
 ghost use Rattle.counting.specs.Placing.{placed};
 ghost use Rattle.machine.specs.Images.{bare_length, pass_place, pass_slots, first_refusal, passes_in, found_in};
 ghost use Rattle.images.specs.Answers.{Room};
@@ -46,36 +46,42 @@ impl<'a> Image<'a> {
         Ok(())
     }
 
-    // The passes of process q by their words; none in a bare image, which has no such words. The loop
-    // has no branch, and the compiler turns it into vector code. It collects the bits in which a word
-    // differs from the word for a count of 0.
+    // How many words with passes a process has: none in a bare image.
+    fn counts(&self) -> usize
+        ensures { result ≡ cond self.now.counted self.now.size 0 }
+    {
+        if self.counted { self.size } else { 0 }
+    }
+
+    // The passes of process q by their words, each 0 where there are no such words. The loop has no
+    // branch, and the compiler turns it into vector code. It collects the bits in which a word differs
+    // from the word for a count of 0, `blank`.
     pub(crate) fn passes(&self, q: usize) -> Passes
         requires { q < self.now.size }
         ensures list_value { result.list ≡ passes_in self.now.size self.now.words.now q }
         ensures fits { Fits self.now.words.now self.now.size q self.now.counted result.fit }
     {
         let mut list = [0u16; 16];
-        if !self.counted {
-            return Passes { list, fit: true };
-        }
         let at = pass_place(self.size, q);
-        let upper = passes_upper(q);
         let mut odd: u32 = 0;
-        for r in 0..self.size {
+        let mut blank = whole(passes_upper(q), 0);
+        for r in 0..self.counts() {
             let w = self.words[at + r];
             list[r] = (w % 65536) as u16;
-            odd |= w ^ whole(upper + r as u32, 0);
+            odd |= w ^ blank;
+            blank += 65536;
         }
-        let fit = (odd >> 16 == 0) & (self.words[at + q] % 65536 == 0);
+        let fit = (odd >> 16 == 0) & (list[q] == 0);
         Passes { list, fit }
     }
 }
 
-// The words with the passes of process q in an image of n processes.
-fn write_passes(out: &mut [u32], n: usize, q: usize, passes: &[u16; 16])
+// The words with the passes of process q in an image of n processes. The passes are handed in by value:
+// a reference could overlap `out` for all that the compiler knows, which costs a check.
+fn write_passes(out: &mut [u32], n: usize, q: usize, passes: [u16; 16])
     requires n_bound { (n < 17) × (q < n) }
     requires n_in_bounds { pass_place n q 0 + n ≤ length out.old }
-    ensures { out.new ≡ placed out.old (pass_place n q 0) (pass_words n q passes.now) }
+    ensures { out.new ≡ placed out.old (pass_place n q 0) (pass_words n q passes) }
 {
     let at = pass_place(n, q);
     let upper = passes_upper(q);
@@ -90,6 +96,6 @@ pub(crate) fn write_counts(rows: &[Row], out: &mut [u32])
     ensures { out.new ≡ placed out.old (bare_length (length rows.now)) (passes_part rows.now) }
 {
     for (q, row) in rows.iter().enumerate() {
-        write_passes(out, rows.len(), q, &row.passes);
+        write_passes(out, rows.len(), q, row.passes);
     }
 }

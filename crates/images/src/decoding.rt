@@ -1,16 +1,36 @@
 // Reading an image: row by row its four words in order, then the words of the turn cells, then those with
 // passes, where it is not bare.
-ghost use Rattle.std.specs.Prelude.{◌≡◌, ◌-◌, ◌≤◌, ◌<◌, get_or, length, drop};
+ghost use Rattle.std.specs.Prelude.{◌≡◌, ◌-◌, ◌≤◌, ◌<◌, length, drop};
 ghost use Rattle.machine.specs.Images.{row_place, turn_place, turn_slots, code_in};
-ghost use Rattle.machine.specs.Images.{first_refusal, found_in, passes_in, row_in};
+ghost use Rattle.machine.specs.Images.{first_refusal, found_in};
 ghost use Rattle.images.specs.Answers.{ReadInto};
+ghost use Rattle.images.specs.RowWords.{four_at, row_of_words};
 ghost use Rattle.images.specs.Inner.{turn_of_words, RowRead, RowsRead, WordsRead};
 
-use crate::checks::placed;
+use crate::checks::{RowWords, placed};
+use crate::counts::Passes;
 use crate::image::Image;
 use crate::sizes::{row_place, turn_place};
 use machine::{ImageError, Row};
 use rows::codes::location_of;
+
+// The row that the four words of a process, its turn cell and its passes hold.
+fn row_of(w: RowWords, turn: u16, passes: [u16; 16]) -> Row
+    requires { code_in w.state < 8 }
+    ensures { result ≡ row_of_words w turn passes }
+{
+    Row {
+        location: location_of(((w.state >> 12) % 16) as u16),
+        act: ((w.state >> 9) % 2) as u16,
+        bb: ((w.state >> 8) % 2) as u16,
+        level: (w.state % 256) as u16,
+        est: (w.est % 65536) as u16,
+        lis: (w.lis % 65536) as u16,
+        ahead: (w.ahead % 65536) as u16,
+        turn,
+        passes,
+    }
+}
 
 impl<'a> Image<'a> {
     // What turn[q] holds by its word; 0 for q = 0, which has none.
@@ -24,25 +44,17 @@ impl<'a> Image<'a> {
         (self.words[turn_place(self.size, q)] % 256) as u16
     }
 
-    // The row of process q by its words, with its passes.
-    fn row(&self, q: usize, passes: [u16; 16]) -> Row
-        requires q_in { q < self.now.size }
-        requires code { code_in (get_or self.now.words.now (row_place q) 0) < 8 }
-        requires passes { passes ≡ passes_in self.now.size self.now.words.now q }
-        ensures { result ≡ row_in self.now.size self.now.words.now q }
+    // The four words of process q.
+    fn row_words(&self, q: usize) -> RowWords
+        requires { q < self.now.size }
+        ensures { result ≡ four_at self.now.words.now (row_place q) }
     {
         let i = row_place(q);
-        let state = self.words[i];
-        Row {
-            location: location_of(((state >> 12) % 16) as u16),
-            act: ((state >> 9) % 2) as u16,
-            bb: ((state >> 8) % 2) as u16,
-            level: (state % 256) as u16,
-            est: (self.words[i + 1] % 65536) as u16,
-            lis: (self.words[i + 2] % 65536) as u16,
-            ahead: (self.words[i + 3] % 65536) as u16,
-            turn: self.turn(q),
-            passes,
+        RowWords {
+            state: self.words[i],
+            est: self.words[i + 1],
+            lis: self.words[i + 2],
+            ahead: self.words[i + 3],
         }
     }
 
@@ -52,10 +64,11 @@ impl<'a> Image<'a> {
         requires { q < self.now.size }
         ensures { RowRead self.now.words.now self.now.size self.now.counted q row.new result }
     {
-        self.check_row(q)?;
-        let passes = self.passes(q);
-        *row = self.row(q, passes.list);
-        Ok(passes.fit)
+        let w = self.row_words(q);
+        self.check_row(q, w)?;
+        let Passes { list, fit } = self.passes(q);
+        *row = row_of(w, self.turn(q), list);
+        Ok(fit)
     }
 
     // All rows in order, up to the first refusal. Answers whether all words with passes fit.

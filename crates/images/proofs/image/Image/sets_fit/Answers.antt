@@ -8,5 +8,5 @@ returns c =
     let a = c.args in
     let image = a.self.now in
     let few = image.sized.few in
-    sets_fit image.size a.q a.b a.c a.d image.full image.is_full.is (omega arith) _ _ _ c.upper.ensures c.upper-2.ensures
+    sets_fit image.size a.q a.w.est a.w.lis a.w.ahead image.full image.is_full.is (omega arith) _ _ _ c.upper.ensures c.upper-2.ensures
     c.upper-3.ensures
