@@ -8,7 +8,7 @@ mod checks; // the check of one word, of the words of a row
 mod counts; // the words with passes
 pub mod decoding; // words into rows
 pub mod encoding; // rows into words
-pub mod tables; // words into a whole new table
+pub mod reading; // words into a whole new table
 
 // The kinds of word, by their numbers in bits 31 to 28: location with act, bb and level; three sets;
 // turn; passes.

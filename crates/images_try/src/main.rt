@@ -8,7 +8,7 @@ ghost use Rattle.std.specs.Prelude.{◌≤◌, ◌<◌, length};
 use images::decoding::read_cells;
 use images::encoding::write;
 use images::sizes::image_words;
-use images::tables::read;
+use images::reading::read;
 use machine::Reading;
 use std::io;
 

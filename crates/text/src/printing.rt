@@ -14,7 +14,7 @@ use machine::{Refusal, Row};
 pub fn put_opened<S: Sink>(out: S, opened: Result<Input, InputError>, rows: &mut [Row]) -> S
     requires printable { Printable opened rows.old }
     requires room { length (text_of (held opened rows.old)) ≤ S.space out }
-    ensures { S.appended out (text_of (held opened rows.old)) result }
+    ensures { S.appended out (text_of (held opened.entry rows.old)) result }
 {
     match opened {
         Ok(Input { size, events }) => {

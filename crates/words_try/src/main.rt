@@ -5,17 +5,13 @@ ghost use Rattle.std.specs.Prelude.{◌≡◌};
 ghost use Rattle.machine.specs.Words.{apart, together};
 ghost use Rattle.words_try.specs.Answers.{parts, answer};
 
-use machine::{Apart, Together};
-
 // The parts of a word in decimal, kind * 1000000 + process * 1000 + argument; or the refusal.
 fn taken(word: u32) -> u64
     ensures { result ≡ parts (apart word) }
 {
     match words::take_apart(word) {
-        Apart::Word(p) => {
-            (p.kind as u64) * 1000000 + (p.process as u64) * 1000 + p.argument as u64
-        }
-        Apart::Refused(why) => why as u64,
+        Ok(p) => (p.kind as u64) * 1000000 + (p.process as u64) * 1000 + p.argument as u64,
+        Err(refusal) => u16::from(refusal) as u64,
     }
 }
 
@@ -24,8 +20,8 @@ fn made(kind: u32, process: u32, argument: u32) -> u32
     ensures { result ≡ answer (together kind process argument) }
 {
     match words::put_together(kind, process, argument) {
-        Together::Word(w) => w,
-        Together::Refused(why) => why as u32,
+        Ok(word) => word,
+        Err(refusal) => u16::from(refusal) as u32,
     }
 }
 

@@ -9,7 +9,7 @@ use Rattle.machine.specs.Tables.{handed}
 use Rattle.machine.specs.Images.{table_in}
 use Rattle.image_theorems.proofs.Reading.{read_accepted, read_refused}
 use Rattle.tables.proofs.RefusalLaws.{number_some}
-use Rattle.images.proofs.tables.read.Goals as goal
+use Rattle.images.proofs.reading.read.Goals as goal
 
 pub returns-in_err-size : goal.returns-in_err-size
 returns-in_err-size c =
