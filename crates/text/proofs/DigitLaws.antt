@@ -10,7 +10,7 @@ use lib.Dec.{ltb}
 use lib.ListN.{length, length-append}
 use borrow.Author.Tests.{ltb-true, ltb-false, lt-ltb, le-ltb}
 use Rattle.machine.specs.Text.{digits, decimal}
-use Rattle.text.specs.Fields.{pair}
+use Rattle.text.specs.Appending.{pair}
 
 -- the digits by the test that picks them
 abbrev picked : ℕ → ℕ → Bool → List ℕ

@@ -1,10 +1,10 @@
 -- Every text fits text_room bytes. Assumes nothing.
 use mathlib.Core.Path.{◌≡◌, refl, sym, subst, ◌∙◌}
-use mathlib.Core.Bool.{Bool, true, false, not, cond, ◌&&◌}
+use mathlib.Core.Bool.{Bool, true, false, not, ◌&&◌}
 use mathlib.Core.List.{List, [], ◌∷◌}
-use Prim.Native.Nat.{ℕ, suc, ◌+◌, ◌*◌, ◌≤◌, ◌<◌}
+use Prim.Native.Nat.{ℕ, suc, ◌+◌, ◌≤◌, ◌<◌}
 use native.Mathlib.Decide.{ℕ_discrete, dec_le}
-use native.Mathlib.Nat.{min-le_right, mul-le-mul}
+use native.Mathlib.Nat.{min-le_right}
 use native.Mathlib.Omega.{arith}
 use lib.Dec.{eqb}
 use lib.ListN.{length, get_or, drop, length-append}
@@ -12,27 +12,24 @@ use Rattle.counting.proofs.TestLaws.{split, cond_le}
 use Rattle.machine.specs.Refusals.{accepted}
 use Rattle.machine.specs.Tables.{level_fits, table_refusal}
 use Rattle.machine.specs.Runs.{limit}
-use Rattle.machine.specs.Images.{Slot, STATE, says_passes, size_in, is_header, length_in, image_length, bare_length, slots_in}
+use Rattle.machine.specs.Images.{Slot, STATE, says_passes, size_in, is_header, length_in, slots_in}
 use Rattle.machine.specs.Images.{location_in, level_in, in_range, off_diagonal, fits_slot}
-use Rattle.machine.specs.Images.{Found, slot_refusal, first_refusal, image_refusal}
+use Rattle.machine.specs.Images.{slot_refusal, first_refusal, image_refusal}
 use Rattle.machine.specs.Bytes.{words_in, bytes_fit}
 use Rattle.machine.specs.Inputs.{image_part, event_part, Input, input_of}
 use Rattle.machine.specs.Inputs.Input.{BadBytes, BadImage, TooMany, Ready}
 use Rattle.machine.specs.Text.{posts_line, run_lines, text_of, printed}
 use Rattle.machine.specs.Exports.{printed_in}
+use Rattle.machine.specs.declared.Found.{Found}
 use Rattle.machine.proofs.SoundRows.{sound_few}
 use Rattle.machine.proofs.InputLaws.{words_bad_image, bytes_bad, bytes_words}
 use Rattle.image_theorems.proofs.Slots.{length-slots}
 use Rattle.image_theorems.proofs.Headers.{header_facts}
 use Rattle.image_theorems.proofs.Reading.{refused_header, refused_length, refused_words}
 use Rattle.image_theorems.proofs.InputTheorems.{table_fits, holds_ready, holds_too_many}
+use Rattle.images.proofs.CountLaws.{either_low}
+use Rattle.text.specs.Printing.{text_room}
 use Rattle.text.proofs.RoomLaws.{length_input, length_image, length_posts, length_many, length-run_lines}
-
-abbrev pub text_room : ℕ
-text_room = 180260
-
-either_low : (b : Bool) (n : ℕ) → n ≤ 16 → cond b (image_length n) (bare_length n) ≤ 336
-either_low b n few = let square : n * n ≤ 16 * 16 = mul-le-mul few few in cond_le b (image_length n) (bare_length n) 336 (omega (arith, square)) (omega arith)
 
 -- ---- the refusal of an image
 

@@ -1,8 +1,3 @@
-pub mod Laws
-pub mod Pages
-pub mod PageLaws
-pub mod Fields
-pub mod Lines
+pub mod Appending
 pub mod Running
-pub mod Counts
 pub mod Printing

@@ -1,28 +1,61 @@
--- The text for what an input holds, as it was opened.
+-- What printing the text for what an input holds requires (machine/specs/Text says what is printed). An input is opened
+-- once, and its text is that of the answer (inputs/specs/Opening).
 --
---   held r y        ==   what the answer r of opening an input shows with the rows y.
---   Printable r y   <=>  its table, if it has one, is sound and in the first rows, and its event words are few.
+--   text_room           ==   room for every text.
+--   head_of r           ==   what is printed for the answer r before the lines of its run: all, where it has no run.
+--   opened_text r ws y  ==   the whole text for the answer r, with the words ws and the cells y.
+--   size_of r           ==   how many processes the table of r has.
+--   HeadReady r d       <=>  r has at most 16 processes, and the buffer d has room for its head.
+--   Answers r ws y      <=>  opening some input has answered r, with the words ws and the cells y.
+--   TextReady r ws y d  <=>  so it has, and the buffer d has room for the text.
 --
 -- Assumes nothing.
-use Rattle.std.specs.Prelude.{ℕ, ◌≤◌, length, take, Result, Ok, Err, ⊤}
-use Rattle.machine.specs.Refusals.{number}
-use Rattle.machine.specs.Tables.{Table}
-use Rattle.machine.specs.Runs.{limit}
-use Rattle.machine.specs.Bytes.{words_in}
-use Rattle.machine.specs.Inputs.{Input}
-use Rattle.inputs.specs.Opening.{Tabled}
-use Rattle.inputs.specs.declared.Input.{Input as Opened}
-use Rattle.inputs.specs.declared.InputError.{InputError}
-use Rattle.inputs.specs.declared.InputError.TheVariants.{BadBytes, BadImage, TooMany}
+use Rattle.std.specs.Prelude.{ℕ, ◌≤◌, List, [], ◌∷◌, ◌++◌, length}
+use Rattle.machine.specs.Refusals.{too_many_words, bad_bytes}
+use Rattle.machine.specs.Text.{input_text, image_text, posts_text, line, stop_line, run_lines}
+use Rattle.inputs.specs.Opening.{table_of, part, Opens}
+use Rattle.inputs.specs.declared.Opened.{Opened}
+use Rattle.inputs.specs.declared.Opened.TheVariants.{BadBytes, BadImage, TooMany, Ready}
 
-abbrev pub held : Result Opened InputError → Table → Input
-held (Ok o) y = Input.Ready (take o.size y) (words_in o.events.now)
-held (Err BadBytes) y = Input.BadBytes
-held (Err (BadImage e)) y = Input.BadImage e.place (number e.refusal)
-held (Err (TooMany n)) y = Input.TooMany (take n y)
+-- 8,192 lines of at most 22 bytes, a first one of at most 9 and a last one of at most 13
+abbrev pub text_room : ℕ
+text_room = 180260
 
-abbrev pub Printable : Result Opened InputError → Table → Type 0
-Printable (Ok o) y = Tabled y o.size × (length (words_in o.events.now) ≤ limit)
-Printable (Err BadBytes) y = ⊤
-Printable (Err (BadImage e)) y = ⊤
-Printable (Err (TooMany n)) y = Tabled y n
+-- ---- the text of an answer
+
+abbrev pub head_of : Opened → List ℕ
+head_of BadBytes = line input_text (bad_bytes ∷ [])
+head_of (BadImage place number) = line image_text (place ∷ number ∷ [])
+head_of (TooMany n) = line posts_text (n ∷ []) ++ stop_line 0 too_many_words
+head_of (Ready n a b) = line posts_text (n ∷ [])
+
+-- the lines of its run
+abbrev pub lines_of : Opened → List ℕ → List (List ℕ) → List ℕ
+lines_of BadBytes ws y = []
+lines_of (BadImage place number) ws y = []
+lines_of (TooMany n) ws y = []
+lines_of (Ready n a b) ws y = run_lines (table_of y n) 0 (part ws a b)
+
+abbrev pub opened_text : Opened → List ℕ → List (List ℕ) → List ℕ
+opened_text r ws y = head_of r ++ lines_of r ws y
+
+-- 0 where there is no table
+abbrev pub size_of : Opened → ℕ
+size_of BadBytes = 0
+size_of (BadImage place number) = 0
+size_of (TooMany n) = n
+size_of (Ready n a b) = n
+
+-- ---- contracts
+
+pub record HeadReady (r : Opened) (d : List ℕ) : Type 0 where
+  pub few : size_of r ≤ 16
+  pub room : length (head_of r) ≤ length d
+
+pub record Answers (r : Opened) (ws : List ℕ) (y : List (List ℕ)) : Type 0 where
+  pub input : List ℕ
+  pub opens : Opens input ws y r
+
+pub record TextReady (r : Opened) (ws : List ℕ) (y : List (List ℕ)) (d : List ℕ) : Type 0 where
+  pub answers : Answers r ws y
+  pub room : length (opened_text r ws y) ≤ length d
