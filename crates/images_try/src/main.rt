@@ -9,7 +9,7 @@ use images::decoding::read_cells;
 use images::encoding::write;
 use images::sizes::image_words;
 use images::reading::read;
-use machine::Reading;
+use machine::{ImageError, Row, refusal_number};
 use std::io;
 
 // The bare fresh image of two processes.
@@ -45,27 +45,63 @@ const COUNTED: [u32; 14] = [
 ];
 
 // A process with every cell at its largest, of 16, and no passes.
-const LARGEST: [u16; 24] = [
-    40, 1, 1, 15, 65535, 65535, 65535, 15, 0, 0, 0, 0, 0, 0, 0, 0, 0, 0, 0, 0, 0, 0, 0, 0,
-];
+const LARGEST: Row = Row {
+    location: 40,
+    act: 1,
+    bb: 1,
+    level: 15,
+    est: 65535,
+    lis: 65535,
+    ahead: 65535,
+    turn: 15,
+    passes: [0; 16],
+};
 
 // The first of them: row 0 holds turn 0, and has the most passes over every other process.
-const LARGEST_FIRST: [u16; 24] = [
-    40, 1, 1, 15, 65535, 65535, 65535, 0, 0, 65535, 65535, 65535, 65535, 65535, 65535, 65535,
-    65535, 65535, 65535, 65535, 65535, 65535, 65535, 65535,
-];
+const LARGEST_FIRST: Row = Row {
+    turn: 0,
+    passes: [
+        0, 65535, 65535, 65535, 65535, 65535, 65535, 65535, 65535, 65535, 65535, 65535, 65535,
+        65535, 65535, 65535,
+    ],
+    ..LARGEST
+};
 
 // Three processes under way, with passes of each over each other.
-const DEEP: [[u16; 24]; 3] = [
-    [
-        23, 1, 1, 2, 6, 0, 4, 0, 0, 1, 2, 0, 0, 0, 0, 0, 0, 0, 0, 0, 0, 0, 0, 0,
-    ],
-    [
-        24, 1, 0, 1, 5, 1, 1, 2, 3, 0, 4, 0, 0, 0, 0, 0, 0, 0, 0, 0, 0, 0, 0, 0,
-    ],
-    [
-        30, 1, 0, 0, 3, 2, 0, 1, 5, 65535, 0, 0, 0, 0, 0, 0, 0, 0, 0, 0, 0, 0, 0, 0,
-    ],
+const DEEP: [Row; 3] = [
+    Row {
+        location: 23,
+        act: 1,
+        bb: 1,
+        level: 2,
+        est: 6,
+        lis: 0,
+        ahead: 4,
+        turn: 0,
+        passes: [0, 1, 2, 0, 0, 0, 0, 0, 0, 0, 0, 0, 0, 0, 0, 0],
+    },
+    Row {
+        location: 24,
+        act: 1,
+        bb: 0,
+        level: 1,
+        est: 5,
+        lis: 1,
+        ahead: 1,
+        turn: 2,
+        passes: [3, 0, 4, 0, 0, 0, 0, 0, 0, 0, 0, 0, 0, 0, 0, 0],
+    },
+    Row {
+        location: 30,
+        act: 1,
+        bb: 0,
+        level: 0,
+        est: 3,
+        lis: 2,
+        ahead: 0,
+        turn: 1,
+        passes: [5, 65535, 0, 0, 0, 0, 0, 0, 0, 0, 0, 0, 0, 0, 0, 0],
+    },
 ];
 
 // ---- lines
@@ -83,11 +119,14 @@ fn say(rt: &impl Print, label: &str, value: usize) -> io::Result<()> {
 
 // What reading answers.
 fn say_read(rt: &impl Print, label: &str, words: &[u32]) -> io::Result<()> {
-    let t = read(words);
+    let (refusal, place, size) = match read(words) {
+        Ok(table) => (0, 0, table.size),
+        Err(e) => (u16::from(e.refusal), e.place, 0),
+    };
     print!(rt; "{label}")?;
-    put(rt, t.refusal as usize)?;
-    put(rt, t.place as usize)?;
-    put(rt, t.size as usize)?;
+    put(rt, refusal as usize)?;
+    put(rt, place as usize)?;
+    put(rt, size)?;
     println!(rt; "")
 }
 
@@ -111,53 +150,40 @@ fn say_counted(rt: &impl Print, label: &str, place: usize, word: u32) -> io::Res
 
 // ---- words that stand alike
 
-fn one_if(same: bool) -> usize
-    ensures { result ≤ 1 }
-{
-    if same { 1 } else { 0 }
-}
-
 // How many words stand alike in both.
-fn alike(a: &[u32], b: &[u32]) -> usize
-    requires { length a.now ≤ length b.now }
-{
-    let mut count = 0;
-    let mut i = 0;
-    while i < a.len() {
-        count += one_if(a[i] == b[i]);
-        i += 1;
-    }
-    count
+fn alike(a: &[u32], b: &[u32]) -> usize {
+    a.iter().zip(b).filter(|(x, y)| x == y).count()
 }
 
 // How many processes were read, or the refusal.
-fn answer_of(answer: Reading) -> usize {
+fn answer_of(answer: Result<usize, ImageError>) -> usize {
     match answer {
-        Reading::Table(n) => n as usize,
-        Reading::Refused { number, place: _ } => number as usize,
+        Ok(size) => size,
+        Err(e) => u16::from(e.refusal) as usize,
     }
 }
 
+// The refusal of a write, or 0.
+fn written(rows: &[Row], out: &mut [u32]) -> usize {
+    refusal_number(write(rows, out)) as usize
+}
+
 // A table is written, read and written again into 340 words that held 7.
-fn say_around(rt: &impl Print, label: &str, cells: &[[u16; 24]]) -> io::Result<()>
-    requires { length cells.now ≤ 16 }
+fn say_around(rt: &impl Print, label: &str, rows: &[Row]) -> io::Result<()>
+    requires { length rows.now ≤ 16 }
 {
-    let n = cells.len();
+    let n = rows.len();
     let all = image_words(n);
     let mut first = [7u32; 340];
     let mut again = [7u32; 340];
-    let mut back = [[0u16; 24]; 16];
-    say(rt, label, write(cells, &mut first) as usize)?;
+    let mut back = [Row::BLANK; 16];
+    say(rt, label, written(rows, &mut first))?;
     say(
         rt,
         "  read",
         answer_of(read_cells(&first[..all], &mut back)),
     )?;
-    say(
-        rt,
-        "  written again",
-        write(&back[..n], &mut again) as usize,
-    )?;
+    say(rt, "  written again", written(&back[..n], &mut again))?;
     say(rt, "  words alike", alike(&first, &again))?;
     say(rt, "  words kept", alike(&first, &[7u32; 340]))
 }
@@ -217,13 +243,9 @@ fn round_trips(rt: &impl Print) -> io::Result<()> {
 // Refused writes leave the lent words as they were.
 fn refused_writes(rt: &impl Print) -> io::Result<()> {
     let mut lent = [7u32; 23];
-    say(rt, "one row", write(&DEEP[..1], &mut lent) as usize)?;
-    say(
-        rt,
-        "row 0 with a turn",
-        write(&[LARGEST; 2], &mut lent) as usize,
-    )?;
-    say(rt, "24 words, 23 lent", write(&DEEP, &mut lent) as usize)?;
+    say(rt, "one row", written(&DEEP[..1], &mut lent))?;
+    say(rt, "row 0 with a turn", written(&[LARGEST; 2], &mut lent))?;
+    say(rt, "24 words, 23 lent", written(&DEEP, &mut lent))?;
     say(rt, "  words kept", alike(&lent, &[7u32; 23]))
 }
 
