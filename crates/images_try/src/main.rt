@@ -7,8 +7,8 @@ ghost use Rattle.std.specs.Prelude.{◌≤◌, ◌<◌, length};
 
 use images::decoding::read_cells;
 use images::encoding::write;
-use images::sizes::image_words;
 use images::reading::read;
+use images::sizes::image_words;
 use machine::{ImageError, Row, refusal_number};
 use std::io;
 

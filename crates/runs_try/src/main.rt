@@ -90,7 +90,14 @@ fn cancel(rt: &impl Print) -> io::Result<()> {
 
 // Process 0 in the critical section: a word of no kind, a word not allowed and a bad argument.
 fn stops(rt: &impl Print) -> io::Result<()> {
-    let mut rows = [Row { location: 30, act: 1, ..Row::IDLE }, Row::IDLE];
+    let mut rows = [
+        Row {
+            location: 30,
+            act: 1,
+            ..Row::IDLE
+        },
+        Row::IDLE,
+    ];
     show(
         rt,
         "kind",
@@ -110,19 +117,48 @@ fn stops(rt: &impl Print) -> io::Result<()> {
 
 // The last word taken reads or writes a shared cell; a refused word after it changes nothing.
 fn shared(rt: &impl Print) -> io::Result<()> {
-    let mut at_22 = [Row { location: 22, act: 1, level: 1, est: 2, lis: 2, ..Row::IDLE }, Row::IDLE];
+    let mut at_22 = [
+        Row {
+            location: 22,
+            act: 1,
+            level: 1,
+            est: 2,
+            lis: 2,
+            ..Row::IDLE
+        },
+        Row::IDLE,
+    ];
     show(
         rt,
         "looks",
         runs::run(&mut at_22, &[0x5000_0001], Settings::WEAKEST),
     )?;
-    let mut at_23 = [Row { location: 23, act: 1, bb: 1, level: 1, est: 2, ..Row::IDLE }, Row::IDLE];
+    let mut at_23 = [
+        Row {
+            location: 23,
+            act: 1,
+            bb: 1,
+            level: 1,
+            est: 2,
+            ..Row::IDLE
+        },
+        Row::IDLE,
+    ];
     show(
         rt,
         "reconsiders",
         runs::run(&mut at_23, &[0x4000_0000], Settings::WEAKEST),
     )?;
-    let mut at_24 = [Row { location: 24, act: 1, level: 1, est: 2, ..Row::IDLE }, Row::IDLE];
+    let mut at_24 = [
+        Row {
+            location: 24,
+            act: 1,
+            level: 1,
+            est: 2,
+            ..Row::IDLE
+        },
+        Row::IDLE,
+    ];
     show(
         rt,
         "flickers",
@@ -134,7 +170,13 @@ fn shared(rt: &impl Print) -> io::Result<()> {
 fn tables(rt: &impl Print) -> io::Result<()> {
     let words = [0x1000_0000; 8193];
     let mut one = [Row::IDLE];
-    let mut unsound = [Row::IDLE, Row { location: 11, ..Row::IDLE }];
+    let mut unsound = [
+        Row::IDLE,
+        Row {
+            location: 11,
+            ..Row::IDLE
+        },
+    ];
     show(
         rt,
         "one row",
@@ -161,15 +203,7 @@ fn under(
     act: u32,
     turn: u32,
 ) -> io::Result<()> {
-    show(
-        rt,
-        name,
-        runs::run(
-            rows,
-            words,
-            Settings { act, turn },
-        ),
-    )
+    show(rt, name, runs::run(rows, words, Settings { act, turn }))
 }
 
 // Process 0 at 24, process 1 at 23 of the same level: a FLICKER, then a GO from 23 to 24. Then settings
@@ -177,14 +211,32 @@ fn under(
 fn settings(rt: &impl Print) -> io::Result<()> {
     let words = [0x3000_0001, 0x4001_0000];
     let many = [0x1000_0000; 8193];
-    let at_24 = Row { location: 24, act: 1, level: 1, est: 2, ..Row::IDLE };
-    let at_23 = Row { location: 23, act: 1, level: 1, est: 1, ..Row::IDLE };
+    let at_24 = Row {
+        location: 24,
+        act: 1,
+        level: 1,
+        est: 2,
+        ..Row::IDLE
+    };
+    let at_23 = Row {
+        location: 23,
+        act: 1,
+        level: 1,
+        est: 1,
+        ..Row::IDLE
+    };
     let mut rows = [at_24, at_23];
     under(rt, "turn plain", &mut rows, &words, 0, 2)?;
     under(rt, "one writer", &mut rows, &words, 1, 1)?;
     under(rt, "act plain", &mut rows, &words, 1, 0)?;
     under(rt, "act 2", &mut rows, &many, 2, 0)?;
-    let mut unsound = [Row::IDLE, Row { location: 11, ..Row::IDLE }];
+    let mut unsound = [
+        Row::IDLE,
+        Row {
+            location: 11,
+            ..Row::IDLE
+        },
+    ];
     under(rt, "unsound, turn 3", &mut unsound, &words, 0, 3)
 }
 

@@ -15,8 +15,7 @@ returns-in-Ok c =
 
 pub returns-in-Err : goal.returns-in-Err
 returns-in-Err c =
-    let said = sym (ap numbered c.in-Err.is) ∙ c.step.ensures.answer_is in
-    (
+    let said = sym (ap numbered c.in-Err.is) ∙ c.step.ensures.answer_is in (
       ap (λ (k : ℕ). record { refusal = k; cell = no_cell }) c.into.ensures
           ∙ told_c _ c.args.rows.now c.args.word (Err (number c.in-Err.refusal)) said,
       c.step.ensures.becomes,
