@@ -5,14 +5,12 @@
 
 mod reading;
 
-use reading::Got;
-
 fn main(rt: HostRuntime) {
     // A word more than an input may have: a longer one is cut here, and is refused all the same.
     let mut input = [0u8; machine::INPUT_BYTES + 4];
     match reading::read_all(&mut rt.stdin(), &mut input) {
-        Got::Bytes(count) => print(&rt, &input[..count]),
-        Got::Failed => {
+        Ok(count) => print(&rt, &input[..count]),
+        Err(_) => {
             let _ = eprintln!(rt; "zaguypo-replay: standard input cannot be read");
         }
     }
