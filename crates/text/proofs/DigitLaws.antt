@@ -1,16 +1,18 @@
 -- Decimal digits: one more possible digit changes nothing, how many there are, and the last two apart from the others.
 -- Assumes nothing.
 use mathlib.Core.Path.{◌≡◌, refl, sym, ap, ap₂, ◌∙◌}
-use mathlib.Core.Bool.{Bool, true, false}
+use mathlib.Core.Bool.{Bool, true, false, ◌&&◌, and-eq-true_iff}
 use mathlib.Core.List.{List, [], ◌∷◌, ◌++◌, append_assoc}
-use Prim.Native.Nat.{ℕ, zero, suc, ◌+◌, ◌/◌, ◌%◌, ◌^◌, ◌<◌, ◌≤◌}
+use Prim.Native.Nat.{ℕ, zero, suc, ◌+◌, ◌*◌, ◌/◌, ◌%◌, ◌^◌, ◌<◌, ◌≤◌}
 use native.Mathlib.Nat.{pow-suc}
 use native.Mathlib.Omega.{arith}
-use lib.Dec.{ltb}
-use lib.ListN.{length, length-append}
-use borrow.Author.Tests.{ltb-true, ltb-false, lt-ltb, le-ltb}
+use lib.Dec.{ltb, eqb}
+use lib.ListN.{length, get_or, length-append}
+use borrow.Author.Tests.{eqb-true, ltb-true, ltb-false, lt-ltb, le-ltb}
+use Rattle.counting.proofs.TestLaws.{every, every_at}
 use Rattle.machine.specs.Text.{digits, decimal}
-use Rattle.text.specs.Appending.{pair}
+use Rattle.text.specs.Fields.{pair}
+use Rattle.text.specs.declared.fields.TheConstants.{PAIRS}
 
 -- the digits by the test that picks them
 abbrev picked : ℕ → ℕ → Bool → List ℕ
@@ -89,3 +91,17 @@ decimal_long n small h =
 -- its length
 pub length_decimal_long : (n : ℕ) → n < 2 ^ 32 → 100 ≤ n → length (decimal n) ≡ length (decimal (n / 100)) + 2
 length_decimal_long n small h = ap length (decimal_long n small h) ∙ length-append (decimal (n / 100)) (pair (n % 100))
+
+-- ---- the table of pairs
+
+abbrev is_pair : ℕ → Bool
+is_pair n = eqb (get_or PAIRS (2 * n) 0) (48 + n / 10) && eqb (get_or PAIRS (2 * n + 1) 0) (48 + n % 10)
+
+all_pairs : every is_pair 100 ≡ true
+unfolding every
+all_pairs = refl
+
+pub pair_at : (n : ℕ) → n < 100 → (get_or PAIRS (2 * n) 0 ≡ 48 + n / 10) × (get_or PAIRS (2 * n + 1) 0 ≡ 48 + n % 10)
+pair_at n h =
+    let both = (and-eq-true_iff _ _).0 (every_at is_pair 100 all_pairs n h) in
+    (eqb-true _ _ both.0, eqb-true _ _ both.1)

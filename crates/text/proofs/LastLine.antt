@@ -26,8 +26,8 @@ use Rattle.machine.specs.declared.Tally.{Tally}
 use Rattle.machine.proofs.SettingTheorems.{weakest_step}
 use Rattle.machine.proofs.RunLaws.{run_of_words, run_of_taken, counted_words}
 use Rattle.image_theorems.proofs.InputTheorems.{table_fits, holds_ready, holds_too_many}
-use Rattle.text.specs.Running.{takes, line_of}
-use Rattle.text.proofs.RunLaws.{line_of_taken, line_of_stopped, run_lines_taken, run_lines_stopped}
+use Rattle.text.specs.Running.{takes}
+use Rattle.text.proofs.RunLaws.{run_lines_taken, run_lines_stopped}
 
 -- the last line for what a run answers: how many words were taken, and the refusal if there is one
 abbrev pub final_line : Outcome → List ℕ
@@ -62,8 +62,8 @@ run_ends y t h c (w ∷ ws) =
     fields : List ℕ
     fields = spaced (word_fields t i w) ++ (32 ∷ cell_text (cell_of t w))
 
-    line_is : line_of t i w ≡ word_line t i w → line_of t i w ≡ fields ++ (10 ∷ [])
-    line_is e = e ∙ sym (append_assoc (spaced (word_fields t i w)) (32 ∷ cell_text (cell_of t w)) (10 ∷ []))
+    line_is : word_line t i w ≡ fields ++ (10 ∷ [])
+    line_is = sym (append_assoc (spaced (word_fields t i w)) (32 ∷ cell_text (cell_of t w)) (10 ∷ []))
 
     next : Outcome
     next = run_from weakest (after_word t w) (counted (event_of t w) h) (cell_of t w) ws
@@ -81,7 +81,7 @@ run_ends y t h c (w ∷ ws) =
       rest.0,
       ap (λ (l : List ℕ). y ++ (10 ∷ l))
           (run_lines_taken t i w ws e
-          ∙ ap (λ (l : List ℕ). l ++ run_lines (after_word t w) (suc i) ws) (line_is (line_of_taken t i w e)))
+          ∙ ap (λ (l : List ℕ). l ++ run_lines (after_word t w) (suc i) ws) line_is)
           ∙ between y fields (run_lines (after_word t w) (suc i) ws)
           ∙ ap (λ (k : ℕ). (y ++ (10 ∷ fields)) ++ (10 ∷ run_lines (after_word t w) k ws))
           (sym (counted_suc (event_of t w) h))
@@ -92,7 +92,6 @@ run_ends y t h c (w ∷ ws) =
       y,
       ap (λ (l : List ℕ). y ++ (10 ∷ l))
           (run_lines_stopped t i w ws e
-          ∙ line_of_stopped t i w e
           ∙ ap (λ (b : Bool). elim b [ true ↦ done_line i | false ↦ stop_line i (refusal_of t w) ]) (sym e)
           ∙ ap final_line (sym (outcome false e))),
     )

@@ -1,9 +1,9 @@
-pub mod AppendingLaws
+pub mod Puts
 pub mod DigitLaws
 pub mod LineLaws
 pub mod RunLaws
+pub mod ProgressLaws
 pub mod RoomLaws
 pub mod TextFits
-pub mod PrintLaws
-pub mod ProgressLaws
 pub mod LastLine
+pub mod PrintLaws

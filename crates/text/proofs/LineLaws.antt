@@ -2,66 +2,19 @@
 use mathlib.Core.Path.{◌≡◌, refl, ap, ◌∙◌, sym}
 use mathlib.Core.Bool.{Bool, true, false, cond}
 use mathlib.Core.List.{List, [], ◌∷◌, ◌++◌, append_assoc}
-use Prim.Native.Nat.{ℕ, zero, suc, ◌+◌, ◌^◌, ◌≤◌, ◌<◌}
+use Prim.Native.Nat.{ℕ, suc, ◌+◌, ◌-◌, ◌^◌, ◌≤◌, ◌<◌}
 use native.Mathlib.Omega.{arith}
 use lib.Dec.{eqb}
-use lib.ListN.{length, get_or, take, length-append}
+use lib.ListN.{length, get_or, take, drop, length-append}
+use lib.Seq.{take_all}
 use borrow.Author.Tests.{eq-eqb, ne_eqb}
 use Rattle.machine.specs.Shared.{READ, ACT}
 use Rattle.machine.specs.Text.{decimal, spaced, line, cell_text}
 use Rattle.machine.specs.declared.SharedCell.{SharedCell}
-use Rattle.text.specs.Appending.{Appended, gap, line_with, taken_line}
+use Rattle.text.specs.declared.lines.TakenWord.{TakenWord}
+use Rattle.text.specs.Fields.{field}
+use Rattle.text.specs.Lines.{taken_line}
 use Rattle.text.proofs.DigitLaws.{length_digits}
-
--- ---- one number more
-
-pub gap_first : {i : ℕ} → i ≡ 0 → gap i ≡ []
-unfolding gap
-gap_first e = ap gap e
-
-pub gap_other : (i : ℕ) → (i ≡ 0 → ⊥) → gap i ≡ 32 ∷ []
-unfolding gap
-gap_other zero some = absurd (some refl)
-gap_other (suc i) some = refl
-
-pub spaced_next : (ns : List ℕ) (i : ℕ) → i < length ns
-    → spaced (take (suc i) ns) ≡ spaced (take i ns) ++ (gap i ++ decimal (get_or ns i 0))
-unfolding spaced gap
-spaced_next [] i h = absurd (omega arith)
-spaced_next (n ∷ ns) zero h = refl
-spaced_next (n ∷ []) (suc i) h = absurd (omega arith)
-spaced_next (n ∷ m ∷ ns) (suc zero) h = refl
-spaced_next (n ∷ m ∷ ns) (suc (suc i)) h =
-    ap (λ (l : List ℕ). decimal n ++ (32 ∷ l)) (spaced_next (m ∷ ns) (suc i) (omega arith))
-    ∙ sym (append_assoc (decimal n) (32 ∷ spaced (m ∷ take i ns)) (32 ∷ decimal (get_or ns i 0)))
-
--- the first numbers are no longer than all
-spaced_start : (ns : List ℕ) (i : ℕ) → length (spaced (take i ns)) ≤ length (spaced ns)
-unfolding spaced
-spaced_start ns zero = omega arith
-spaced_start [] (suc i) = omega arith
-spaced_start (n ∷ []) (suc zero) = omega arith
-spaced_start (n ∷ []) (suc (suc i)) = omega arith
-spaced_start (n ∷ m ∷ ns) (suc zero) = omega (arith, length-append (decimal n) (32 ∷ spaced (m ∷ ns)))
-spaced_start (n ∷ m ∷ ns) (suc (suc i)) =
-    omega (
-      arith,
-      spaced_start (m ∷ ns) (suc i),
-      length-append (decimal n) (32 ∷ spaced (m ∷ take i ns)),
-      length-append (decimal n) (32 ∷ spaced (m ∷ ns)),
-    )
-
--- room for the next number where there is room for all
-pub room_next : (ns : List ℕ) (i : ℕ) → i < length ns
-    → length (spaced (take i ns)) + (length (gap i) + length (decimal (get_or ns i 0))) ≤ length (spaced ns)
-room_next ns i h =
-    omega (
-      arith,
-      ap length (spaced_next ns i h),
-      length-append (spaced (take i ns)) (gap i ++ decimal (get_or ns i 0)),
-      length-append (gap i) (decimal (get_or ns i 0)),
-      spaced_start ns (suc i),
-    )
 
 -- ---- a shared cell
 
@@ -75,6 +28,35 @@ module _ (c : SharedCell) where
 
   pub cell_some : (c.access ≡ 0 → ⊥) → cell_text c ≡ lettered
   cell_some ne = ap (λ (b : Bool). cond b (45 ∷ []) lettered) (ne_eqb c.access 0 ne)
+
+-- ---- numbers with a space between two
+
+pub spaced_none : (ns : List ℕ) → length ns < 1 → spaced ns ≡ []
+unfolding spaced
+spaced_none [] h = refl
+spaced_none (n ∷ ns) h = absurd (omega arith)
+
+pub spaced_one : (ns : List ℕ) → 1 ≤ length ns → length ns < 2 → spaced ns ≡ decimal (get_or ns 0 0)
+unfolding spaced
+spaced_one [] some few = absurd (omega arith)
+spaced_one (n ∷ []) some few = refl
+spaced_one (n ∷ m ∷ ns) some few = absurd (omega arith)
+
+-- the first, and those after it
+pub spaced_more : (ns : List ℕ) → 2 ≤ length ns
+    → spaced ns ≡ field (get_or ns 0 0) ++ spaced (take (length ns - 1) (drop 1 ns))
+unfolding spaced
+spaced_more [] h = absurd (omega arith)
+spaced_more (n ∷ []) h = absurd (omega arith)
+spaced_more (n ∷ m ∷ ns) h =
+    sym (append_assoc (decimal n) (32 ∷ []) (spaced (m ∷ ns)))
+    ∙ ap (λ (l : List ℕ). field n ++ spaced l) (sym (take_all (length (n ∷ m ∷ ns) - 1) (m ∷ ns) (omega arith)))
+
+pub length_spaced_more : (ns : List ℕ) → 2 ≤ length ns
+    → length (spaced ns) ≡ length (field (get_or ns 0 0)) + length (spaced (take (length ns - 1) (drop 1 ns)))
+length_spaced_more ns h =
+    ap length (spaced_more ns h)
+    ∙ length-append (field (get_or ns 0 0)) (spaced (take (length ns - 1) (drop 1 ns)))
 
 -- ---- how long a line is
 
@@ -94,10 +76,18 @@ length-spaced (then {n} {o} {ns = ns} k h more) =
       length-spaced more,
     )
 
-pub length-line_with : (s ns e : List ℕ) → length (line_with s ns e) ≡ length s + (length (spaced ns) + length e)
-length-line_with s ns e = omega (arith, length-append s (spaced ns ++ e), length-append (spaced ns) e)
+pub length-line : (s ns : List ℕ) → length (line s ns) ≡ length s + (length (spaced ns) + 1)
+length-line s ns = omega (arith, length-append s (spaced ns ++ (10 ∷ [])), length-append (spaced ns) (10 ∷ []))
 
--- the cell of a taken word
+pub length_within : (s : List ℕ) {ns : List ℕ} {m : ℕ} → Within ns m → length (line s ns) ≤ length s + m
+length_within s {ns} fits = omega (arith, length-line s ns, length-spaced fits)
+
+-- the numbers of a taken word, and its cell
+pub length-taken_line : (ns : List ℕ) (c : SharedCell)
+    → length (spaced ns ++ (32 ∷ cell_text c ++ (10 ∷ []))) ≡ length (spaced ns) + (length (cell_text c) + 2)
+length-taken_line ns c =
+    omega (arith, length-append (spaced ns) (32 ∷ cell_text c ++ (10 ∷ [])), length-append (cell_text c) (10 ∷ []))
+
 pub length-cell_text : (c : SharedCell) → c.index < 100 → length (cell_text c) ≤ 4
 length-cell_text c low = by (eqb c.access 0) (length_digits 20 1 c.index low)
   where
@@ -105,70 +95,19 @@ length-cell_text c low = by (eqb c.access 0) (length_digits 20 1 c.index low)
     by true two = omega arith
     by false two = omega arith
 
-pub length-taken_line : (ns : List ℕ) (c : SharedCell)
-    → length (taken_line ns c) ≡ length (spaced ns) + (length (cell_text c) + 2)
-length-taken_line ns c =
-    omega (arith, length-append (spaced ns) (32 ∷ cell_text c ++ (10 ∷ [])), length-append (cell_text c) (10 ∷ []))
-
 -- ---- the line of a taken word, field by field
 
--- a number and the space after it
-abbrev pub field : ℕ → List ℕ
-field n = decimal n ++ (32 ∷ [])
-
-pub field_end : {d y : List ℕ} {at e : ℕ} (n : ℕ) → Appended d at (field n) y e → e ≡ at + (length (decimal n) + 1)
-field_end n a = omega (arith, a.end_is, length-append (decimal n) (32 ∷ []))
-
-field_then : (n : ℕ) (s : List ℕ) → field n ++ s ≡ decimal n ++ (32 ∷ s)
-field_then n s = append_assoc (decimal n) (32 ∷ []) s
-
-module _ (a b c d e : ℕ) (cell : SharedCell) where
-  abbrev fields : List ℕ
-  fields = a ∷ b ∷ c ∷ d ∷ e ∷ []
-
+module _ (w : TakenWord) where
   abbrev rest : List ℕ
-  rest = cell_text cell ++ (10 ∷ [])
+  rest = cell_text w.cell ++ (10 ∷ [])
 
-  -- the numbers, with what stands after them drawn in
-  spaced_then : spaced fields ++ (32 ∷ rest)
-      ≡ decimal a ++ (32 ∷ decimal b ++ (32 ∷ decimal c ++ (32 ∷ decimal d ++ (32 ∷ decimal e ++ (32 ∷ rest)))))
+  pub taken_fields : field w.place ++ (field w.process ++ (field w.from ++ (field w.to ++ (field w.inside ++ rest))))
+      ≡ taken_line w
   unfolding spaced
-  spaced_then =
-      append_assoc (decimal a) (32 ∷ spaced (b ∷ c ∷ d ∷ e ∷ [])) (32 ∷ rest)
-      ∙ ap (λ (l : List ℕ). decimal a ++ (32 ∷ l))
-      (append_assoc (decimal b) (32 ∷ spaced (c ∷ d ∷ e ∷ [])) (32 ∷ rest)
-      ∙ ap (λ (l : List ℕ). decimal b ++ (32 ∷ l))
-      (append_assoc (decimal c) (32 ∷ spaced (d ∷ e ∷ [])) (32 ∷ rest)
-      ∙ ap (λ (l : List ℕ). decimal c ++ (32 ∷ l)) (append_assoc (decimal d) (32 ∷ decimal e) (32 ∷ rest))))
+  taken_fields = simp append_assoc
 
-  pub taken_fields : field a ++ (field b ++ (field c ++ (field d ++ (field e ++ rest)))) ≡ taken_line fields cell
-  taken_fields =
-      field_then a (field b ++ (field c ++ (field d ++ (field e ++ rest))))
-      ∙ ap (λ (l : List ℕ). decimal a ++ (32 ∷ l))
-      (field_then b (field c ++ (field d ++ (field e ++ rest)))
-      ∙ ap (λ (l : List ℕ). decimal b ++ (32 ∷ l))
-      (field_then c (field d ++ (field e ++ rest))
-      ∙ ap (λ (l : List ℕ). decimal c ++ (32 ∷ l))
-      (field_then d (field e ++ rest) ∙ ap (λ (l : List ℕ). decimal d ++ (32 ∷ l)) (field_then e rest))))
-      ∙ sym spaced_then
-
-  pub length_taken : length (taken_line fields cell)
-      ≡ (length (decimal a) + 1)
-      + ((length (decimal b) + 1)
-      + ((length (decimal c) + 1)
-      + ((length (decimal d) + 1) + ((length (decimal e) + 1) + (length (cell_text cell) + 1)))))
-  length_taken =
-      omega (
-        arith,
-        ap length spaced_then,
-        length-append (decimal a)
-            (32 ∷ decimal b ++ (32 ∷ decimal c ++ (32 ∷ decimal d ++ (32 ∷ decimal e ++ (32 ∷ rest))))),
-        length-append (decimal b) (32 ∷ decimal c ++ (32 ∷ decimal d ++ (32 ∷ decimal e ++ (32 ∷ rest)))),
-        length-append (decimal c) (32 ∷ decimal d ++ (32 ∷ decimal e ++ (32 ∷ rest))),
-        length-append (decimal d) (32 ∷ decimal e ++ (32 ∷ rest)),
-        length-append (decimal e) (32 ∷ rest),
-        length-append (cell_text cell) (10 ∷ []),
-      )
-
-pub length-line : (s : List ℕ) {ns : List ℕ} {m : ℕ} → Within ns m → length (line s ns) ≤ length s + m
-length-line s {ns} fits = omega (arith, length-line_with s ns (10 ∷ []), length-spaced fits)
+  pub length_taken : length (taken_line w)
+      ≡ length (field w.place)
+      + (length (field w.process)
+      + (length (field w.from) + (length (field w.to) + (length (field w.inside) + (length (cell_text w.cell) + 1)))))
+  length_taken = ap length (sym taken_fields) ∙ simp length-append

@@ -14,38 +14,47 @@ use Rattle.machine.specs.Words.{kind_of, process_of, argument_of, formed}
 use Rattle.machine.specs.Steps.{allowed, argument_fits, overflows, word_refusal, refusal_of, after_word, cell_of}
 use Rattle.machine.specs.Runs.{limit}
 use Rattle.machine.specs.Text.{input_text, image_text, posts_text, done_text, stop_text, line}
-use Rattle.machine.specs.Text.{word_fields, done_line, stop_line, run_lines}
+use Rattle.machine.specs.Text.{word_fields, word_line, done_line, stop_line, run_lines}
 use Rattle.machine.proofs.OneOfLaws.{by_test}
 use Rattle.machine.proofs.SoundRows.{sound-row, sound_few}
 use Rattle.machine.proofs.Accepted.{accepted_says}
 use Rattle.machine.proofs.CellBounds.{cell_index}
 use Rattle.machine.proofs.Soundness.{word_keeps_sound, word_keeps_length}
-use Rattle.text.specs.Running.{takes, line_of, line_room, last_room, head_room}
-use Rattle.text.proofs.LineLaws.{length-spaced, length-cell_text, length-taken_line, length-line}
+use Rattle.text.specs.Running.{takes}
+use Rattle.text.proofs.LineLaws.{length-spaced, length-cell_text, length-taken_line, length_within}
 use Rattle.text.proofs.LineLaws.Within.{last, then}
-use Rattle.text.proofs.RunLaws.{line_of_taken, line_of_stopped, run_lines_taken, run_lines_stopped, run_lines_done}
-use Rattle.text.proofs.RunLaws.{few_critical}
+use Rattle.text.proofs.RunLaws.{run_lines_taken, run_lines_stopped, run_lines_done, few_critical}
+
+-- the most bytes of a word's line, of the last line, and of all that stands before the lines of a run
+abbrev pub line_room : ℕ
+line_room = 22
+
+abbrev pub last_room : ℕ
+last_room = 13
+
+abbrev pub head_room : ℕ
+head_room = 22
 
 -- ---- the last line
 
 pub length-done_line : (i : ℕ) → i ≤ limit → length (done_line i) ≤ last_room
-length-done_line i few = let long = length-line done_text {ns = i ∷ []} (last 3 (omega arith)) in omega arith
+length-done_line i few = let long = length_within done_text {ns = i ∷ []} (last 3 (omega arith)) in omega arith
 
 pub length-stop_line : (i n : ℕ) → i < limit → n < 100 → length (stop_line i n) ≤ last_room
-length-stop_line i n few small = length-line stop_text (then 3 (omega arith) (last 1 (omega arith)))
+length-stop_line i n few small = length_within stop_text (then 3 (omega arith) (last 1 (omega arith)))
 
 -- ---- what stands before the lines of a run
 
 pub length_input : length (line input_text (bad_bytes ∷ [])) ≤ head_room
-length_input = let long = length-line input_text {ns = bad_bytes ∷ []} (last 1 (omega arith)) in omega arith
+length_input = let long = length_within input_text {ns = bad_bytes ∷ []} (last 1 (omega arith)) in omega arith
 
 pub length_image : (place why : ℕ) → place < 1000 → why < 100 → length (line image_text (place ∷ why ∷ [])) ≤ head_room
 length_image place why h k =
-    let long = length-line image_text {ns = place ∷ why ∷ []} (then 2 (omega arith) (last 1 (omega arith))) in
+    let long = length_within image_text {ns = place ∷ why ∷ []} (then 2 (omega arith) (last 1 (omega arith))) in
     omega arith
 
 pub length_posts : (n : ℕ) → n ≤ 16 → length (line posts_text (n ∷ [])) ≤ 9
-length_posts n few = length-line posts_text (last 1 (omega arith))
+length_posts n few = length_within posts_text (last 1 (omega arith))
 
 -- the first line and the last one
 pub length_many : (n : ℕ) → n ≤ 16 → length (line posts_text (n ∷ []) ++ stop_line 0 too_many_words) ≤ head_room
@@ -80,7 +89,7 @@ module _ (t : Table) (sound : table_refusal t ≡ 0) where
       cond_le (eqb (table_refusal t) accepted) _ (table_refusal t) 15 word (omega (arith, sound))
 
 module _ (t : Table) (i w : ℕ) (sound : table_refusal t ≡ 0) (few : i < limit) where
-  length_taken : takes t w ≡ true → length (line_of t i w) ≤ line_room
+  length_taken : takes t w ≡ true → length (word_line t i w) ≤ line_room
   length_taken e =
       let p = process_of w in
       let u = after_word t w in
@@ -98,34 +107,12 @@ module _ (t : Table) (i w : ℕ) (sound : table_refusal t ≡ 0) (few : i < limi
       (then 1 (omega arith)
       (then 1 (omega arith)
       (last 1 (omega arith)))))) in
-      omega (arith, ap length (line_of_taken t i w e), length-taken_line (word_fields t i w) (cell_of t w))
+      omega (arith, length-taken_line (word_fields t i w) (cell_of t w))
 
-  length_stopped : takes t w ≡ false → length (line_of t i w) ≤ last_room
-  length_stopped e =
-      let why = refusal_of t w in
-      let long = length-stop_line i why few (omega (arith, refusal_low t sound w)) in
-      omega (arith, ap length (line_of_stopped t i w e))
-
-  -- of either
-  pub length_line_of : length (line_of t i w) ≤ line_room
-  length_line_of = go (takes t w) refl where
-    go : (b : Bool) → takes t w ≡ b → length (line_of t i w) ≤ line_room
-    go true e = length_taken e
-    go false e = omega (arith, length_stopped e)
+  length_stopped : length (stop_line i (refusal_of t w)) ≤ last_room
+  length_stopped = length-stop_line i (refusal_of t w) few (omega (arith, refusal_low t sound w))
 
 -- ---- the lines of a run
-
--- the first of them is one of them
-pub line_within : (t : Table) (i w : ℕ) (ws : List ℕ) → length (line_of t i w) ≤ length (run_lines t i (w ∷ ws))
-line_within t i w ws = go (takes t w) refl where
-  go : (b : Bool) → takes t w ≡ b → length (line_of t i w) ≤ length (run_lines t i (w ∷ ws))
-  go true e =
-      omega (
-        arith,
-        ap length (run_lines_taken t i w ws e),
-        length-append (line_of t i w) (run_lines (after_word t w) (suc i) ws),
-      )
-  go false e = omega (arith, ap length (run_lines_stopped t i w ws e))
 
 -- a line for each word, and the last one
 pub length-run_lines : (t : Table) (i : ℕ) (ws : List ℕ) → table_refusal t ≡ 0 → i + length ws ≤ limit
@@ -147,7 +134,7 @@ length-run_lines t i (w ∷ ws) sound few =
         omega (
           arith,
           ap length (run_lines_taken t i w ws e),
-          length-append (line_of t i w) (run_lines u (suc i) ws),
-          length_line_of t i w sound first,
+          length-append (word_line t i w) (run_lines u (suc i) ws),
+          length_taken t i w sound first e,
         )
-    go rest false e = omega (arith, ap length (run_lines_stopped t i w ws e), length_stopped t i w sound first e)
+    go rest false e = omega (arith, ap length (run_lines_stopped t i w ws e), length_stopped t i w sound first)

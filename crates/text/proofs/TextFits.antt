@@ -14,13 +14,12 @@ use Rattle.machine.specs.Tables.{level_fits, table_refusal}
 use Rattle.machine.specs.Runs.{limit}
 use Rattle.machine.specs.Images.{Slot, STATE, says_passes, size_in, is_header, length_in, slots_in}
 use Rattle.machine.specs.Images.{location_in, level_in, in_range, off_diagonal, fits_slot}
-use Rattle.machine.specs.Images.{slot_refusal, first_refusal, image_refusal}
+use Rattle.machine.specs.Images.{Found, slot_refusal, first_refusal, image_refusal}
 use Rattle.machine.specs.Bytes.{words_in, bytes_fit}
 use Rattle.machine.specs.Inputs.{image_part, event_part, Input, input_of}
 use Rattle.machine.specs.Inputs.Input.{BadBytes, BadImage, TooMany, Ready}
 use Rattle.machine.specs.Text.{posts_line, run_lines, text_of, printed}
 use Rattle.machine.specs.Exports.{printed_in}
-use Rattle.machine.specs.declared.Found.{Found}
 use Rattle.machine.proofs.SoundRows.{sound_few}
 use Rattle.machine.proofs.InputLaws.{words_bad_image, bytes_bad, bytes_words}
 use Rattle.image_theorems.proofs.Slots.{length-slots}

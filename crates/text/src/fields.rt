@@ -1,43 +1,14 @@
-// Bytes, numbers and shared cells put into a lent buffer from place `at` on. Each function answers where what it
-// has put ends.
+// Numbers and shared cells.
 ghost use Rattle.std.specs.Prelude.{◌≡◌, cond, ◌∷◌, [], ◌++◌, ◌+◌, ◌<◌, ◌≤◌, length};
 ghost use Rattle.machine.specs.Text.{decimal, cell_text};
-ghost use Rattle.text.specs.Appending.{Appended, PairReady, ShortReady, LongReady, pair, gap};
+ghost use Rattle.text.specs.Fields.{pair, field};
 
+use crate::sinks::Sink;
 use machine::SharedCell;
 
-// One byte.
-pub(crate) fn put_byte(out: &mut [u8], at: usize, b: u8) -> usize
-    requires { at < length out.old }
-    ensures { Appended out.old at (b ∷ []) out.new result }
-{
-    out[at] = b;
-    at + 1
-}
-
-// The bytes of `s`.
-pub(crate) fn put_text(out: &mut [u8], at: usize, s: &[u8]) -> usize
-    requires { at + length s.now ≤ length out.old }
-    ensures { Appended out.old at s.now out.new result }
-{
-    let mut i = 0;
-    while i < s.len() {
-        out[at + i] = s[i];
-        i += 1;
-    }
-    at + i
-}
-
-// What stands before number i of a line: a space before each but the first.
-pub(crate) fn put_gap(out: &mut [u8], at: usize, i: usize) -> usize
-    requires { at + length (gap i) ≤ length out.old }
-    ensures { Appended out.old at (gap i) out.new result }
-{
-    if i == 0 {
-        return at;
-    }
-    put_byte(out, at, 32)
-}
+// The numbers below 100 as two digits each. Looked up, two digits take 5 instructions in place of 10.
+static PAIRS: [u8; 200] =
+    *b"00010203040506070809101112131415161718192021222324252627282930313233343536373839404142434445464748495051525354555657585960616263646566676869707172737475767778798081828384858687888990919293949596979899";
 
 // The digit of a number below 10.
 fn digit(n: u32) -> u8
@@ -48,77 +19,92 @@ fn digit(n: u32) -> u8
 }
 
 // A number below 100 as two digits, the first 0 below 10.
-fn put_pair(out: &mut [u8], at: usize, n: u32) -> usize
-    requires { PairReady out.old at n }
-    ensures { Appended out.old at (pair n) out.new result }
+#[inline(always)]
+fn put_pair<S: Sink>(out: S, n: u32) -> S
+    requires low { n < 100 }
+    requires room { 2 ≤ S.space out }
+    ensures { S.appended out (pair n) result }
 {
-    let second = put_byte(out, at, digit(n / 10));
-    put_byte(out, second, digit(n % 10))
+    let at = 2 * n as usize;
+    out.put_byte(PAIRS[at]).put_byte(PAIRS[at + 1])
 }
 
 // The decimal digits of a number below 100.
-fn put_short(out: &mut [u8], at: usize, n: u32) -> usize
-    requires { ShortReady out.old at n }
-    ensures { Appended out.old at (decimal n) out.new result }
+#[inline(always)]
+fn put_short<S: Sink>(out: S, n: u32) -> S
+    requires low { n < 100 }
+    requires room { length (decimal n) ≤ S.space out }
+    ensures { S.appended out (decimal n) result }
 {
     if n < 10 {
-        return put_byte(out, at, digit(n));
+        out.put_byte(digit(n))
+    } else {
+        put_pair(out, n)
     }
-    put_pair(out, at, n)
 }
 
-// The decimal digits of a number that has three or more: those of its hundredth, and the last two.
-fn put_long(out: &mut [u8], at: usize, n: u32) -> usize
-    requires { LongReady out.old at n }
-    ensures { Appended out.old at (decimal n) out.new result }
+// The decimal digits of a number that has three or four: those of its hundredth, and the last two.
+#[inline(always)]
+fn put_middle<S: Sink>(out: S, n: u32) -> S
+    requires middle { (100 ≤ n) × (n < 10000) }
+    requires room { length (decimal n) ≤ S.space out }
+    ensures { S.appended out (decimal n) result }
+{
+    put_pair(put_short(out, n / 100), n % 100)
+}
+
+// The decimal digits of a number that has three or more.
+fn put_long<S: Sink>(out: S, n: u32) -> S
+    requires long { 100 ≤ n }
+    requires room { length (decimal n) ≤ S.space out }
+    ensures { S.appended out (decimal n) result }
 {
     if n < 10000 {
-        let third = put_short(out, at, n / 100);
-        return put_pair(out, third, n % 100);
+        return put_middle(out, n);
     }
-    let end = put_long(out, at, n / 100);
-    put_pair(out, end, n % 100)
+    put_pair(put_long(out, n / 100), n % 100)
 }
 
-// The decimal digits of a number. Most have one or two, which the compiler puts in line.
-pub(crate) fn put_number(out: &mut [u8], at: usize, n: u32) -> usize
-    requires { at + length (decimal n) ≤ length out.old }
-    ensures { Appended out.old at (decimal n) out.new result }
+// The decimal digits of a number. Up to four of them the compiler puts in line.
+#[inline(always)]
+pub(crate) fn put_number<S: Sink>(out: S, n: u32) -> S
+    requires { length (decimal n) ≤ S.space out }
+    ensures { S.appended out (decimal n) result }
 {
     if n < 100 {
-        return put_short(out, at, n);
+        return put_short(out, n);
     }
-    put_long(out, at, n)
+    if n < 10000 {
+        return put_middle(out, n);
+    }
+    put_long(out, n)
 }
 
 // A number and the space after it.
-pub(crate) fn put_field(out: &mut [u8], at: usize, n: u32) -> usize
-    requires { at + (length (decimal n) + 1) ≤ length out.old }
-    ensures { Appended out.old at (decimal n ++ (32 ∷ [])) out.new result }
+pub(crate) fn put_field<S: Sink>(out: S, n: u32) -> S
+    requires { length (field n) ≤ S.space out }
+    ensures { S.appended out (field n) result }
 {
-    let end = put_number(out, at, n);
-    put_byte(out, end, 32)
+    put_number(out, n).put_byte(b' ')
 }
 
 // One of two letters.
 fn letter(first: bool, one: u8, other: u8) -> u8
     ensures { result ≡ cond first one other }
 {
-    if first {
-        return one;
-    }
-    other
+    if first { one } else { other }
 }
 
 // A shared cell: `-` for none; else `r` or `w`, `a` or `t`, and its index.
-pub(crate) fn put_cell(out: &mut [u8], at: usize, cell: SharedCell) -> usize
-    requires { at + length (cell_text cell) ≤ length out.old }
-    ensures { Appended out.old at (cell_text cell) out.new result }
+pub(crate) fn put_cell<S: Sink>(out: S, cell: SharedCell) -> S
+    requires { length (cell_text cell) ≤ S.space out }
+    ensures { S.appended out (cell_text cell) result }
 {
     if cell.access == 0 {
-        return put_byte(out, at, 45);
+        return out.put_byte(b'-');
     }
-    let second = put_byte(out, at, letter(cell.access == machine::READ, 114, 119));
-    let third = put_byte(out, second, letter(cell.variable == machine::ACT, 97, 116));
-    put_number(out, third, cell.index as u32)
+    let letters = out
+        .put_byte(letter(cell.access == machine::READ, b'r', b'w'))
+        .put_byte(letter(cell.variable == machine::ACT, b'a', b't'));
+    put_number(letters, cell.index as u32)
 }

@@ -1,110 +1,106 @@
-// A line is a list of fields, put into a lent buffer from place `at` on. Each function answers where
-// what it has put ends.
-ghost use Rattle.std.specs.Prelude.{◌∷◌, [], ◌+◌, ◌≤◌, length};
+// The lines of a text: a text and numbers, or the fields of a taken word.
+ghost use Rattle.std.specs.Prelude.{◌≡◌, ◌≤◌, ◌∷◌, [], length};
+ghost use Rattle.machine.specs.Refusals.{number};
 ghost use Rattle.machine.specs.Text.{spaced, line, input_text, image_text, posts_text, done_line, stop_line};
-ghost use Rattle.text.specs.Appending.{Appended, line_with, taken_line};
+ghost use Rattle.text.specs.Lines.{taken_line};
 
-use crate::fields::{put_byte, put_cell, put_field, put_gap, put_number, put_text};
-use machine::SharedCell;
+use crate::fields::{put_cell, put_field, put_number};
+use crate::sinks::Sink;
+use machine::{ImageError, Refusal, SharedCell};
 
-// Numbers with a space between two.
-fn put_numbers(out: &mut [u8], at: usize, numbers: &[u32]) -> usize
-    requires { at + length (spaced numbers.now) ≤ length out.old }
-    ensures { Appended out.old at (spaced numbers.now) out.new result }
-{
-    let mut end = at;
-    let mut i = 0;
-    while i < numbers.len() {
-        end = put_gap(out, end, i);
-        end = put_number(out, end, numbers[i]);
-        i += 1;
-    }
-    end
+// What the line of a taken word tells: the word's place and process, the location of that process
+// before and after, how many are at 30 after it, and the shared cell that it used.
+#[derive(Clone, Copy, Debug, PartialEq, Eq)]
+pub struct TakenWord {
+    pub place: u32,
+    pub process: u16,
+    pub from: u16,
+    pub to: u16,
+    pub inside: u16,
+    pub cell: SharedCell,
 }
 
-// A text, numbers with a space between two, and a text.
-pub(crate) fn put_line(
-    out: &mut [u8],
-    at: usize,
-    head: &[u8],
-    numbers: &[u32],
-    tail: &[u8],
-) -> usize
-    requires { at + length (line_with head.now numbers.now tail.now) ≤ length out.old }
-    ensures { Appended out.old at (line_with head.now numbers.now tail.now)
-        out.new result }
+// Numbers with a space between two.
+fn put_numbers<S: Sink>(out: S, numbers: &[u32]) -> S
+    requires { length (spaced numbers.now) ≤ S.space out }
+    ensures { S.appended out (spaced numbers.now) result }
 {
-    let first = put_text(out, at, head);
-    let last = put_numbers(out, first, numbers);
-    put_text(out, last, tail)
+    match numbers {
+        [] => out,
+        [n] => put_number(out, *n),
+        [n, rest @ ..] => put_numbers(put_field(out, *n), rest),
+    }
+}
+
+// A text, numbers with a space between two, a line feed.
+fn put_line<S: Sink>(out: S, head: &[u8], numbers: &[u32]) -> S
+    requires { length (line head.now numbers.now) ≤ S.space out }
+    ensures { S.appended out (line head.now numbers.now) result }
+{
+    put_numbers(out.put_bytes(head), numbers).put_byte(b'\n')
 }
 
 // The line of a taken word: its five numbers and its shared cell. Number by number: a loop over
 // them is not unrolled, and a printed word then takes 371 instructions in place of 256.
-pub(crate) fn put_taken(
-    out: &mut [u8],
-    at: usize,
-    place: u32,
-    process: u32,
-    from: u32,
-    to: u32,
-    inside: u32,
-    cell: SharedCell,
-) -> usize
-    requires { at + length (taken_line (place ∷ process ∷ from ∷ to ∷ inside ∷ []) cell) ≤ length out.old }
-    ensures { Appended out.old at (taken_line (place ∷ process ∷ from ∷ to ∷ inside ∷ []) cell)
-        out.new result }
+pub(crate) fn put_taken<S: Sink>(out: S, word: TakenWord) -> S
+    requires { length (taken_line word) ≤ S.space out }
+    ensures { S.appended out (taken_line word) result }
 {
-    let first = put_field(out, at, place);
-    let second = put_field(out, first, process);
-    let third = put_field(out, second, from);
-    let fourth = put_field(out, third, to);
-    let fifth = put_field(out, fourth, inside);
-    let last = put_cell(out, fifth, cell);
-    put_byte(out, last, 10)
+    let out = put_field(out, word.place);
+    let out = put_field(out, word.process as u32);
+    let out = put_field(out, word.from as u32);
+    let out = put_field(out, word.to as u32);
+    let out = put_field(out, word.inside as u32);
+    put_cell(out, word.cell).put_byte(b'\n')
+}
+
+// A refusal by its number.
+fn number_of(refusal: Refusal) -> u32
+    ensures { result ≡ number refusal }
+{
+    u16::from(refusal) as u32
 }
 
 // The line of an input whose bytes are refused.
-pub(crate) fn put_input(out: &mut [u8], why: u16) -> usize
-    requires { length (line input_text (why ∷ [])) ≤ length out.old }
-    ensures { Appended out.old 0 (line input_text (why ∷ [])) out.new result }
+pub(crate) fn put_input<S: Sink>(out: S, why: Refusal) -> S
+    requires { length (line input_text (number why ∷ [])) ≤ S.space out }
+    ensures { S.appended out (line input_text (number why ∷ [])) result }
 {
-    let fields = [why as u32];
-    put_line(out, 0, b"input ", &fields, b"\n")
+    put_line(out, b"input ", &[number_of(why)])
 }
 
-// The line of an image whose word at `place` is refused.
-pub(crate) fn put_image(out: &mut [u8], place: u16, why: u16) -> usize
-    requires { length (line image_text (place ∷ why ∷ [])) ≤ length out.old }
-    ensures { Appended out.old 0 (line image_text (place ∷ why ∷ [])) out.new result }
+// The line of a refused image.
+pub(crate) fn put_image<S: Sink>(out: S, error: ImageError) -> S
+    requires { length (line image_text (error.place ∷ number error.refusal ∷ [])) ≤ S.space out }
+    ensures { S.appended out (line image_text (error.place ∷ number error.refusal ∷ [])) result }
 {
-    let fields = [place as u32, why as u32];
-    put_line(out, 0, b"image ", &fields, b"\n")
+    put_line(
+        out,
+        b"image ",
+        &[error.place as u32, number_of(error.refusal)],
+    )
 }
 
 // The first line, for a table of `size` processes.
-pub(crate) fn put_posts(out: &mut [u8], size: u32) -> usize
-    requires { length (line posts_text (size ∷ [])) ≤ length out.old }
-    ensures { Appended out.old 0 (line posts_text (size ∷ [])) out.new result }
+pub(crate) fn put_posts<S: Sink>(out: S, size: u32) -> S
+    requires { length (line posts_text (size ∷ [])) ≤ S.space out }
+    ensures { S.appended out (line posts_text (size ∷ [])) result }
 {
-    let fields = [size];
-    put_line(out, 0, b"posts ", &fields, b"\n")
+    put_line(out, b"posts ", &[size])
 }
 
 // The last line of a run in which every word was taken.
-pub(crate) fn put_done(out: &mut [u8], at: usize, taken: u32) -> usize
-    requires { at + length (done_line taken) ≤ length out.old }
-    ensures { Appended out.old at (done_line taken) out.new result }
+pub(crate) fn put_done<S: Sink>(out: S, taken: u32) -> S
+    requires { length (done_line taken) ≤ S.space out }
+    ensures { S.appended out (done_line taken) result }
 {
-    let fields = [taken];
-    put_line(out, at, b"done ", &fields, b"\n")
+    put_line(out, b"done ", &[taken])
 }
 
 // The last line of a run that a refusal stopped.
-pub(crate) fn put_stop(out: &mut [u8], at: usize, taken: u32, why: u16) -> usize
-    requires { at + length (stop_line taken why) ≤ length out.old }
-    ensures { Appended out.old at (stop_line taken why) out.new result }
+pub(crate) fn put_stop<S: Sink>(out: S, taken: u32, why: Refusal) -> S
+    requires { length (stop_line taken (number why)) ≤ S.space out }
+    ensures { S.appended out (stop_line taken (number why)) result }
 {
-    let fields = [taken, why as u32];
-    put_line(out, at, b"stop ", &fields, b"\n")
+    put_line(out, b"stop ", &[taken, number_of(why)])
 }

@@ -1,50 +1,43 @@
-// The text for what an input holds, put at the start of a lent buffer. Each function answers where
-// what it has put ends.
-ghost use Rattle.machine.specs.Bytes.{words_in};
-ghost use Rattle.text.specs.Appending.{Appended};
-ghost use Rattle.text.specs.Printing.{HeadReady, TextReady, head_of, opened_text};
+// The text for what an input holds.
+ghost use Rattle.std.specs.Prelude.{◌≤◌, length};
+ghost use Rattle.text.specs.Printing.{Answers, Few, opened_text, refused_text};
 
 use crate::lines::{put_image, put_input, put_posts, put_stop};
 use crate::running::put_run;
-use inputs::Opened;
+use crate::sinks::Sink;
+use inputs::{Input, InputError};
+use machine::{Refusal, Row};
 
-// What stands before the lines of a run; the whole text where there is no run.
-pub(crate) fn put_head(out: &mut [u8], opened: Opened) -> usize
-    requires { HeadReady opened out.old }
-    ensures { Appended out.old 0 (head_of opened) out.new result }
+// The text of an input that is not run: why, and before it the first line where there is a table.
+fn put_refused<S: Sink>(out: S, error: InputError) -> S
+    requires few { Few error }
+    requires room { length (refused_text error) ≤ S.space out }
+    ensures { S.appended out (refused_text error) result }
 {
-    match opened {
-        Opened::BadBytes => put_input(out, machine::BAD_BYTES),
-        Opened::BadImage { place, number } => put_image(out, place, number),
-        Opened::TooMany { size } => {
-            let at = put_posts(out, size as u32);
-            put_stop(out, at, 0, machine::TOO_MANY_WORDS)
+    match error {
+        InputError::BadBytes => put_input(out, Refusal::BadBytes),
+        InputError::BadImage(error) => put_image(out, error),
+        InputError::TooMany { size } => {
+            put_stop(put_posts(out, size as u32), 0, Refusal::TooManyWords)
         }
-        Opened::Ready {
-            size,
-            first: _,
-            last: _,
-        } => put_posts(out, size as u32),
     }
 }
 
-// The whole text. The run changes the cells.
-pub(crate) fn put_opened(
-    out: &mut [u8],
-    opened: Opened,
-    input: &[u8],
-    cells: &mut [[u16; 24]],
-) -> usize
-    requires { TextReady opened (words_in input.now) cells.old out.old }
-    ensures { Appended out.old 0
-        (opened_text opened (words_in input.now) cells.old)
-        out.new result }
+// The text of an opened input. The run changes the rows.
+pub(crate) fn put_text<S: Sink>(
+    out: S,
+    opened: Result<Input<'_>, InputError>,
+    rows: &mut [Row],
+) -> S
+    requires answers { Answers opened rows.old }
+    requires room { length (opened_text opened rows.old) ≤ S.space out }
+    ensures { S.appended out (opened_text opened.entry rows.old) result }
 {
-    let at = put_head(out, opened);
     match opened {
-        Opened::Ready { size, first, last } => {
-            put_run(out, at, &mut cells[..size], &input[4 * first..4 * last])
+        Ok(found) => {
+            let first = put_posts(out, found.size as u32);
+            put_run(first, &mut rows[..found.size], found.events)
         }
-        _ => at,
+        Err(error) => put_refused(out, error),
     }
 }

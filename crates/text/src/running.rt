@@ -1,47 +1,29 @@
-// The lines of a run, put into a lent buffer from place `at` on.
+// The lines of a run.
 ghost use Rattle.std.specs.Prelude.{◌≡◌, ◌≤◌, length};
-ghost use Rattle.machine.specs.Tables.{row};
-ghost use Rattle.machine.specs.Census.{critical};
-ghost use Rattle.machine.specs.Runs.{carried};
+ghost use Rattle.machine.specs.Tables.{row, table_refusal};
+ghost use Rattle.machine.specs.Runs.{carried, limit};
 ghost use Rattle.machine.specs.Bytes.{words_in};
 ghost use Rattle.machine.specs.Text.{run_lines};
-ghost use Rattle.cells.specs.View.{rows_of};
-ghost use Rattle.text.specs.Appending.{Appended};
-ghost use Rattle.text.specs.Running.{Carries, WordReady, WordPrinted, RunReady};
+ghost use Rattle.text.specs.Running.{Carries, Counted, Taken};
 
-use crate::lines::{put_done, put_stop, put_taken};
-use cells::access::row_at;
-use machine::{Event, Stepped};
-use steps::stepping::advance;
-
-// Where the line of a word ends, and whether the run goes on after it; then also how many processes
-// are at 30.
-#[derive(Clone, Copy)]
-pub enum Line {
-    Taken { end: usize, inside: u32 },
-    Stopped(usize),
-}
+use crate::lines::{TakenWord, put_done, put_stop, put_taken};
+use crate::sinks::Sink;
+use machine::{Event, Memory, Refusal, Row};
+use octets::{Octets, Words};
+use steps::system::System;
 
 // The location of process p; 0 where there is no such process.
-fn location_at(cells: &[[u16; 24]], p: u16) -> u32
-    ensures { result ≡ (row (rows_of cells.now) p).location }
+fn location_at(rows: &[Row], p: u16) -> u16
+    ensures { result ≡ (row rows.now p).location }
 {
-    if p as usize >= cells.len() {
-        return 0;
+    match rows.get(p as usize) {
+        Some(r) => r.location,
+        None => 0,
     }
-    row_at(cells, p as usize).location as u32
-}
-
-// How many processes are at 30, counted: where a run starts.
-pub(crate) fn count_critical(cells: &[[u16; 24]]) -> u32
-    requires { length cells.now ≤ 16 }
-    ensures { result ≡ critical (rows_of cells.now) }
-{
-    census::critical(cells) as u32
 }
 
 // How many processes are at 30 after an accepted word, from how many were before it.
-fn carried(event: Event, inside: u32) -> u32
+fn carried(event: Event, inside: u16) -> u16
     requires { Carries event inside }
     ensures { result ≡ carried event inside }
 {
@@ -52,64 +34,46 @@ fn carried(event: Event, inside: u32) -> u32
     }
 }
 
-// The step of a word, which is the word at `place`, and its line, where `inside` processes are at
-// 30; or the last line where the word is refused.
-pub(crate) fn put_word(
-    out: &mut [u8],
-    at: usize,
-    cells: &mut [[u16; 24]],
-    inside: u32,
-    place: u32,
-    word: u32,
-) -> Line
-    requires { WordReady cells.old inside out.old at place word }
-    ensures { WordPrinted cells.old inside out.old at place word cells.new out.new result }
+// The step of a word, which is the word at `place`, where `inside` processes are at 30: what the line
+// of the word tells; or the refusal.
+#[inline(always)]
+fn take(system: &mut System, inside: u16, place: u32, word: u32) -> Result<TakenWord, Refusal>
+    requires { Counted system.old inside }
+    ensures { Taken system.old place word system.new result }
 {
-    let p = words::process_of(word);
-    let before = location_at(cells, p);
-    match advance(cells, word) {
-        Stepped::Moved(told) => {
-            let after = location_at(cells, p);
-            let event = told.event;
-            let now_inside = carried(event, inside);
-            let process = p as u32;
-            let cell = told.cell;
-            let end = put_taken(out, at, place, process, before, after, now_inside, cell);
-            Line::Taken {
-                end: end,
-                inside: now_inside,
-            }
-        }
-        Stepped::Refused(why) => Line::Stopped(put_stop(out, at, place, why)),
-    }
+    let process = words::process_of(word);
+    let from = location_at(system.rows(), process);
+    let told = system.advance(word)?;
+    Ok(TakenWord {
+        place,
+        process,
+        from,
+        to: location_at(system.rows(), process),
+        inside: carried(told.event, inside),
+        cell: told.cell,
+    })
 }
 
 // A line for each word that `events` hold up to the first that is refused, and the last line.
-pub(crate) fn put_run(out: &mut [u8], at: usize, cells: &mut [[u16; 24]], events: &[u8]) -> usize
-    requires { RunReady cells.old out.old at (words_in events.now) }
-    ensures { Appended out.old at
-        (run_lines (rows_of cells.old) 0 (words_in events.now))
-        out.new result }
+pub(crate) fn put_run<S: Sink>(out: S, rows: &mut [Row], events: &[u8]) -> S
+    requires sound { table_refusal rows.old ≡ 0 }
+    requires few { length (words_in events.now) ≤ limit }
+    requires room { length (run_lines rows.old 0 (words_in events.now)) ≤ S.space out }
+    ensures { S.appended out (run_lines rows.old 0 (words_in events.now)) result }
 {
-    let n = events.len() / 4;
-    let mut end = at;
-    let mut inside = count_critical(cells);
-    let mut i = 0;
-    while i < n {
-        let word = octets::word_at(events, i);
-        match put_word(out, end, cells, inside, i as u32, word) {
-            Line::Taken {
-                end: next,
-                inside: next_inside,
-            } => {
-                end = next;
-                inside = next_inside;
+    let words = Octets { bytes: events };
+    let n = words.count() as u32;
+    let mut inside = census::critical(rows);
+    let mut system = System::new(rows, Memory::WEAKEST);
+    let mut out = out;
+    for i in 0..n {
+        match take(&mut system, inside, i, words.word(i as usize)) {
+            Ok(taken) => {
+                inside = taken.inside;
+                out = put_taken(out, taken);
             }
-            Line::Stopped(last) => {
-                return last;
-            }
+            Err(refusal) => return put_stop(out, i, refusal),
         }
-        i += 1;
     }
-    put_done(out, end, i as u32)
+    put_done(out, n)
 }

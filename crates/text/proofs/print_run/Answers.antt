@@ -1,47 +1,34 @@
--- `text::print_run` meets its contract: the text for what the input holds, where it fits. Assumes nothing.
-use native.Mathlib.Omega.{arith}
-use mathlib.Core.Path.{ap}
-use Prim.Native.Nat.{◌≤◌}
-use lib.ListN.{length}
-use Rattle.machine.specs.Bytes.{words_in}
-use Rattle.text.specs.Printing.{opened_text}
-use Rattle.text.proofs.TextFits.{text_fits}
-use Rattle.text.proofs.PrintLaws.{text_is, short_print, whole_print}
-use Rattle.text.proofs.print_run.Goals as goal
+-- `text::print_run` meets its contract. Assumes nothing.
+use Rattle.std.proofs.Common.{arith, rules, ap, ◌∙◌, length, ℕ, List}
+use Rattle.text.proofs.PrintLaws.{opened_fits, short_print, whole_print}
 use Rattle.text.proofs.print_run.Goals.{then-out-lt-TEXT_BYTES+else-out-length, else-out-lt-TEXT_BYTES}
+use Rattle.text.proofs.print_run.Goals as goal
 
--- ---- a buffer that may be too short
+pub put_text-requires-clause-room : goal.put_text-requires-clause-room
+put_text-requires-clause-room c =
+    let o = c.open_input-opened in omega (arith, opened_fits c.args.input.now o.new.rows o.result o.ensures)
 
 pub returns-then-out-length : goal.returns-then-out-length
 returns-then-out-length c =
-    let input = c.args.input.now in
     let o = c.open_input-opened in
-    let is = text_is (words_in input) o.new.cells o.result (record { input = input; opens = o.ensures }) in
-    short_print input c.args.out.now is c.text_length-length.ensures c.if-out-length.true
+    short_print c.args.input.now o.new.rows o.result o.ensures c.args.out.now
+    (c.bytes-length.ensures ∙ c.put_text.ensures.count_is ∙ omega arith) c.if-out-length.true
 
--- ---- a buffer with room: as was measured, or as every text has
-
-pub put_opened-requires : goal.put_opened-requires
-put_opened-requires c =
-    let input = c.args.input.now in
+pub print_on-requires-clause-room : goal.print_on-requires-clause-room
+print_on-requires-clause-room c =
     let o = c.open_input-opened in
-    let is = text_is (words_in input) o.new.cells o.result (record { input = input; opens = o.ensures }) in
-    record {
-      answers = record { input = input; opens = o.ensures };
-      room = elim c.if-out-lt-TEXT_BYTES.branch [
-        | then-out-lt-TEXT_BYTES+else-out-length w ↦ omega arith
-        | else-out-lt-TEXT_BYTES w ↦ omega (arith, ap length is, text_fits input)
-      ];
-    }
+    let fits = opened_fits c.args.input.now o.new.rows o.result o.ensures in
+    let page = ap (λ (l : List ℕ). length l) c.new-page.ensures.bytes in
+    elim c.if-out-lt-TEXT_BYTES.branch [
+      | then-out-lt-TEXT_BYTES+else-out-length w ↦
+          omega (arith, page, w.bytes-length.ensures, w.put_text.ensures.count_is, w.if-out-length.false, c.new-page.ensures.filled)
+      | else-out-lt-TEXT_BYTES w ↦ omega (arith, page, fits, w.if-out-lt-TEXT_BYTES.false, c.new-page.ensures.filled)
+    ]
 
 pub returns : goal.returns
 returns c =
-    let input = c.args.input.now in
     let o = c.open_input-opened in
-    let is = text_is (words_in input) o.new.cells o.result (record { input = input; opens = o.ensures }) in
-    let room : length (opened_text o.result (words_in input) o.new.cells) ≤ length c.args.out.now =
-    elim c.if-out-lt-TEXT_BYTES.branch [
-      | then-out-lt-TEXT_BYTES+else-out-length w ↦ omega arith
-      | else-out-lt-TEXT_BYTES w ↦ omega (arith, ap length is, text_fits input)
-    ] in
-    whole_print input c.args.out.now is room c.put_opened.ensures
+    let done =
+    whole_print c.args.input.now o.new.rows o.result o.ensures c.args.out.now
+    c.new-page.ensures.bytes c.new-page.ensures.filled c.print_on.ensures.written in
+    (c.filled.ensures ∙ done.0, (search rules) ∙ done.1)

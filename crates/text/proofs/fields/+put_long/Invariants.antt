@@ -2,4 +2,4 @@
 use Rattle.text.proofs.fields.+put_long.Given as goal
 
 abbrev pub decreases-put_long : goal.decreases-put_long
-decreases-put_long l = l.n
+decreases-put_long g l = l.n

@@ -1,16 +1,10 @@
 -- `text::fields::put_pair` meets its contract. Assumes nothing.
-use native.Mathlib.Omega.{arith}
-use mathlib.Core.Path.{ap₂}
-use mathlib.Core.List.{[], ◌∷◌}
-use Prim.Native.Nat.{ℕ}
-use Rattle.text.proofs.AppendingLaws.{appended_as, appended_then}
+use Rattle.std.proofs.Common.{ap₂, ◌∷◌, [], ℕ}
+use Rattle.text.proofs.Puts.{put_both}
+use Rattle.text.proofs.DigitLaws.{pair_at}
 use Rattle.text.proofs.fields.put_pair.Goals as goal
 
 pub returns : goal.returns
-returns c =
-    let second = c in
-    let first = second in
-    let d = first in
-    let s = d in
-    appended_as (ap₂ (λ (a b : ℕ). a ∷ b ∷ []) d.digit.ensures second.digit-2.ensures)
-    (appended_then (omega (arith, s.requires.room)) first.put_byte-second.ensures second.put_byte.ensures)
+returns g c =
+    let two = pair_at c.args.n c.requires.low in
+    put_both g.met.S.Sink.laws (ap₂ (λ (a b : ℕ). a ∷ b ∷ []) two.0 two.1) c.put_byte.ensures c.put_byte-2.ensures

@@ -1,37 +1,25 @@
 -- `text::fields::put_short` meets its contract. Assumes nothing.
-use native.Mathlib.Omega.{arith}
-use mathlib.Core.Path.{sym, ap, ◌∙◌}
-use mathlib.Core.List.{[], ◌∷◌}
-use Prim.Native.Nat.{ℕ}
-use lib.ListN.{length}
-use Rattle.text.proofs.AppendingLaws.{appended_as}
+use Rattle.std.proofs.Common.{arith, sym, ap, ◌∙◌, ◌∷◌, [], ℕ, length}
+use Rattle.text.proofs.Puts.{put_as}
 use Rattle.text.proofs.DigitLaws.{decimal_one, decimal-pair}
 use Rattle.text.proofs.fields.put_short.Goals as goal
 
 -- ---- one digit
 
 pub put_byte-requires : goal.put_byte-requires
-put_byte-requires c =
-    let s = c in
-    omega (arith, ap length (decimal_one s.args.n c.if-n-lt10.true), s.requires.room)
+put_byte-requires g c = omega (arith, ap length (decimal_one c.args.n c.if-n-lt10.true))
 
 pub returns-then-n-lt10 : goal.returns-then-n-lt10
-returns-then-n-lt10 c =
-    let d = c in
-    let one = sym (decimal_one d.args.n d.if-n-lt10.true) in
-    appended_as (ap (λ (b : ℕ). b ∷ []) d.digit.ensures ∙ one) c.put_byte.ensures
+returns-then-n-lt10 g c =
+    put_as g.met.S.Sink.laws
+    (ap (λ (b : ℕ). b ∷ []) c.digit.ensures ∙ sym (decimal_one c.args.n c.if-n-lt10.true)) c.put_byte.ensures
 
 -- ---- two
 
-pub put_pair-requires : goal.put_pair-requires
-put_pair-requires c =
-    let s = c in
-    let two = decimal-pair s.args.n (omega (arith, c.if-n-lt10.false)) s.requires.low in
-    record { low = s.requires.low; room = omega (arith, ap length two, s.requires.room) }
+pub put_pair-requires-clause-room : goal.put_pair-requires-clause-room
+put_pair-requires-clause-room g c =
+    omega (arith, ap length (decimal-pair c.args.n c.if-n-lt10.false c.requires.low))
 
-pub returns : goal.returns
-returns c =
-    let p = c in
-    let s = p in
-    let two = decimal-pair s.args.n (omega (arith, p.if-n-lt10.false)) s.requires.low in
-    appended_as (sym two) p.put_pair.ensures
+pub returns-else-n-lt10 : goal.returns-else-n-lt10
+returns-else-n-lt10 g c =
+    put_as g.met.S.Sink.laws (sym (decimal-pair c.args.n c.if-n-lt10.false c.requires.low)) c.put_pair.ensures

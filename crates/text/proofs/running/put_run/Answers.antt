@@ -1,118 +1,76 @@
 -- `text::running::put_run` meets its contract. Assumes nothing.
-use native.Mathlib.Omega.{arith}
-use mathlib.Core.Path.{◌≡◌, refl, sym, ap, subst, ◌∙◌}
-use mathlib.Core.List.{List, []}
-use Prim.Native.Nat.{ℕ, ◌+◌, ◌≤◌, ◌<◌}
-use lib.ListN.{length, get_or}
-use Rattle.machine.specs.Tables.{Table}
-use Rattle.machine.specs.Bytes.{words_in}
-use Rattle.machine.specs.Text.{run_lines}
-use Rattle.cells.specs.View.{rows_of}
-use Rattle.octets.proofs.ByteLaws.{length_words_in}
-use Rattle.text.specs.Appending.{Appended}
-use Rattle.text.specs.declared.running.Line.{Line}
-use Rattle.text.specs.Running.{line_goes_on, end_of, inside_of, WordReady, WordPrinted}
-use Rattle.text.proofs.RunLaws.{few_cells}
-use Rattle.text.proofs.AppendingLaws.{appended_none, appended_as, appended_to, appended_then}
-use Rattle.text.proofs.ProgressLaws.{
-  Printed,
-  progress_none,
-  progress_critical,
-  progress_taken,
-  progress_stopped,
-  progress_done,
-  progress_room,
-  progress_last,
-}
+use Rattle.std.proofs.Common.{arith, ◌≡◌, sym, ap, ◌∙◌, ℕ, length}
+use Rattle.machine.specs.Text.{done_line, stop_line}
+use Rattle.machine.specs.Settings.{settings_of}
+use Rattle.machine.specs.Census.{critical}
+use Rattle.machine.proofs.SoundRows.{sound_few}
+use Rattle.text.specs.Lines.{taken_line}
+use Rattle.text.specs.declared.lines.TakenWord.{TakenWord}
+use Rattle.text.proofs.Puts.{put_as}
+use Rattle.text.proofs.RunLaws.{was_taken, was_refused}
+use Rattle.text.proofs.ProgressLaws.{printed_taken, printed_stopped, printed_done, word_room, stop_room, done_room}
 use Rattle.text.proofs.running.put_run.Goals as goal
 
--- ---- before the loop
+pub critical-inside-requires : goal.critical-inside-requires
+critical-inside-requires g c = sound_few c.args.rows.now c.requires.sound
 
-pub count_critical-inside-requires : goal.count_critical-inside-requires
-count_critical-inside-requires c = few_cells c.args.cells.now c.requires.sound
+-- ---- a taken word
 
-pub loop-i-init : goal.loop-i-init
-loop-i-init c =
-    let a = c.args in
-    let ws = words_in a.events.now in
-    let none = progress_none (rows_of a.cells.now) ws c.requires.sound c.count_critical-inside.ensures in
-    (record { text = []; progress = none; appended = appended_none a.out.now a.at }, refl, refl)
-
--- ---- the line of a word
-
-pub overflow_cast-i : goal.overflow_cast-i
-overflow_cast-i c = omega (arith, c.loop-i.invariant.0.progress.within, c.requires.few)
-
-pub put_word-requires : goal.put_word-requires
-put_word-requires c =
-    let o = c.loop-i in
-    let p = o.invariant.0 in
-    let next = progress_room p.progress (omega (arith, length_words_in c.args.events.now)) in
-    subst (λ (w : ℕ). WordReady o.cells o.inside o.out o.end o.i w)
-    (sym c.word_at-word.ensures)
-    (record {
-      sound = p.progress.sound;
-      inside_is = progress_critical p.progress;
-      room = omega (arith, next, p.appended.end_is, o.invariant.1, c.requires.room);
-    })
-
--- ---- after it: v is word i, at the table of x, and r the answer to its line
-
-module _ {at end n i v : ℕ} {t : Table} {x y : List (List ℕ)} {ws d e f : List ℕ} {r : Line} (inside : at ≤ length d)
-    (p : Printed d at t ws e (rows_of x) end n i) (more : i < length ws) (word_is : v ≡ get_or ws i 0)
-    (put : WordPrinted x n e end i v y f r) where
-  printed : WordPrinted x n e end i (get_or ws i 0) y f r
-  printed = subst (λ (w : ℕ). WordPrinted x n e end i w y f r) word_is put
-
-  -- the word was taken
-  goes_on : {next m : ℕ} → r ≡ Line.Taken next m → Printed d at t ws f (rows_of y) next m (i + 1)
-  goes_on is =
-      let taken = sym printed.taken_is ∙ ap line_goes_on is in
-      let kept = sym (ap inside_of is) ∙ printed.carries taken in
-      record {
-        text = _;
-        progress = progress_taken p.progress more taken printed.becomes.rows_are kept;
-        appended = appended_then inside p.appended (appended_to (ap end_of is) printed.appended);
-      }
-
-  -- or refused
-  stops : {last : ℕ} → r ≡ Line.Stopped last → Appended d at (run_lines t 0 ws) f last
-  stops is =
-      appended_as (progress_stopped p.progress more (sym printed.taken_is ∙ ap line_goes_on is))
-      (appended_then inside p.appended (appended_to (ap end_of is) printed.appended))
-
-pub returns-in-Stopped : goal.returns-in-Stopped
-returns-in-Stopped c =
-    let ws = words_in c.args.events.now in
-    let more : c.loop-i.i < length ws = omega (arith, length_words_in c.args.events.now) in
-    let inside : c.args.at ≤ length c.args.out.now = omega (arith, c.requires.room) in
-    stops inside c.loop-i.invariant.0 more c.word_at-word.ensures c.put_word.ensures c.in-Stopped.is
+pub put_taken-out-requires : goal.put_taken-out-requires
+put_taken-out-requires g c =
+    let l = c.loop-i in
+    let took = was_taken l.system.rows.now l.i c.word.result _ c.in-Ok.ensures.answer_is in
+    let room =
+    word_room g.met.S.Sink.laws l.invariant.0 c.word.ensures (omega arith) took.0 c.requires.room in
+    omega (arith, room, ap (λ (x : TakenWord). length (taken_line x)) took.1)
 
 pub loop-i-preserved : goal.loop-i-preserved
-loop-i-preserved c =
-    let o = c.loop-i in
-    let ws = words_in c.args.events.now in
-    let more : o.i < length ws = omega (arith, length_words_in c.args.events.now) in
-    let inside : c.args.at ≤ length c.args.out.now = omega (arith, c.requires.room) in (
-      goes_on inside o.invariant.0 more c.word_at-word.ensures c.put_word.ensures c.in-Taken.is,
-      c.put_word.auto.out ∙ o.invariant.1,
-      c.put_word.auto.cells ∙ o.invariant.2,
+loop-i-preserved g c =
+    let l = c.loop-i in
+    let laws = g.met.S.Sink.laws in
+    let took = was_taken l.system.rows.now l.i c.word.result _ c.in-Ok.ensures.answer_is in
+    let after = c.in-Ok.ensures.becomes in (
+      printed_taken laws l.invariant.0 c.word.ensures (omega arith) took.0 after
+          (put_as laws (ap (λ (x : TakenWord). taken_line x) took.1) c.put_taken-out.ensures),
+      record {
+        weak = ap settings_of c.in-Ok.ensures.same_memory ∙ l.invariant.1.weak;
+        inside_is = ap (λ (x : TakenWord). x.inside) took.1 ∙ ap critical (sym after);
+      },
     )
 
--- ---- after the last word
+-- ---- a refused one
 
-pub overflow_cast-i-2 : goal.overflow_cast-i-2
-overflow_cast-i-2 c = omega (arith, c.loop-i.invariant.0.progress.within, c.requires.few)
+pub put_stop-requires : goal.put_stop-requires
+put_stop-requires g c =
+    let l = c.loop-i in
+    let no = was_refused l.system.rows.now l.i c.word.result _ c.in-Err.ensures.answer_is in
+    let room =
+    stop_room g.met.S.Sink.laws l.invariant.0 c.word.ensures (omega arith) no.0 c.requires.room in
+    omega (arith, room, ap (λ (n : ℕ). length (stop_line l.i n)) no.1)
+
+pub returns-in-Err : goal.returns-in-Err
+returns-in-Err g c =
+    let l = c.loop-i in
+    let laws = g.met.S.Sink.laws in
+    let no = was_refused l.system.rows.now l.i c.word.result _ c.in-Err.ensures.answer_is in
+    printed_stopped laws l.invariant.0 c.word.ensures (omega arith) no.0
+    (put_as laws (ap (stop_line l.i) no.1) c.put_stop.ensures)
+
+-- ---- no more
 
 pub put_done-requires : goal.put_done-requires
-put_done-requires c =
-    let p = c.loop-i.invariant.0 in
-    let last = progress_last p.progress (omega (arith, p.progress.within, length_words_in c.args.events.now)) in
-    omega (arith, p.appended.end_is, c.loop-i.invariant.1, c.requires.room)
+put_done-requires g c =
+    let l = c.loop-i in
+    let same : c.count-n.result ≡ l.i = omega arith in
+    omega (
+      arith,
+      done_room g.met.S.Sink.laws l.invariant.0 (omega arith) c.requires.room,
+      ap (λ (n : ℕ). length (done_line n)) same,
+    )
 
 pub returns : goal.returns
-returns c =
-    let p = c.loop-i.invariant.0 in
-    appended_as
-    (progress_done p.progress (omega (arith, p.progress.within, length_words_in c.args.events.now)))
-    (appended_then (omega (arith, c.requires.room)) p.appended c.put_done.ensures)
+returns g c =
+    let l = c.loop-i in
+    let laws = g.met.S.Sink.laws in
+    let same : c.count-n.result ≡ l.i = omega arith in
+    printed_done laws l.invariant.0 (omega arith) (put_as laws (ap done_line same) c.put_done.ensures)
