@@ -69,8 +69,7 @@ pub extern "C" fn zaguypo_run_rows(
     act: u32,
     turn: u32,
 ) -> Ran
-    ensures { RunsTo (record { act = act; turn = turn }) words.now result tally.new
-        rows.old rows.new }
+    ensures { RunsTo (record { act = act; turn = turn }) words.now result tally.new rows.old rows.new }
 {
     runs::zaguypo_run_rows(rows, words, tally, act, turn)
 }
