@@ -5,7 +5,7 @@
 --                          and if not, whether p is at 30.
 --   GoesRound x y a   <=>  the words of a round, up to the first that is refused, made y of x, and a tells whether one
 --                          was, and if not, whether somebody is at 30.
---   Rounds x o y a    <=>  the table x have become y, and a is the answer, by rounds with outcome o.
+--   Rounds x o y a    <=>  the table x has become y, and a is the answer, by rounds with outcome o.
 --   RoundsTo a t u    <=>  rounds make the table u of t, with the answer a: what the function for C ensures.
 --
 -- Assumes nothing.

@@ -10,13 +10,13 @@ ghost use Rattle.rounds.specs.Promises.{Moving, MovesOn, GoesRound, Rounds, Roun
 
 use census::{count_at, critical};
 use machine::{Memory, Refusal, RoundsAnswer, Row};
-use steps::going::go;
+use steps::going::go_under;
 use steps::moving::look;
 
 // Process p is given its word of a round: at 22 it looks at the lowest member of lis, at 10 nothing
 // happens, and otherwise it goes on. Answers whether it is at 30 then. The word is allowed, so that
 // nothing has to be asked; GO at 20 alone may be refused, by a count that is full. lis is asked for
-// first: where it has a member the process is nearly always at 22, and where it has none `go` need not
+// first: where it has a member the process is nearly always at 22, and where it has none `go_under` need not
 // ask for it again. 10 is asked for on both ways, or the compiler makes one test of lis and 22.
 fn move_on(rows: &mut [Row], p: u16) -> Result<bool, Refusal>
     requires { Moving rows.old p }
@@ -36,7 +36,7 @@ fn move_on(rows: &mut [Row], p: u16) -> Result<bool, Refusal>
     if rests {
         return Ok(false);
     }
-    let _told = go(rows, p, Memory::WEAKEST)?;
+    let _told = go_under(rows, p, Memory::WEAKEST)?;
     Ok((r.location == 21) & (r.level == 0))
 }
 

@@ -18,7 +18,7 @@ use borrow.Author.Tests.{eqb-true, eq-eqb, ne_eqb}
 use Rattle.std.specs.Prelude.{Result, Err}
 use Rattle.counting.proofs.TestLaws.{split}
 use Rattle.counting.proofs.RangeLaws.{some_cong}
-use Rattle.machine.specs.Refusals.{accepted, passes_full, number}
+use Rattle.machine.specs.Refusals.{accepted, passes_full, second_writer, number}
 use Rattle.machine.specs.Tables.{Table, row}
 use Rattle.machine.specs.Steps.{overflows, refusal_at}
 use Rattle.machine.specs.Words.{GO}
@@ -136,3 +136,16 @@ module _ {x : Table} {k p a : ℕ} (m : Settings) where
           → before15 (forbidden_by m x k p) (refusal_at x k p a) ≡ number f
       late true i = rw (i, e, ne_eqb (number f) 0 (number_some f)) refl
       late false i = rw (i, e, ne_eqb (number f) 0 (number_some f)) refl
+
+-- GO asks of settings whether turn has one writer, and nothing else
+same_go : (m u : Settings) (t : Table) (p : ℕ) → eqb m.turn 1 ≡ eqb u.turn 1 → forbidden_by m t GO p ≡ forbidden_by u t GO p
+unfolding forbidden_by
+same_go m u t p e =
+    ap (λ (b : Bool). cond (b && (goes_to24 t p && other_writer t p)) second_writer accepted) e
+
+pub go_as : (m u : Settings) {x y : Table} {p : ℕ} {s : Result Told Refusal} → eqb m.turn 1 ≡ eqb u.turn 1
+    → TakesUnder m x GO p 0 y s
+    → TakesUnder u x GO p 0 y s
+go_as m u {x} {y} {p} {s} e h =
+    subst (λ (n : ℕ). TakesBy n x GO p 0 y s)
+    (ap (λ (f : ℕ). before15 f (refusal_at x GO p 0)) (same_go m u x p e)) h

@@ -1,12 +1,15 @@
 // GO of a process: what it does to the table at each location, and what it tells. Each function
 // gathers the row that it changes: a row that several locations share is kept on the stack and read
 // back, and is slower.
-ghost use Rattle.std.specs.Prelude.{◌≡◌};
+//
+// Rows and process stay two parameters: a struct that holds the rows would name their borrow in each clause, where
+// `Ready` says in one word what a move needs, and the table is not sound again before the move is done.
+ghost use Rattle.std.specs.Prelude.{eqb, ◌≡◌};
 ghost use Rattle.machine.specs.Words.{GO};
-ghost use Rattle.machine.specs.Settings.{settings_of, go_forbidden};
+ghost use Rattle.machine.specs.Settings.{settings_of, turn_number, one_writer, go_forbidden};
 ghost use Rattle.steps.specs.Moves.{Ready, At, Goes, Takes, TakesUnder};
 
-use machine::{Event, Memory, Refusal, Row, Told, TurnMemory};
+use machine::{ActMemory, Event, Memory, Refusal, Row, Settings, Told, TurnMemory};
 use tables::{competitors, forget, has_writer};
 
 // GO at 20: to 21, where process p competes; or 15, where it has passed one of those that compete
@@ -123,12 +126,12 @@ fn rest(rows: &mut [Row], p: u16) -> Told
     Told::act_written(p)
 }
 
-// GO of process p under settings: what it tells, or 10, 15 or 17. Where GO is not allowed is what
+// GO of process p: what it tells, or 10, 15 or 17. Where GO is not allowed is what
 // is left for the last arm: 10, and 22 while lis is not empty. 22 is asked for before the choice,
 // with lis, so that the processor foresees the choice better.
 #[inline(always)]
 #[tactic(auto, using(crate::proofs::ReadLaws::read_at))]
-pub fn go(rows: &mut [Row], p: u16, memory: Memory) -> Result<Told, Refusal>
+pub fn go_under(rows: &mut [Row], p: u16, memory: Memory) -> Result<Told, Refusal>
     requires { Ready rows.old p }
     ensures { TakesUnder (settings_of memory) rows.old GO p 0 rows.new result }
 {
@@ -146,4 +149,25 @@ pub fn go(rows: &mut [Row], p: u16, memory: Memory) -> Result<Told, Refusal>
         40 => Ok(rest(rows, p)),
         _ => Err(Refusal::NotAllowed),
     }
+}
+
+// What settings of any numbers say of turn to GO: whether it has one writer.
+fn turn_for_go(settings: Settings) -> TurnMemory
+    ensures { eqb (turn_number result) one_writer ≡ eqb settings.turn one_writer }
+{
+    if settings.turn == 1 {
+        TurnMemory::OneWriter
+    } else {
+        TurnMemory::WriteSafe
+    }
+}
+
+// GO of process p under settings of any numbers.
+pub fn go(rows: &mut [Row], p: u16, settings: Settings) -> Result<Told, Refusal>
+    requires { Ready rows.old p }
+    ensures { TakesUnder settings rows.old GO p 0 rows.new result }
+{
+    let turn = turn_for_go(settings);
+    let act = ActMemory::Safe;
+    go_under(rows, p, Memory { act, turn })
 }

@@ -1,5 +1,8 @@
 // COME, FLICKER, LOOK and CANCEL of a process, where they are allowed, and what they tell. STAY
 // does nothing.
+//
+// Rows and process stay two parameters: a struct that holds the rows would name their borrow in each clause, where
+// `Ready` says in one word what a move needs, and the table is not sound again before the move is done.
 ghost use Rattle.machine.specs.Words.{COME, FLICKER, LOOK, CANCEL};
 ghost use Rattle.steps.specs.Moves.{Ready, Free, Sees, Moves};
 

@@ -1,13 +1,16 @@
 // A word of process p taken, kind by kind: what refuses it at the row of p, and what it does. The
 // kind is given to the check as a constant, and the compiler drops the check's questions about
 // other kinds. What is told is a constant of each branch.
+//
+// Rows and process stay two parameters: a struct that holds the rows would name their borrow in each clause, where
+// `Ready` says in one word what a move needs, and the table is not sound again before the move is done.
 ghost use Rattle.std.specs.Prelude.{◌≡◌, ◌≢◌};
 ghost use Rattle.machine.specs.Refusals.{number, refusal_in};
 ghost use Rattle.machine.specs.Words.{STAY, COME, FLICKER, GO, LOOK, CANCEL, kind_number};
 ghost use Rattle.machine.specs.Settings.{settings_of};
 ghost use Rattle.steps.specs.Moves.{row_refusal, Ready, Takes, TakesUnder};
 
-use crate::going::go;
+use crate::going::go_under;
 use crate::moving::{cancel, come, flicker, look};
 use machine::{Kind, Memory, Refusal, Row, Told};
 use rows::kinds::{allowed, argument_fits, looks};
@@ -64,7 +67,7 @@ pub(crate) fn take_go(rows: &mut [Row], p: u16, a: u16, memory: Memory) -> Resul
     if a != 0 {
         return Err(refusal_at(rows, Kind::Go, p, a));
     }
-    go(rows, p, memory)
+    go_under(rows, p, memory)
 }
 
 // FLICKER of process p to `a`.

@@ -38,8 +38,8 @@ returns-then-rests-2 c =
 
 -- ---- elsewhere, or at 22 with no member of lis
 
-pub go-requires : goal.go-requires
-go-requires c = ready c.args.rows.now c.requires.table_sound _ c.requires.process_in
+pub go_under-requires : goal.go_under-requires
+go_under-requires c = ready c.args.rows.now c.requires.table_sound _ c.requires.process_in
 
 pub returns-in_err-_told : goal.returns-in_err-_told
 returns-in_err-_told c =

@@ -12,4 +12,4 @@ pub returns-then-a-ne0 : goal.returns-then-a-ne0
 returns-then-a-ne0 c = takes_early (settings_of c.args.memory) _ c.refusal_at.ensures
 
 pub returns : goal.returns
-returns c = go_zero (settings_of c.args.memory) c.if-a-ne0.false c.go.ensures
+returns c = go_zero (settings_of c.args.memory) c.if-a-ne0.false c.go_under.ensures
