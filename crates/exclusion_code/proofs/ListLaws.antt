@@ -10,21 +10,22 @@ use Rattle.std.proofs.lemmas.List.{at_drop_all}
 use Rattle.std.specs.Prelude.{Err}
 use Rattle.machine.specs.Refusals.{number}
 use Rattle.machine.specs.Tables.{Table}
-use Rattle.machine.specs.Settings.{after_under, list_under}
+use Rattle.machine.specs.Settings.{refusal_under, after_under, list_under}
 use Rattle.machine.specs.Census.{held, critical}
 use Rattle.machine.specs.declared.Settings.{Settings}
 use Rattle.machine.specs.declared.Refusal.{Refusal}
+use Rattle.machine.proofs.SettingTheorems.{refused_under}
 use Rattle.exclusion.proofs.WholeTheorems.{exclusion_under}
 use Rattle.steps.specs.Stepping.{checked}
 use Rattle.steps.proofs.StepLaws.{checked-steps}
 use Rattle.exclusion_code.specs.Lists.{Listed}
 
 module _ (m : Settings) where
-  after_none : (t : Table) → list_under m t [] ≡ t
+  pub after_none : (t : Table) → list_under m t [] ≡ t
   unfolding list_under
   after_none t = refl
 
-  after_cons : (t : Table) (w : ℕ) (ws : List ℕ) → list_under m t (w ∷ ws) ≡ list_under m (after_under m t w) ws
+  pub after_cons : (t : Table) (w : ℕ) (ws : List ℕ) → list_under m t (w ∷ ws) ≡ list_under m (after_under m t w) ws
   unfolding list_under
   after_cons t w ws = refl
 
@@ -34,15 +35,22 @@ module _ (m : Settings) where
   after_one t ws i l =
       rw (add-one i) (ap (list_under m t) (drop-cons ws i 0 l) ∙ after_cons t (get_or ws i 0) (drop (suc i) ws))
 
-  -- where every word is refused, for the table or for the settings
-  refused_all : (t : Table) (e : Refusal) → Err (number e) ≡ checked m t → (ws : List ℕ) → list_under m t ws ≡ t
-  refused_all t e why [] = after_none t
-  refused_all t e why (w ∷ ws) =
+  -- where every word is refused
+  pub refused_all : (t : Table) (ws : List ℕ) → ((w : ℕ) → refusal_under m t w ≡ 0 → ⊥) → list_under m t ws ≡ t
+  refused_all t [] ne = after_none t
+  refused_all t (w ∷ ws) ne =
+      let same = (refused_under m t w (ne w)).0 in
+      after_cons t w ws ∙ ap (λ (u : Table). list_under m u ws) same ∙ refused_all t ws ne
+
+  -- where the table or the settings are
+  refused_by : (t : Table) (e : Refusal) → Err (number e) ≡ checked m t → (ws : List ℕ) → list_under m t ws ≡ t
+  refused_by t e why [] = after_none t
+  refused_by t e why (w ∷ ws) =
       let same = (checked-steps m t w e why).becomes in
-      after_cons t w ws ∙ ap (λ (u : Table). list_under m u ws) (sym same) ∙ refused_all t e why ws
+      after_cons t w ws ∙ ap (λ (u : Table). list_under m u ws) (sym same) ∙ refused_by t e why ws
 
   -- demand 3: the theorem, read at the table that the words name
-  listed : (x : Table) (ws : List ℕ) (y : Table) → y ≡ list_under m x ws → Listed m x ws y
+  pub listed : (x : Table) (ws : List ℕ) (y : Table) → y ≡ list_under m x ws → Listed m x ws y
   listed x ws y e =
       record {
         becomes = e;
@@ -59,4 +67,4 @@ module _ (m : Settings) where
 
   -- where every word is refused
   pub listed_none : (x : Table) (ws : List ℕ) (e : Refusal) → Err (number e) ≡ checked m x → Listed m x ws x
-  listed_none x ws e why = listed x ws x (sym (refused_all x e why ws))
+  listed_none x ws e why = listed x ws x (sym (refused_by x e why ws))

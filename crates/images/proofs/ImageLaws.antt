@@ -108,7 +108,7 @@ module _ (n : ℕ) (ws : List ℕ) where
   abbrev of_bare : Found
   of_bare = first_refusal n 1 (bare_slots n) (drop 1 ws)
 
-  abbrev of_all : Bool → Found
+  abbrev pub of_all : Bool → Found
   of_all b = words_refusal ws n b
 
   bare_rows : (of_rows.refusal ≡ 0 → ⊥) → of_bare ≡ of_rows

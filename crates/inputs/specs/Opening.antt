@@ -5,15 +5,17 @@
 --   Roomy bs ws       <=>  ws has room for the words of the image in the bytes bs, unless it is longer than any is.
 --   Openable bs ws x  <=>  so it has, and the rows x have room for every table.
 --   Opens bs y r      <=>  the answer r shows what the bytes bs hold.
+--   EventsOf bs es    <=>  the bytes es are those that stand in the bytes bs after the words of the image.
 --
 -- Assumes nothing.
-use Rattle.std.specs.Prelude.{ℕ, ◌≤◌, ◌≡◌, List, length, take, Result, Ok, Err}
+use Rattle.std.specs.Prelude.{ℕ, ◌≤◌, ◌≡◌, ◌*◌, List, length, take, drop, Result, Ok, Err}
 use Rattle.machine.specs.Refusals.{number}
 use Rattle.machine.specs.Tables.{Table, table_refusal}
 use Rattle.machine.specs.Runs.{limit}
 use Rattle.machine.specs.Images.{image_length}
 use Rattle.machine.specs.Bytes.{words_in}
 use Rattle.machine.specs.Inputs.{image_part, Input, input_of}
+use Rattle.inputs.specs.Splitting.{Splits}
 use Rattle.inputs.specs.declared.Input.{Input as Opened}
 use Rattle.inputs.specs.declared.InputError.{InputError}
 use Rattle.inputs.specs.declared.InputError.TheVariants.{BadBytes, BadImage, TooMany}
@@ -51,3 +53,8 @@ pub record Openable (bs ws : List ℕ) (x : Table) : Type 0 where
 
 abbrev pub Opens : List ℕ → Table → Result Opened InputError → Type 0
 Opens bs y r = Shows (input_of bs) y r
+
+pub record EventsOf (bs es : List ℕ) : Type 0 where
+  pub image : ℕ
+  pub split : Splits (words_in bs) image
+  pub rest : es ≡ drop (4 * image) bs

@@ -2,10 +2,10 @@
 // (machine/specs/Inputs.antt).
 #![tactic(auto)]
 
-ghost use Rattle.std.specs.Prelude.{◌≡◌};
+ghost use Rattle.std.specs.Prelude.{◌≡◌, IfOk};
 ghost use Rattle.machine.specs.Bytes.{words_in};
 ghost use Rattle.inputs.specs.Splitting.{Splits};
-ghost use Rattle.inputs.specs.Opening.{Openable, Opens};
+ghost use Rattle.inputs.specs.Opening.{Openable, Opens, EventsOf};
 
 use images::decoding::read_cells;
 use images::sizes::words_by;
@@ -60,7 +60,8 @@ pub fn open_input<'a>(
     rows: &mut [Row],
 ) -> Result<Input<'a>, InputError>
     requires { Openable input.now words.old rows.old }
-    ensures { Opens input.now rows.new result }
+    ensures shows { Opens input.now rows.new result }
+    ensures part { IfOk result (λ o. EventsOf input.now o.events.now) }
 {
     if !octets::bytes_fit(input) {
         return Err(InputError::BadBytes);

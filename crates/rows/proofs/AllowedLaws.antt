@@ -85,14 +85,14 @@ module _ (k m : ℕ) (r : Row) (kind : is_kind k ≡ true) (f : m ≡ mask_of (a
   abbrev lis_test : Bool
   lis_test = lis_fits k (eqb r.lis 0) r.location
 
-  allowed_with : (marks m r.location && lis_test) ≡ allowed k r
+  pub allowed_with : (marks m r.location && lis_test) ≡ allowed k r
   allowed_with =
       ap (λ (m : ℕ). marks m r.location && lis_test) f
       ∙ ap (λ (b : Bool). b && lis_test) (mask_marks (allowed_at k) r.location)
       ∙ computed_right k (eqb r.lis 0) r.location kind
       ∙ sym (allowed_stands k r)
 
-  allowed_plain : lis_test ≡ true → marks m r.location ≡ allowed k r
+  pub allowed_plain : lis_test ≡ true → marks m r.location ≡ allowed k r
   allowed_plain t =
       sym (and-true (marks m r.location))
       ∙ ap (λ (b : Bool). marks m r.location && b) (sym t)

@@ -120,7 +120,7 @@ unfolding every
 right kinds = every (λ i. every (λ k. beq (says kinds i k) (rule i k)) 16) 8
 
 -- one that does may be read for the rule
-says_rule : (kinds : List ℕ) (i k : ℕ) → i < 8 → k < 16
+pub says_rule : (kinds : List ℕ) (i k : ℕ) → i < 8 → k < 16
     → eqb (get_or kinds i 0 / 2 ^ k % 2) 1 ≡ cond (right kinds) (rule i k) (says kinds i k)
 unfolding right
 says_rule kinds i k h j =

@@ -29,7 +29,7 @@ use Rattle.machine.proofs.PassLaws.{SoundPasses, passes_facts, passes_true}
 use Rattle.rows.specs.Passes.{past_at, clear_past, Clear, Joined}
 use Rattle.rows.proofs.SoundLaws.{or_ltb}
 
-times_zero : (v : ℕ) → v * 0 ≡ 0
+pub times_zero : (v : ℕ) → v * 0 ≡ 0
 times_zero v = omega arith
 
 times_one : (v : ℕ) → v * 1 ≡ v

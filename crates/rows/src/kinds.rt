@@ -24,9 +24,23 @@ pub fn allowed(kind: Kind, r: &Row) -> bool
     }
 }
 
-// Whether `a` is an argument of a kind of word at a row.
+// Whether `a` is an argument at a row of the kind of word that has this number. A number that no kind has
+// takes 0 alone.
 #[tactic(auto, unfolding(machine::specs::Steps::argument_fits))]
-pub fn argument_fits(n: u16, kind: Kind, r: &Row, a: u16) -> bool
+pub fn argument_fits(n: u16, kind: u16, r: &Row, a: u16) -> bool
+    ensures { result ≡ argument_fits n kind r.now a }
+{
+    match kind {
+        3 if r.location == 24 => a < n,
+        3 => a < 2,
+        5 => sets::has(r.lis, a),
+        _ => a == 0,
+    }
+}
+
+// The same of a kind.
+#[tactic(auto, unfolding(machine::specs::Steps::argument_fits))]
+pub fn kind_takes(n: u16, kind: Kind, r: &Row, a: u16) -> bool
     ensures { result ≡ argument_fits n (kind_number kind) r.now a }
 {
     match kind {

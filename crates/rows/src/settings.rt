@@ -3,10 +3,21 @@ ghost use Rattle.std.specs.Prelude.{◌≡◌};
 ghost use Rattle.machine.specs.Settings.{settings_of, flicker_forbidden};
 ghost use Rattle.rows.specs.Pushing.{to_push};
 
-use machine::{ActMemory, Memory, Row, TurnMemory};
+use machine::{ActMemory, Memory, Row, Settings, TurnMemory};
 
-// Whether FLICKER is forbidden at a row where it is allowed: it writes turn at 24, and act elsewhere.
-pub fn flicker_forbidden(memory: Memory, r: &Row) -> bool
+// Whether settings of any numbers forbid FLICKER at a row where it is allowed: it writes turn at 24, and act
+// elsewhere.
+pub fn flicker_forbidden(settings: Settings, r: &Row) -> bool
+    ensures { result ≡ flicker_forbidden settings r.now }
+{
+    if r.location == 24 {
+        return settings.turn == 2;
+    }
+    settings.act == 1
+}
+
+// The same under settings that fit.
+pub fn flicker_forbidden_under(memory: Memory, r: &Row) -> bool
     ensures { result ≡ flicker_forbidden (settings_of memory) r.now }
 {
     if r.location == 24 {

@@ -69,7 +69,7 @@ pub kind_is : (w k : ℕ) → (formed w && eqb (kind_of w) k) ≡ true → (form
 kind_is w k h = let both = (and-eq-true_iff (formed w) (eqb (kind_of w) k)).0 h in (both.0, eqb-true _ _ both.1)
 
 -- a kind that is none of the others
-last_kind : (k : ℕ)
+pub last_kind : (k : ℕ)
     → is_kind k ≡ true
     → eqb k LOOK ≡ false
     → eqb k GO ≡ false

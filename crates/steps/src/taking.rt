@@ -13,7 +13,7 @@ ghost use Rattle.steps.specs.Moves.{row_refusal, Ready, Takes, TakesUnder};
 use crate::going::go_under;
 use crate::moving::{cancel, come, flicker, look};
 use machine::{Kind, Memory, Refusal, Row, Told};
-use rows::kinds::{allowed, argument_fits, looks};
+use rows::kinds::{allowed, kind_takes, looks};
 
 // Whether a kind and an argument are allowed at the row of p: else 10, then 11. What is left of a
 // refusal: 16, which settings give to FLICKER; 17 and 15, which GO finds where it moves, 17 at 23, and
@@ -24,7 +24,7 @@ fn check_at(rows: &[Row], kind: Kind, p: u16, a: u16) -> Result<(), Refusal>
 {
     let r = &rows[p as usize];
     let there = allowed(kind, r);
-    let fits = argument_fits(rows.len() as u16, kind, r, a);
+    let fits = kind_takes(rows.len() as u16, kind, r, a);
     if !there {
         return Err(Refusal::NotAllowed);
     }
@@ -81,7 +81,7 @@ pub(crate) fn take_flicker(
     ensures { TakesUnder (settings_of memory) rows.old FLICKER p a rows.new result }
 {
     check_at(rows, Kind::Flicker, p, a)?;
-    if rows::settings::flicker_forbidden(memory, &rows[p as usize]) {
+    if rows::settings::flicker_forbidden_under(memory, &rows[p as usize]) {
         return Err(Refusal::PlainFlicker);
     }
     Ok(flicker(rows, p, a))

@@ -38,13 +38,13 @@ image_is bs ws y image m split front put =
     let long = ap length front ∙ length-take-le (4 * m) bs (within bs m split) in
     take_unpacked image ws y m (omega (arith, long)) put ∙ ap words_in front ∙ words_first m bs
 
-pub returns-then-not-bytes_fit : goal.returns-then-not-bytes_fit
-returns-then-not-bytes_fit c = bytes_bad c.args.input.now (sym c.bytes_fit.ensures ∙ c.if-not-bytes_fit.true)
+pub returns-then-not-bytes_fit-clause-shows : goal.returns-then-not-bytes_fit-clause-shows
+returns-then-not-bytes_fit-clause-shows c = bytes_bad c.args.input.now (sym c.bytes_fit.ensures ∙ c.if-not-bytes_fit.true)
 
 -- ---- where the bytes fit
 
-pub returns-then-m-gt-IMAGE_WORDS : goal.returns-then-m-gt-IMAGE_WORDS
-returns-then-m-gt-IMAGE_WORDS c =
+pub returns-then-m-gt-IMAGE_WORDS-clause-shows : goal.returns-then-m-gt-IMAGE_WORDS-clause-shows
+returns-then-m-gt-IMAGE_WORDS-clause-shows c =
     let bytes = c.args.input.now in
     let count = split_count (words_in bytes) _ c.image_length-m.ensures in
     bytes_words bytes (sym c.bytes_fit.ensures ∙ c.if-not-bytes_fit.false)
@@ -60,8 +60,8 @@ unpack-count-requires c =
     let enough = room bytes c.args.words.now m.result m.ensures c.requires.room (omega arith) in
     record { whole = omega (arith, c.split_at.ensures.front_len); room = omega (arith, c.split_at.ensures.front_len) }
 
-pub returns-in_err-size : goal.returns-in_err-size
-returns-in_err-size c =
+pub returns-in_err-size-clause-shows : goal.returns-in_err-size-clause-shows
+returns-in_err-size-clause-shows c =
     let bytes = c.args.input.now in
     let m = c.image_length-m in
     let parts = c.split_at.ensures in
@@ -74,8 +74,8 @@ returns-in_err-size c =
 
 -- ---- a table was read
 
-pub returns-then-events-gt-RUN_LIMIT : goal.returns-then-events-gt-RUN_LIMIT
-returns-then-events-gt-RUN_LIMIT c =
+pub returns-then-events-gt-RUN_LIMIT-clause-shows : goal.returns-then-events-gt-RUN_LIMIT-clause-shows
+returns-then-events-gt-RUN_LIMIT-clause-shows c =
     let bytes = c.args.input.now in
     let m = c.image_length-m in
     let parts = c.split_at.ensures in
@@ -89,8 +89,8 @@ returns-then-events-gt-RUN_LIMIT c =
     rw (bytes_words bytes (sym c.bytes_fit.ensures ∙ c.if-not-bytes_fit.false))
     (shows_many (words_in bytes) m.result m.ensures y n read _ rest among (omega (arith, c.if-events-gt-RUN_LIMIT.true)))
 
-pub returns : goal.returns
-returns c =
+pub returns-clause-shows : goal.returns-clause-shows
+returns-clause-shows c =
     let bytes = c.args.input.now in
     let m = c.image_length-m in
     let parts = c.split_at.ensures in
@@ -105,3 +105,12 @@ returns c =
     rw (bytes_words bytes (sym c.bytes_fit.ensures ∙ c.if-not-bytes_fit.false))
     (shows_ready (words_in bytes) m.result m.ensures y n read _ rest among events refl
     (omega (arith, c.if-events-gt-RUN_LIMIT.false)))
+
+-- the events are a part of the input
+pub returns-clause-part : goal.returns-clause-part
+returns-clause-part c =
+    record {
+      image = c.image_length-m.result;
+      split = c.image_length-m.ensures;
+      rest = c.split_at.ensures.back;
+    }

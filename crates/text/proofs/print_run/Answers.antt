@@ -6,18 +6,18 @@ use Rattle.text.proofs.print_run.Goals as goal
 
 pub put_text-requires-clause-room : goal.put_text-requires-clause-room
 put_text-requires-clause-room c =
-    let o = c.open_input-opened in omega (arith, opened_fits c.args.input.now o.new.rows o.result o.ensures)
+    let o = c.open_input-opened in omega (arith, opened_fits c.args.input.now o.new.rows o.result o.ensures.shows)
 
 pub returns-then-out-length : goal.returns-then-out-length
 returns-then-out-length c =
     let o = c.open_input-opened in
-    short_print c.args.input.now o.new.rows o.result o.ensures c.args.out.now
+    short_print c.args.input.now o.new.rows o.result o.ensures.shows c.args.out.now
     (c.bytes-length.ensures ∙ c.put_text.ensures.count_is ∙ omega arith) c.if-out-length.true
 
 pub print_on-requires-clause-room : goal.print_on-requires-clause-room
 print_on-requires-clause-room c =
     let o = c.open_input-opened in
-    let fits = opened_fits c.args.input.now o.new.rows o.result o.ensures in
+    let fits = opened_fits c.args.input.now o.new.rows o.result o.ensures.shows in
     let page = ap (λ (l : List ℕ). length l) c.new-page.ensures.bytes in
     elim c.if-out-lt-TEXT_BYTES.branch [
       | then-out-lt-TEXT_BYTES+else-out-length w ↦
@@ -29,6 +29,6 @@ pub returns : goal.returns
 returns c =
     let o = c.open_input-opened in
     let done =
-    whole_print c.args.input.now o.new.rows o.result o.ensures c.args.out.now
+    whole_print c.args.input.now o.new.rows o.result o.ensures.shows c.args.out.now
     c.new-page.ensures.bytes c.new-page.ensures.filled c.print_on.ensures.written in
     (c.filled.ensures ∙ done.0, (search rules) ∙ done.1)

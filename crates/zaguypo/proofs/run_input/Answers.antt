@@ -6,7 +6,7 @@ use Rattle.zaguypo.proofs.run_input.Goals as goal
 
 pub returns-in-Ok : goal.returns-in-Ok
 returns-in-Ok g c =
-    held c.args.settings c.args.image.now c.args.input.now _ _ _ c.in-Ok.ensures.holds c.run_table.ensures
+    held c.args.settings c.args.image.now c.args.input.now _ _ _ c.in-Ok.ensures.shows.holds c.run_table.ensures
 
 pub returns-in-Err : goal.returns-in-Err
 returns-in-Err g c =
@@ -14,4 +14,4 @@ returns-in-Err g c =
     let l = c.args.image.now in
     let bs = c.args.input.now in
     held s l bs _ _ _ refl
-    (calls_refused s l (input_of bs) _ c.in-Err.error c.refusal_for.result c.in-Err.ensures c.refusal_for.ensures)
+    (calls_refused s l (input_of bs) _ c.in-Err.error c.refusal_for.result c.in-Err.ensures.shows c.refusal_for.ensures)
