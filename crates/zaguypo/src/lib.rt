@@ -57,9 +57,7 @@ fn refusal_for(error: InputError, settings: Settings) -> Refusal
     }
 }
 
-// The run of the event words under settings from a table: 18, 13, or the run. It is put in line, so that the
-// compiler drops what a run answers beside its two numbers: a word takes 10 instructions less.
-#[inline(always)]
+// The run of the event words under settings from a table: 18, 13, or the run.
 fn run_table(
     rows: &mut [Row],
     events: &[u8],
