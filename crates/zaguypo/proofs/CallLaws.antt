@@ -55,7 +55,7 @@ refused c l e n is why =
 
 module _ (s : Settings) (l : List ℕ) where
   -- what the bytes hold
-  pub held : (bs : List ℕ) (i : Input) (m : List ℕ) (r : Result Ran Refusal) → input_of bs ≡ i
+  pub held : (bs : List ℕ) (i : Input) (m : List ℕ) (r : Result ℕ Refusal) → input_of bs ≡ i
       → CallsTo (call_for s i l) m r
       → CallsTo (call_of s bs l) m r
   unfolding call_of
@@ -98,16 +98,17 @@ module _ (s : Settings) (t : Table) (ws l : List ℕ) where
 
     -- the run, whose last table is u
     pub calls_ran : room_for t ≤ length l
-        → (o : Outcome) (u : Table) (k : List ℕ) (r : Ran)
+        → (o : Outcome) (u : Table) (k : List ℕ) (r : Ran) (n : ℕ)
         → o ≡ run_from (settings_of m) t zero_tally no_cell ws
         → k ≡ placed l 0 (bytes_of (image_of u))
         → u ≡ o.table
         → r ≡ ran_of o
-        → CallsTo (call_for s (Input.Ready t ws) l) k (Ok r)
-    calls_ran h o u k r oe ke ue re =
+        → n ≡ number_of r.taken r.refusal
+        → CallsTo (call_for s (Input.Ready t ws) l) k (Ok n)
+    calls_ran h o u k r n oe ke ue re ne =
         let all = ap ran (oe ∙ sym ran_by) ∙ ran_call_by ∙ sym (call_ran s t ws l (fit s m is).0 h) in
         record {
-          number_is = ap (λ (x : Ran). number_of x.taken x.refusal) re ∙ ap (λ (c : Called). c.number) all;
+          number_is = ne ∙ ap (λ (x : Ran). number_of x.taken x.refusal) re ∙ ap (λ (c : Called). c.number) all;
           lent_is =
               ke
               ∙ ap (λ (v : Table). placed l 0 (bytes_of (image_of v))) ue

@@ -1,6 +1,6 @@
 -- What the parts of the call from C require and promise (machine/specs/Calls).
 --
---   number_in r      ==   the number of an answer: words taken and refusal, or the refusal alone.
+--   number_in r      ==   the number of an answer: that of the run, or of the refusal alone.
 --   refusal_for e m  ==   what refuses a call under the settings m whose input is refused with e.
 --   CallsTo c l r    <=>  the lent bytes are l and the answer is r, as the call c says.
 --   Prepared x ws    <=>  the table x is sound, and the words ws are at most 8,192.
@@ -18,13 +18,12 @@ use Rattle.machine.specs.Images.{image_length}
 use Rattle.machine.specs.Calls.{Called, number_of, room_for}
 use Rattle.machine.specs.declared.Refusal.{Refusal}
 use Rattle.machine.specs.declared.Settings.{Settings}
-use Rattle.machine.specs.declared.Ran.{Ran}
 use Rattle.inputs.specs.Opening.{Roomy}
 use Rattle.inputs.specs.declared.InputError.{InputError}
 use Rattle.inputs.specs.declared.InputError.TheVariants.{BadBytes, BadImage, TooMany}
 
-abbrev pub number_in : Result Ran Refusal → ℕ
-number_in (Ok r) = number_of r.taken r.refusal
+abbrev pub number_in : Result ℕ Refusal → ℕ
+number_in (Ok n) = n
 number_in (Err e) = number_of 0 (number e)
 
 -- 18 comes before 12
@@ -33,7 +32,7 @@ refusal_for BadBytes m = bad_bytes
 refusal_for (BadImage e) m = number e.refusal
 refusal_for (TooMany n) m = cond (settings_fit m) too_many_words bad_settings
 
-pub record CallsTo (c : Called) (l : List ℕ) (r : Result Ran Refusal) : Type 0 where
+pub record CallsTo (c : Called) (l : List ℕ) (r : Result ℕ Refusal) : Type 0 where
   pub number_is : number_in r ≡ c.number
   pub lent_is : l ≡ c.lent
 

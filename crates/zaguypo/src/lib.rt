@@ -13,7 +13,7 @@ ghost use Rattle.zaguypo.specs.Calls.{CallsTo, Holds, Writable, Packable, Prepar
 use images::encoding::write_cells;
 use images::sizes::image_words;
 use inputs::{Input, InputError};
-use machine::{Memory, Ran, Refusal, Row, Settings, Tally};
+use machine::{Memory, Refusal, Row, Settings, Tally};
 use octets::Octets;
 use runs::run_words;
 use steps::system::System;
@@ -57,13 +57,14 @@ fn refusal_for(error: InputError, settings: Settings) -> Refusal
     }
 }
 
-// The run of the event words under settings from a table: 18, 13, or the run.
+// The run of the event words under settings from a table: 18, 13, or its number. What else the run tells is
+// dropped here, so that a word pays nothing for it.
 fn run_table(
     rows: &mut [Row],
     events: &[u8],
     image: &mut [u8],
     settings: Settings,
-) -> Result<Ran, Refusal>
+) -> Result<u64, Refusal>
     requires { Prepared rows.old (words_in events.now) }
     ensures { CallsTo (call_for settings (Ready rows.old (words_in events.now)) image.old) image.new result }
 {
@@ -78,7 +79,7 @@ fn run_table(
         &mut tally,
     );
     write_image(rows, image);
-    Ok(ran)
+    Ok(256 * (ran.taken as u64) + ran.refusal as u64)
 }
 
 // The call under settings for what the input bytes hold. The words of their image are put into an array
@@ -87,7 +88,7 @@ fn run_input<const N: usize>(
     input: &[u8],
     image: &mut [u8],
     settings: Settings,
-) -> Result<Ran, Refusal>
+) -> Result<u64, Refusal>
     requires { Holds N input.now }
     ensures { CallsTo (call_of settings input.now image.old) image.new result }
 {
@@ -108,13 +109,13 @@ pub fn zaguypo_run(input: &[u8], image: &mut [u8], act: u32, turn: u32) -> u64
         × (image.new ≡ (call_of (record { act = act; turn = turn }) input.now image.old).lent) }
 {
     let settings = Settings { act, turn };
-    let ran = if inputs::image_length(input) <= FEW {
+    let answer = if inputs::image_length(input) <= FEW {
         run_input::<FEW>(input, image, settings)
     } else {
         run_input::<{ machine::IMAGE_WORDS }>(input, image, settings)
     };
-    match ran {
-        Ok(ran) => 256 * (ran.taken as u64) + ran.refusal as u64,
+    match answer {
+        Ok(number) => number,
         Err(refusal) => u16::from(refusal) as u64,
     }
 }

@@ -46,4 +46,4 @@ returns c =
     let begun = ap₂ (λ (k : Memory) (t : Table). run_from (settings_of k) t zero_tally no_cell ws) system.memory system.table in
     calls_ran a.settings a.rows.now ws a.image.now c.in_ok-memory.memory c.in_ok-memory.ensures
     (omega (arith, c.image_words.ensures, c.if-image-image_words.false))
-    _ _ _ c.run_words-ran.result begun c.write_image.ensures (search rules ∙ run.becomes) run.ran_is
+    _ _ _ c.run_words-ran.result _ begun c.write_image.ensures (search rules ∙ run.becomes) run.ran_is (omega arith)
