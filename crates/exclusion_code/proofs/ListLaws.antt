@@ -14,6 +14,7 @@ use Rattle.machine.specs.Settings.{refusal_under, after_under, list_under}
 use Rattle.machine.specs.Census.{held, critical}
 use Rattle.machine.specs.declared.Settings.{Settings}
 use Rattle.machine.specs.declared.Refusal.{Refusal}
+use Rattle.machine.proofs.AnswerLaws.{under_refused}
 use Rattle.machine.proofs.SettingTheorems.{refused_under}
 use Rattle.exclusion.proofs.WholeTheorems.{exclusion_under}
 use Rattle.steps.specs.Stepping.{checked}
@@ -42,13 +43,6 @@ module _ (m : Settings) where
       let same = (refused_under m t w (ne w)).0 in
       after_cons t w ws ∙ ap (λ (u : Table). list_under m u ws) same ∙ refused_all t ws ne
 
-  -- where the table or the settings are
-  refused_by : (t : Table) (e : Refusal) → Err (number e) ≡ checked m t → (ws : List ℕ) → list_under m t ws ≡ t
-  refused_by t e why [] = after_none t
-  refused_by t e why (w ∷ ws) =
-      let same = (checked-steps m t w e why).becomes in
-      after_cons t w ws ∙ ap (λ (u : Table). list_under m u ws) (sym same) ∙ refused_by t e why ws
-
   -- demand 3: the theorem, read at the table that the words name
   pub listed : (x : Table) (ws : List ℕ) (y : Table) → y ≡ list_under m x ws → Listed m x ws y
   listed x ws y e =
@@ -65,6 +59,8 @@ module _ (m : Settings) where
   listed_all x ws i y z l same e =
       listed x ws y (same ∙ sym (e ∙ at_drop_all (list_under m z) ws i l ∙ after_none z))
 
-  -- where every word is refused
+  -- where every word is refused, for the table or for the settings
   pub listed_none : (x : Table) (ws : List ℕ) (e : Refusal) → Err (number e) ≡ checked m x → Listed m x ws x
-  listed_none x ws e why = listed x ws x (sym (refused_by x e why ws))
+  listed_none x ws e why =
+      listed x ws x
+      (sym (refused_all x ws (λ w. (under_refused m x w (number e) (sym (checked-steps m x w e why).answer_is)).0)))

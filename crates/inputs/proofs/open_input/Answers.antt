@@ -39,7 +39,8 @@ image_is bs ws y image m split front put =
     take_unpacked image ws y m (omega (arith, long)) put ∙ ap words_in front ∙ words_first m bs
 
 pub returns-then-not-bytes_fit-clause-shows : goal.returns-then-not-bytes_fit-clause-shows
-returns-then-not-bytes_fit-clause-shows c = bytes_bad c.args.input.now (sym c.bytes_fit.ensures ∙ c.if-not-bytes_fit.true)
+returns-then-not-bytes_fit-clause-shows c =
+    bytes_bad c.args.input.now (sym c.bytes_fit.ensures ∙ c.if-not-bytes_fit.true)
 
 -- ---- where the bytes fit
 
